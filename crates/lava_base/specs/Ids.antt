@@ -1,0 +1,10 @@
+-- Whether two references name one object.
+use Rattle.std.specs.Prelude.{Bool, false, ◌&&◌, nat_eq}
+use Rattle.lava_base.specs.declared.ids.Ref.{Ref}
+use Rattle.lava_base.specs.declared.ids.Ref.TheVariants.{Common, Own}
+
+abbrev pub same_ref : Ref → Ref → Bool
+same_ref (Common a) (Common b) = nat_eq a.0 b.0
+same_ref (Common a) (Own q j) = false
+same_ref (Own p i) (Common b) = false
+same_ref (Own p i) (Own q j) = nat_eq p.0 q.0 && nat_eq i.0 j.0

@@ -1,0 +1,79 @@
+// A list of items, which contracts see as a list.
+
+ghost use Rattle.std.specs.Prelude.{◌≡◌, ◌==◌, ◌<◌, ◌++◌, ◌∷◌, [], length, get_or, OnOk, OnErr};
+
+use crate::memory::OutOfMemory;
+use std::alloc::Global;
+use std::marker::Model;
+
+/// A list of items, in order. It keeps the allocator that it was made with.
+#[derive(Drop)]
+pub struct List<T> {
+    items: Vec<T>,
+}
+
+impl<T> Model for List<T> {
+    ghost use Rattle.std.specs.Prelude.{List as Listed};
+
+    ghost Value = { Listed T };
+
+    ghost view = { λ l. l.items.items };
+}
+
+impl<T> List<T> {
+    /// The empty list. It takes no memory.
+    pub fn new(alloc: Global) -> List<T>
+        ensures { result ≡ [] }
+    {
+        List {
+            items: Vec::new(alloc),
+        }
+    }
+
+    /// The list of a vector's items. It takes no memory.
+    pub fn from_vec(items: Vec<T>) -> List<T>
+        ensures { result ≡ items.items }
+    {
+        List { items }
+    }
+
+    /// How many items there are.
+    pub fn len(&self) -> usize
+        ensures { result ≡ length self.now }
+    {
+        self.items.len()
+    }
+
+    /// Whether there are no items.
+    pub fn is_empty(&self) -> bool
+        ensures { result ≡ (length self.now == 0) }
+    {
+        self.items.is_empty()
+    }
+
+    /// The item at a place, counted from 0.
+    pub fn item(&self, at: usize) -> &T
+        requires { at < length self.now }
+        ensures { result.now ≡ get_or self.now at result.now }
+    {
+        &self.items[at]
+    }
+
+    /// The items as a slice.
+    pub fn as_slice(&self) -> &[T]
+        ensures { result.now ≡ self.now }
+    {
+        self.items.as_slice()
+    }
+}
+
+impl<T: Drop> List<T> {
+    /// Appends an item. After a refusal the list is as before, and the item is dropped.
+    pub fn push(&mut self, item: T) -> Result<(), OutOfMemory>
+        ensures ok { OnOk result (self.new ≡ self.old ++ item ∷ []) }
+        ensures err { OnErr result (self.new ≡ self.old) }
+    {
+        self.items.push(item)?;
+        Ok(())
+    }
+}
