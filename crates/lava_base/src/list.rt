@@ -1,6 +1,6 @@
 // A list of items, which contracts see as a list.
 
-ghost use Rattle.std.specs.Prelude.{◌≡◌, ◌==◌, ◌<◌, ◌++◌, ◌∷◌, [], length, get_or, OnOk, OnErr};
+ghost use Rattle.std.specs.Prelude.{◌≡◌, ◌==◌, ◌<◌, ◌≤◌, ◌++◌, ◌∷◌, [], length, drop, get_or, IfOk, OnOk, OnErr};
 
 use crate::memory::OutOfMemory;
 use std::alloc::Global;
@@ -75,5 +75,36 @@ impl<T: Drop> List<T> {
     {
         self.items.push(item)?;
         Ok(())
+    }
+
+    /// Drops the first items, as many as `count` says.
+    pub fn drop_first(&mut self, count: usize)
+        requires { count ≤ length self.old }
+        ensures { self.new ≡ drop count self.old }
+    {
+        self.items.drain(..count);
+    }
+}
+
+impl<T: Copy> List<T> {
+    /// Appends the items of a slice, in order. After a refusal the list is as before.
+    pub fn extend_from_slice(&mut self, more: &[T]) -> Result<(), OutOfMemory>
+        ensures ok { OnOk result (self.new ≡ self.old ++ more.now) }
+        ensures err { OnErr result (self.new ≡ self.old) }
+    {
+        self.items.extend_from_slice(more)?;
+        Ok(())
+    }
+}
+
+impl<T: Clone + Drop> List<T> {
+    /// The same list once more, over the same allocator. It needs items whose copies equal them.
+    pub fn copy(&self) -> Result<List<T>, OutOfMemory>
+        requires { (item copy : T) → T.is_clone item copy → copy ≡ item }
+        ensures { IfOk result (λ copy. copy ≡ self.now) }
+    {
+        Ok(List {
+            items: self.items.clone()?,
+        })
     }
 }

@@ -1,0 +1,9 @@
+pub mod DigitLemmas
+pub mod Fronts
+pub mod Grammar
+pub mod Literals
+pub mod OneNumber
+pub mod Point
+pub mod Results
+pub mod Scaling
+pub mod Trimming

@@ -1,0 +1,16 @@
+// Laws of the number of a text.
+
+ghost use Rattle.std.specs.Prelude.{◌≡◌, ℕ, ℤ, List};
+ghost use Rattle.std.specs.Fmt.{signed_decimal};
+ghost use Rattle.js_num.specs.SafeRange.{IsSafe};
+ghost use Rattle.js_num.specs.StringToNumber.{IsNumberOf};
+
+/// A text stands for one number at most.
+pub fn one_number()
+    ensures { (text : List ℕ) (v w : ℤ) → IsNumberOf text v → IsNumberOf text w → v ≡ w }
+{}
+
+/// The decimal digits of a safe integer stand for it.
+pub fn number_of_its_text()
+    ensures { (v : ℤ) → IsSafe v → IsNumberOf (signed_decimal v) v }
+{}

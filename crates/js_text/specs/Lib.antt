@@ -1,0 +1,4 @@
+pub mod Maps
+pub mod Names
+pub mod Texts
+pub mod Values

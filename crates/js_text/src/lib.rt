@@ -1,0 +1,10 @@
+// Texts, symbols, keys and values, over any type of references.
+#![tactic(auto)]
+
+pub mod copy;
+pub mod fault;
+pub mod same;
+#[cfg(test)]
+mod tests;
+pub mod text;
+pub mod value;

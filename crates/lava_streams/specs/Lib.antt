@@ -1,0 +1,10 @@
+pub mod Counts
+pub mod Failures
+pub mod Files
+pub mod Folders
+pub mod Lines
+pub mod Listings
+pub mod Moments
+pub mod Pieces
+pub mod States
+pub mod Steps
