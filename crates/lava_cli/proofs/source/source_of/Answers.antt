@@ -1,0 +1,21 @@
+use Rattle.std.proofs.Common.{refl, sym, ap, ◌∙◌, List}
+use Rattle.std.specs.Option.{is_some}
+use Rattle.lava_cli.specs.declared.program.Statement.{Statement}
+use Rattle.lava_cli.specs.Syntax.{IsFirstFormText}
+use Rattle.lava_cli.proofs.Ruled.{rules_are}
+use Rattle.lava_cli.proofs.Sources.{none_holds, some_holds, breaks_a_rule}
+use Rattle.lava_cli.proofs.source.source_of.Goals as goal
+
+pub returns-in-None : goal.returns-in-None
+returns-in-None c = λ p f. none_holds c.in_ok-read.field-0 c.in-None.is c.in_ok-read.ensures.refused p f.0
+
+pub returns-in-None-2 : goal.returns-in-None-2
+returns-in-None-2 c =
+    let lines = sym c.in_ok-lines_of-in-Some.ensures ∙ c.in-None-2.is in
+    λ p f. breaks_a_rule c.in-Some.program p (some_holds _ c.in_ok-read.field-0 c.in-Some.program c.in-Some.is c.in_ok-read.ensures.only p f.0) lines f.1
+
+pub returns : goal.returns
+returns c =
+    let lines = sym c.in_ok-lines_of-in-Some.ensures ∙ c.in-Some-2.is in
+    let text = some_holds _ c.in_ok-read.field-0 c.in-Some.program c.in-Some.is c.in_ok-read.ensures.read in
+    (c.args.bytes.now, c.in-Some.program, refl, (text, rules_are c.in-Some.program ∙ ap is_some lines), lines)

@@ -1,0 +1,56 @@
+-- What one object decides: the reply, the next ask that it makes, or the body that it runs. None of these methods changes the object.
+-- ECMA-262: OrdinaryHasProperty, OrdinaryGet, [[Call]] of ECMAScript function objects.
+use Rattle.std.specs.Prelude.{ℕ, Bool, true, false, List, [], Option, Some, None}
+use Rattle.js_text.specs.Names.{Names, Place, Own, Common, Foreign}
+use Rattle.js_text.specs.declared.value.Value as v
+use Rattle.js_text.specs.declared.value.Value.TheVariants as value
+use Rattle.js_text.specs.declared.value.Key.{Key}
+use Rattle.lava_cli.specs.Terms.{Template}
+use Rattle.lava_cli.specs.Objects.{Object, Descriptor, Data, Accessor, Slot, Plain, Closure, own_of, object_at, map_object}
+use Rattle.lava_cli.specs.Asks as a
+use Rattle.lava_cli.specs.Asks.{Reply, HasProperty, Get, Call, Import, Value, Flag}
+use Rattle.lava_cli.specs.Party.{Party}
+
+pub data Decision (R : Type 0) : Type 0 where
+  Done : Reply R → Decision R
+  Fault : Decision R
+  -- the answer is that of this ask
+  Ask : R → a.Ask R → Decision R
+  Run : Template → (scope : ℕ) → (this : v.Value R) → (arguments : List (v.Value R)) → Decision R
+
+abbrev pub has_above : {R : Type 0} → Key R → Option R → Decision R
+has_above key None = Done (Flag false)
+has_above key (Some o) = Ask o (HasProperty key)
+
+abbrev pub has_own : {R : Type 0} → Key R → Option R → Option (Descriptor R) → Decision R
+has_own key prototype None = has_above key prototype
+has_own key prototype (Some d) = Done (Flag true)
+
+abbrev pub get_above : {R : Type 0} → Key R → v.Value R → Option R → Decision R
+get_above key receiver None = Done (Value value.Undefined)
+get_above key receiver (Some o) = Ask o (Get key receiver)
+
+abbrev pub get_by : {R : Type 0} → v.Value R → Option R → Decision R
+get_by receiver None = Done (Value value.Undefined)
+get_by receiver (Some getter) = Ask getter (Call receiver [])
+
+abbrev pub get_own : {R : Type 0} → Key R → v.Value R → Option R → Option (Descriptor R) → Decision R
+get_own key receiver prototype None = get_above key receiver prototype
+get_own key receiver prototype (Some (Data v w e c)) = Done (Value v)
+get_own key receiver prototype (Some (Accessor g s e c)) = get_by receiver g
+
+abbrev pub called : {R : Type 0} → v.Value R → List (v.Value R) → Slot R → Decision R
+called this arguments Plain = Fault
+called this arguments (Closure t s) = Run t s this arguments
+
+abbrev pub decision_of : {R : Type 0} → (R → R → Bool) → Object R → a.Ask R → Decision R
+decision_of same o (HasProperty key) = has_own key o.prototype (own_of same o.properties key)
+decision_of same o (Get key receiver) = get_own key receiver o.prototype (own_of same o.properties key)
+decision_of same o (Call this arguments) = called this arguments o.slot
+decision_of same o (Import link path) = Fault
+
+-- what an own object or one of the common part decides
+abbrev pub decided : {R : Type 0} → Names R → Place → a.Ask R → Party R → Decision R
+decided names (Own i) x p = decision_of names.same (object_at p.objects i) x
+decided names (Common c) x p = decision_of names.same (map_object names.common (object_at p.common.objects c)) x
+decided names Foreign x p = Fault

@@ -1,0 +1,73 @@
+-- The tokens of the first form, and how bytes spell them: a part of ECMA-262, "ECMAScript Language: Lexical Grammar".
+use Rattle.std.specs.Prelude.{◌≡◌, ◌≤◌, ◌+◌, ◌-◌, ◌*◌, ◌==◌, ◌&&◌, ◌||◌, ℕ, pos, Bool, true, false, nat_le, if◌then◌else◌, List, [], ◌∷◌, ◌++◌}
+use Rattle.std.specs.List.{list_all}
+use Rattle.std.specs.Char.{is_ascii_alphabetic, is_ascii_digit, is_ascii_alphanumeric}
+use Rattle.lava_cli.specs.declared.token.Mark.{Mark}
+use Rattle.lava_cli.specs.declared.token.Mark.TheVariants as marks
+use Rattle.lava_cli.specs.declared.token.Token.{Token}
+use Rattle.lava_cli.specs.declared.token.Token.TheVariants as tokens
+
+-- the byte of a mark (ECMA-262, Punctuators)
+abbrev pub mark_byte : Mark → ℕ
+mark_byte marks.LeftParen = 40
+mark_byte marks.RightParen = 41
+mark_byte marks.LeftBrace = 123
+mark_byte marks.RightBrace = 125
+mark_byte marks.Comma = 44
+mark_byte marks.Semicolon = 59
+mark_byte marks.Dot = 46
+mark_byte marks.Equals = 61
+
+-- what may stand between tokens: a space or a line feed (of ECMA-262's White Space and Line Terminators these two alone)
+abbrev pub is_gap : ℕ → Bool
+is_gap b = (b == 32) || (b == 10)
+
+-- `"` or `'`
+abbrev pub is_quote : ℕ → Bool
+is_quote b = (b == 34) || (b == 39)
+
+-- what may stand in a text with this quote: 0x20 to 0x7e, but neither the quote nor a backslash (of ECMA-262's String Literals)
+abbrev pub is_text_byte : ℕ → ℕ → Bool
+is_text_byte quote b = if (b == quote) || (b == 92) then false else (nat_le 32 b && nat_le b 126)
+
+-- a letter, then letters and digits (of ECMA-262's Names and Keywords)
+abbrev pub IsWord : List ℕ → Type 0
+IsWord [] = ⊥
+IsWord (b ∷ bs) = (is_ascii_alphabetic b ≡ true) × (list_all is_ascii_alphanumeric bs ≡ true)
+
+-- decimal digits, `0` or with another first digit (of ECMA-262's Numeric Literals)
+abbrev pub IsDecimal : List ℕ → Type 0
+IsDecimal [] = ⊥
+IsDecimal (d ∷ ds) = (is_ascii_digit d ≡ true) × (list_all is_ascii_digit ds ≡ true) × (d ≡ 48 → ds ≡ [])
+
+-- the number that digits write, behind the number that the digits in front of them write
+abbrev pub decimal_from : ℕ → List ℕ → ℕ
+decimal_from n [] = n
+decimal_from n (d ∷ ds) = decimal_from (n * 10 + (d - 48)) ds
+
+-- the bytes of a token
+abbrev pub IsSpelling : Token → List ℕ → Type 0
+IsSpelling (tokens.Word name) bs = (bs ≡ name) × IsWord name
+IsSpelling (tokens.Text units) bs =
+    (quote : ℕ) × (is_quote quote ≡ true) × (list_all (is_text_byte quote) units ≡ true) × (bs ≡ quote ∷ (units ++ quote ∷ []))
+IsSpelling (tokens.Number value) bs =
+    IsDecimal bs × (value ≡ pos (decimal_from 0 bs)) × (decimal_from 0 bs ≤ 9007199254740991)
+IsSpelling (tokens.Mark mark) bs = bs ≡ mark_byte mark ∷ []
+
+-- neither a letter nor a digit follows at once
+abbrev pub IsApart : List ℕ → Type 0
+IsApart [] = Unit {0}
+IsApart (b ∷ bs) = is_ascii_alphanumeric b ≡ false
+
+-- a word and a number end before a byte that is neither a letter nor a digit
+abbrev pub EndsBefore : Token → List ℕ → Type 0
+EndsBefore (tokens.Word name) bs = IsApart bs
+EndsBefore (tokens.Text units) bs = Unit {0}
+EndsBefore (tokens.Number value) bs = IsApart bs
+EndsBefore (tokens.Mark mark) bs = Unit {0}
+
+-- the bytes are these tokens, one after the other, with gaps round them
+pub data Spells : List ℕ → List Token → Type 0 where
+  ends : Spells [] []
+  gap : (b : ℕ) (bs : List ℕ) (ts : List Token) → is_gap b ≡ true → Spells bs ts → Spells (b ∷ bs) ts
+  token : (t : Token) (w bs : List ℕ) (ts : List Token) → IsSpelling t w → EndsBefore t bs → Spells bs ts → Spells (w ++ bs) (t ∷ ts)

@@ -1,0 +1,69 @@
+// The program of a folder.
+
+ghost use Rattle.std.specs.Prelude.{◌≡◌, ◌≤◌, length, IfOk, string_bytes, List};
+ghost use Rattle.lava_streams.specs.Counts.{Counts};
+ghost use Rattle.lava_streams.specs.declared.folder.FileRead as file;
+ghost use Rattle.lava_cli.specs.Answers.{path_of, IsSource, IsSourceOf};
+
+use crate::lines::lines_of;
+use crate::program::Constant;
+use crate::reader::read;
+use lava_base::list::List;
+use lava_base::memory::OutOfMemory;
+use lava_streams::fault::ReadFault;
+use lava_streams::folder::{FileRead, Folder};
+use std::alloc::Global;
+
+/// How many bytes a file of a program has at most.
+pub const FILE_LIMIT: u32 = 1_048_576;
+
+/// What is found where a program is looked for.
+#[derive(Drop)]
+pub enum Source {
+    /// There is no file.
+    Absent,
+    /// The file is too long, or no program of the first form.
+    Unsupported,
+    /// A program, which prints these lines.
+    Lines(List<List<Constant>>),
+}
+
+/// The path of a folder's program.
+fn path(alloc: Global, directory: &str) -> Result<String, OutOfMemory>
+    ensures { IfOk result (λ path. string_bytes path ≡ path_of directory.now) }
+{
+    let mut path = String::from_str(alloc, directory)?;
+    path.push_str("/index.js")?;
+    Ok(path)
+}
+
+/// What the bytes of a file are.
+fn source_of(alloc: Global, bytes: &[u8]) -> Result<Source, OutOfMemory>
+    requires { length bytes.now ≤ FILE_LIMIT }
+    ensures { IfOk result (λ s. IsSourceOf (FileRead.Bytes bytes.now) s) }
+{
+    match read(alloc, bytes)? {
+        None => Ok(Source::Unsupported),
+        Some(program) => match lines_of(alloc, &program)? {
+            None => Ok(Source::Unsupported),
+            Some(lines) => Ok(Source::Lines(lines)),
+        },
+    }
+}
+
+/// The program of a folder.
+pub fn find<F: Folder>(alloc: Global, folder: &mut F, directory: &str) -> Result<Source, ReadFault>
+    ensures tells { F.told folder.new ≡ F.told folder.old }
+    ensures counts { Counts (F.count folder.old) (F.count folder.new) result }
+    ensures gives { IfOk result (λ s. IsSource (F.told folder.old) directory.now s) }
+{
+    let path = path(alloc, directory)?;
+    match folder.read(alloc, path.as_str(), FILE_LIMIT)? {
+        FileRead::Absent => Ok(Source::Absent),
+        FileRead::Longer => Ok(Source::Unsupported),
+        FileRead::Bytes(bytes) => {
+            let source = source_of(alloc, bytes.as_slice())?;
+            Ok(source)
+        }
+    }
+}
