@@ -1,13 +1,13 @@
 -- What follows from the answer of the call.
-use Rattle.std.proofs.Common.{◌≡◌, ℕ, ◌⊎◌, inl, inr, List, Option, Some, None, sym, ap, ◌∙◌, subst, refl}
-use Rattle.lava_streams.specs.Counts.{Rises, ForTold}
+use Rattle.std.proofs.Common.{◌≡◌, ℕ, ◌⊎◌, inl, inr, List, Option, Some, None, sym, ◌∙◌, subst, refl}
+use Rattle.lava_streams.specs.Counts.{Rises}
 use Rattle.lava_streams.specs.Folders.{file_read}
 use Rattle.lava_streams.specs.declared.folder.FileRead.{FileRead}
-use Rattle.lava_streams.specs.declared.folder.FileRead.TheVariants.{Bytes, Absent, Longer}
+use Rattle.lava_streams.specs.declared.folder.FileRead.TheVariants.{Bytes, Absent}
 use Rattle.lava_cli.specs.declared.program.Statement.{Statement}
 use Rattle.lava_cli.specs.declared.outcome.Outcome.{Outcome}
 use Rattle.lava_cli.specs.declared.outcome.Outcome.TheVariants as outcome
-use Rattle.lava_cli.specs.Answers.{Files, IsFileOf, path_of, file_limit, IsFirstForm, IsUnsupported, Stand, Grows, Fails, Runs, ComesIn, Comes, status_of, Writes, Reports, Answers, SomeFailed, StoppedEarly, IsDone, MissingComes, UnsupportedComes, RunComes}
+use Rattle.lava_cli.specs.Answers.{Files, IsFileOf, path_of, file_limit, IsFirstForm, IsUnsupported, Stand, ComesIn, status_of, Writes, Reports, Answers, SomeFailed, StoppedEarly, IsDone, MissingComes, UnsupportedComes, RunComes}
 
 -- a folder that tells its files told what was read
 told_is : (told : Option Files) (d : List ℕ) (r : FileRead) (files : Files) → told ≡ Some files → IsFileOf told d r → r ≡ file_read files (path_of d) file_limit

@@ -1,5 +1,5 @@
 -- Sinks that grow by one text after another.
-use Rattle.std.proofs.Common.{◌≡◌, ◌<◌, ◌≤◌, ◌⊎◌, inl, inr, ℕ, suc, ◌+◌, ◌-◌, ◌^◌, List, [], ◌∷◌, ◌++◌, length, take, drop, get_or, Option, Some, None, Ok, Err, refl, sym, ap, ◌∙◌, subst, arith, append_assoc, min}
+use Rattle.std.proofs.Common.{◌≡◌, ◌<◌, ℕ, suc, ◌+◌, List, [], ◌∷◌, ◌++◌, length, take, drop, get_or, Option, Some, None, Err, refl, sym, ap, ◌∙◌, subst, arith, append_assoc, min}
 use Rattle.std.proofs.lemmas.List.{take-append-drop}
 use Rattle.std.proofs.Math.Seq.{drop-cons}
 use Rattle.lava_streams.specs.Counts.{Rises, ForTold}
@@ -8,7 +8,7 @@ use Rattle.lava_cli.specs.declared.program.Constant.{Constant}
 use Rattle.lava_cli.specs.declared.print.PrintFault.{PrintFault}
 use Rattle.lava_cli.specs.declared.print.PrintFault.TheVariants as fault
 use Rattle.lava_cli.specs.Printed.{line_text, lines_text}
-use Rattle.lava_cli.specs.Answers.{Stand, Grows, GrowsPartly, Fails, PrintsTo}
+use Rattle.lava_cli.specs.Answers.{Stand, Grows, PrintsTo}
 use Rattle.lava_cli.proofs.Lines_text.{part_after}
 
 told_more : (old mid new : Option (List ℕ)) (front piece : List ℕ) → ForTold old (λ held. mid ≡ Some (held ++ front)) → ForTold mid (λ held. new ≡ Some (held ++ piece)) → ForTold old (λ held. new ≡ Some (held ++ (front ++ piece)))

@@ -32,3 +32,5 @@ pub mod Two_runs
 pub mod View
 pub mod Ways
 pub mod Whole
+pub mod LineLemmas
+pub mod PieceLemmas

@@ -1,7 +1,7 @@
 -- Texts of lines, as loops make them.
-use Rattle.std.proofs.Common.{◌≡◌, ℕ, ◌+◌, ◌<◌, ◌≤◌, List, [], ◌∷◌, ◌++◌, length, map, take, drop, get_or, Option, Some, refl, sym, ap, ◌∙◌, arith, append_assoc, min, ⊎_elim}
+use Rattle.std.proofs.Common.{◌≡◌, ℕ, ◌+◌, ◌<◌, List, [], ◌∷◌, ◌++◌, length, map, take, get_or, sym, ap, ◌∙◌, arith, append_assoc, min, ⊎_elim}
 use Rattle.std.proofs.lemmas.Bool.{cases_lt}
-use Rattle.std.proofs.lemmas.List.{append-nil, map_more, take_more, take-append-drop, take-append-le, take_all, length-append, length-take}
+use Rattle.std.proofs.lemmas.List.{append-nil, map_more, take_more, take-append-le, take_all}
 use Rattle.std.proofs.Math.Seq.{take-append-add}
 use Rattle.lava_cli.specs.declared.program.Constant.{Constant}
 use Rattle.lava_cli.specs.Printed.{spaced, constant_text, line_text, lines_text}

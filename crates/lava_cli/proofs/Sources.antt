@@ -1,5 +1,5 @@
 -- What is found where a program is looked for.
-use Rattle.std.proofs.Common.{◌≡◌, ℕ, List, Bool, true, false, Option, Some, None, sym, ap, ◌∙◌, subst}
+use Rattle.std.proofs.Common.{◌≡◌, ℕ, List, true, false, Option, Some, None, sym, ap, ◌∙◌, subst}
 use Rattle.std.specs.Option.{IfNone, IfSome, is_some}
 use Rattle.lava_streams.specs.Counts.{ForTold}
 use Rattle.lava_streams.specs.Folders.{file_read}

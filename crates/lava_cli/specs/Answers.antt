@@ -6,7 +6,6 @@ use Rattle.lava_streams.specs.Folders.{file_read}
 use Rattle.lava_streams.specs.Pieces.{AppendsPrefix}
 use Rattle.lava_streams.specs.declared.folder.FileRead.{FileRead}
 use Rattle.lava_streams.specs.declared.folder.FileRead.TheVariants.{Bytes, Absent, Longer}
-use Rattle.lava_cli.specs.declared.program.Constant.{Constant}
 use Rattle.lava_cli.specs.declared.program.Statement.{Statement}
 use Rattle.lava_cli.specs.declared.outcome.Outcome.{Outcome}
 use Rattle.lava_cli.specs.declared.outcome.Outcome.TheVariants as outcome

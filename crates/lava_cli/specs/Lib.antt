@@ -32,3 +32,4 @@ pub mod View
 pub mod Lexing
 pub mod Parsing
 pub mod Reading
+pub mod Outside

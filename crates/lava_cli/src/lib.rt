@@ -1,4 +1,4 @@
-// The program: words, statuses, and what a command does.
+// The program: words, statuses, what a command does, and the real objects of the outside.
 #![tactic(auto)]
 
 mod binding;
@@ -7,6 +7,7 @@ pub mod command;
 mod effects;
 mod evaluation;
 mod expressions;
+mod faults;
 pub mod laws;
 mod lexer;
 mod lines;
@@ -17,6 +18,10 @@ mod pending;
 mod print;
 mod program;
 mod reader;
+pub mod real_clock;
+pub mod real_folder;
+pub mod real_sink;
+pub mod real_source;
 mod reserved;
 mod source;
 mod statements;

@@ -1,4 +1,4 @@
-use Rattle.std.proofs.Common.{inr, subst, Ok, Err}
+use Rattle.std.proofs.Common.{inr, subst, Err}
 use Rattle.lava_cli.specs.Printed.{lines_text}
 use Rattle.lava_cli.specs.Answers.{Stand, PrintsTo}
 use Rattle.lava_cli.proofs.Sources.{runs_lines}

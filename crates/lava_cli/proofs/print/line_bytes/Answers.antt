@@ -1,5 +1,4 @@
-use Rattle.std.proofs.Common.{map, take, arith}
-use Rattle.lava_cli.specs.Printed.{spaced, constant_text}
+use Rattle.std.proofs.Common.{arith}
 use Rattle.lava_cli.proofs.Lines_text.{spaced_more, next_value}
 use Rattle.lava_cli.proofs.print.line_bytes.Goals as goal
 

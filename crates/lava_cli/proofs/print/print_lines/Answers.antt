@@ -1,4 +1,4 @@
-use Rattle.std.proofs.Common.{◌≡◌, ◌++◌, ◌∷◌, ◌∙◌, ◌+◌, List, ℕ, length, take, drop, get_or, sym, subst, ap, arith, Err}
+use Rattle.std.proofs.Common.{◌≡◌, ◌++◌, ◌∙◌, ◌+◌, List, length, take, drop, get_or, sym, subst, ap, arith, Err}
 use Rattle.lava_cli.specs.declared.program.Constant.{Constant}
 use Rattle.std.proofs.lemmas.Result.{err_from_is_err_and}
 use Rattle.lava_cli.specs.Printed.{line_text, lines_text}

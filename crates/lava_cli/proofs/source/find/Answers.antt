@@ -1,5 +1,4 @@
-use Rattle.std.proofs.Common.{◌≡◌, ◌∙◌, ap, List, ℕ, subst}
-use Rattle.lava_streams.specs.declared.folder.FileRead.{FileRead}
+use Rattle.std.proofs.Common.{◌≡◌, ◌∙◌, subst}
 use Rattle.lava_streams.specs.declared.folder.FileRead.TheVariants.{Bytes}
 use Rattle.lava_cli.specs.Answers.{path_of, IsSourceOf, IsFileOf}
 use Rattle.lava_cli.proofs.Sources.{file_is}

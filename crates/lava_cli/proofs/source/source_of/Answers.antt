@@ -1,7 +1,5 @@
-use Rattle.std.proofs.Common.{refl, sym, ap, ◌∙◌, List}
+use Rattle.std.proofs.Common.{refl, sym, ap, ◌∙◌}
 use Rattle.std.specs.Option.{is_some}
-use Rattle.lava_cli.specs.declared.program.Statement.{Statement}
-use Rattle.lava_cli.specs.Syntax.{IsFirstFormText}
 use Rattle.lava_cli.proofs.Ruled.{rules_are}
 use Rattle.lava_cli.proofs.Sources.{none_holds, some_holds, breaks_a_rule}
 use Rattle.lava_cli.proofs.source.source_of.Goals as goal
