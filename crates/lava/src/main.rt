@@ -1,6 +1,12 @@
 // The program `lava`: the command over the system's files, its standard streams and its clock.
 #![tactic(auto)]
 
+ghost use Rattle.std.specs.Prelude.{◌≡◌, ◌≢◌, IfOk, OnErr};
+ghost use Rattle.std.specs.IoError.{error_kind};
+ghost use Rattle.lava_cli.specs.Answers.{Writes};
+ghost use Rattle.lava.specs.Ends.{IsAnswer, EndsWith};
+ghost use Rattle.lava_cli.specs.declared.outcome.Outcome.TheVariants as outcome;
+
 use lava_cli::command::lava;
 use lava_cli::real_clock::RealClock;
 use lava_cli::real_folder::RealFolder;
@@ -17,7 +23,7 @@ fn main(rt: HostRuntime) -> ExitCode {
     let mut out = RealSink::new(rt.stdout());
     let mut err = RealSink::new(rt.stderr());
     let status = match run(&rt, &mut out, &mut err) {
-        Ok(status) => status,
+        Ok(answer) => answer,
         Err(error) => refuse(&mut err, error),
     };
     ExitCode::from(status)
@@ -28,13 +34,17 @@ fn run<R: Files + Env + Input + Clock + AllocGlobal, O: Sink, E: Sink>(
     rt: &R,
     out: &mut O,
     err: &mut E,
-) -> io::Result<u8> {
+) -> io::Result<u8>
+    ensures answers { IfOk result (λ status. IsAnswer (record { count = O.count out.old; told = O.told out.old }) (record { count = O.count out.new; told = O.told out.new }) (record { count = E.count err.old; told = E.told err.old }) (record { count = E.count err.new; told = E.told err.new }) status) }
+    ensures output { OnErr result (out.new ≡ out.old) }
+    ensures errors { OnErr result (err.new ≡ err.old) }
+{
     let alloc = rt.alloc();
     let words = env::args(rt)?.skip(1).collect::<Vec<_>>(alloc)?;
     let mut input = RealSource::new(alloc, BufReader::new(alloc, rt.reader())?);
     let mut folder = RealFolder::new(rt);
     let mut clock = RealClock::new(rt);
-    Ok(lava(
+    let status = lava(
         alloc,
         words.as_slice(),
         &mut folder,
@@ -42,11 +52,15 @@ fn run<R: Files + Env + Input + Clock + AllocGlobal, O: Sink, E: Sink>(
         out,
         err,
         &mut clock,
-    ))
+    );
+    Ok(status)
 }
 
 // The status where the command couldn't begin: a word that is not UTF-8 is a usage fault, and all else is want of memory.
-fn refuse(err: &mut impl Sink, error: io::Error) -> u8 {
+fn refuse<E: Sink>(err: &mut E, error: io::Error) -> u8
+    ensures words { error_kind error ≡ ErrorKind.InvalidData → Writes outcome.Usage (record { count = E.count err.old; told = E.told err.old }) (record { count = E.count err.new; told = E.told err.new }) result }
+    ensures memory { error_kind error ≢ ErrorKind.InvalidData → Writes outcome.OutOfMemory (record { count = E.count err.old; told = E.told err.old }) (record { count = E.count err.new; told = E.told err.new }) result }
+{
     if error.kind() == ErrorKind::InvalidData {
         end_with(err, "usage: lava COMMAND ARG [--budget N]\n", 2)
     } else {
@@ -55,7 +69,9 @@ fn refuse(err: &mut impl Sink, error: io::Error) -> u8 {
 }
 
 // The status, or 7 where its line can't be written.
-fn end_with(err: &mut impl Sink, line: &str, status: u8) -> u8 {
+fn end_with<E: Sink>(err: &mut E, line: &str, status: u8) -> u8
+    ensures { EndsWith line.now status (record { count = E.count err.old; told = E.told err.old }) (record { count = E.count err.new; told = E.told err.new }) result }
+{
     match err.put(line.as_bytes()) {
         Ok(()) => status,
         Err(_) => 7,

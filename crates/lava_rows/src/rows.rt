@@ -1,5 +1,7 @@
 // The worked rows of `lava run DIR`, over the forms in memory: what is printed, what stands on the errors, and the status.
 
+ghost use Rattle.std.specs.Prelude.{◌≤◌};
+
 use lava_base::memory::OutOfMemory;
 use lava_cli::command::lava;
 use lava_streams::memory_clock::MemoryClock;
@@ -14,6 +16,9 @@ const USAGE: &str = "usage: lava COMMAND ARG [--budget N]\n";
 const MISSING: &str = "lava: missing $root$ index.js\n";
 
 const LATER: &str = "lava: syntax $root$ index.js:1:1 unsupported later\n";
+
+// A call that comes in no row.
+const NEVER: u32 = 4_294_967_295;
 
 // The objects of the outside.
 #[derive(Drop)]
@@ -58,6 +63,28 @@ fn run(alloc: Global, source: &str) -> Result<(u8, Outside), OutOfMemory> {
     let mut at = make_outside(alloc)?;
     at.folder.add("app/index.js", source.as_bytes())?;
     let answer = status(alloc, &["run", "app"], &mut at)?;
+    Ok((answer, at))
+}
+
+// What these words make of a program where these calls on the folder, the output and the errors fail.
+fn fail(
+    alloc: Global,
+    words: &[&str],
+    folder: u32,
+    out: u32,
+    err: u32,
+) -> Result<(u8, Outside), OutOfMemory>
+    requires folder { 1 ≤ folder }
+    requires out { 1 ≤ out }
+    requires err { 1 ≤ err }
+{
+    let mut at = make_outside(alloc)?;
+    at.folder
+        .add("app/index.js", b"console.log('a'); console.log('b');")?;
+    at.folder.fail_at(folder)?;
+    at.out.fail_at(out)?;
+    at.err.fail_at(err)?;
+    let answer = status(alloc, words, &mut at)?;
     Ok((answer, at))
 }
 
@@ -137,7 +164,7 @@ fn other_sources_are_refused(rt: HostRuntime) -> Result<(), Fail> {
 }
 
 #[test]
-fn words_and_files_are_refused_by_name(rt: HostRuntime) -> Result<(), Fail> {
+fn words_are_refused_by_name(rt: HostRuntime) -> Result<(), Fail> {
     let alloc = rt.alloc();
     let words: [&[&str]; 6] = [
         &[],
@@ -148,15 +175,20 @@ fn words_and_files_are_refused_by_name(rt: HostRuntime) -> Result<(), Fail> {
         &["--help"],
     ];
     for words in words {
-        let mut at = make_outside(alloc)?;
-        at.folder.add("app/index.js", b"console.log(1)")?;
-        assert_eq!(rt; status(alloc, words, &mut at)?, 2);
+        let (answer, at) = fail(alloc, words, NEVER, NEVER, NEVER)?;
+        assert_eq!(rt; answer, 2);
         assert_eq!(rt; at.out.held(), b"".as_slice());
         assert_eq!(rt; at.err.held(), USAGE.as_bytes());
     }
-    let mut at = make_outside(alloc)?;
+    Ok(())
+}
+
+#[test]
+fn a_file_that_is_missing_is_named(rt: HostRuntime) -> Result<(), Fail> {
+    let mut at = make_outside(rt.alloc())?;
     at.folder.add("app/other.js", b"console.log(1)")?;
-    assert_eq!(rt; status(alloc, &["run", "app"], &mut at)?, 3);
+    assert_eq!(rt; status(rt.alloc(), &["run", "app"], &mut at)?, 3);
+    assert_eq!(rt; at.out.held(), b"".as_slice());
     assert_eq!(rt; at.err.held(), MISSING.as_bytes());
     Ok(())
 }
@@ -175,30 +207,29 @@ fn a_file_has_at_most_1048576_bytes(rt: HostRuntime) -> Result<(), Fail> {
 }
 
 #[test]
-fn each_object_that_fails_is_named(rt: HostRuntime) -> Result<(), Fail> {
-    let alloc = rt.alloc();
-    let source = b"console.log('a'); console.log('b');";
-
-    // The second put fails and takes nothing.
-    let mut at = make_outside(alloc)?;
-    at.folder.add("app/index.js", source)?;
-    at.out.fail_at(2)?;
-    assert_eq!(rt; status(alloc, &["run", "app"], &mut at)?, 7);
-    assert_eq!(rt; at.out.held(), b"a\n".as_slice());
-    assert_eq!(rt; at.err.held(), b"lava: outside output\n".as_slice());
-
-    // The folder fails.
-    let mut at = make_outside(alloc)?;
-    at.folder.add("app/index.js", source)?;
-    at.folder.fail_at(1)?;
-    assert_eq!(rt; status(alloc, &["run", "app"], &mut at)?, 7);
+fn a_folder_that_fails_is_named(rt: HostRuntime) -> Result<(), Fail> {
+    let (answer, at) = fail(rt.alloc(), &["run", "app"], 1, NEVER, NEVER)?;
+    assert_eq!(rt; answer, 7);
     assert_eq!(rt; at.out.held(), b"".as_slice());
     assert_eq!(rt; at.err.held(), b"lava: outside folder\n".as_slice());
+    Ok(())
+}
 
-    // The errors fail while a refusal is written.
-    let mut at = make_outside(alloc)?;
-    at.err.fail_at(1)?;
-    assert_eq!(rt; status(alloc, &["run"], &mut at)?, 7);
+#[test]
+fn an_output_that_fails_is_named(rt: HostRuntime) -> Result<(), Fail> {
+    // The second put fails and takes nothing.
+    let (answer, at) = fail(rt.alloc(), &["run", "app"], NEVER, 2, NEVER)?;
+    assert_eq!(rt; answer, 7);
+    assert_eq!(rt; at.out.held(), b"a\n".as_slice());
+    assert_eq!(rt; at.err.held(), b"lava: outside output\n".as_slice());
+    Ok(())
+}
+
+#[test]
+fn a_refusal_that_cannot_be_written_is_7(rt: HostRuntime) -> Result<(), Fail> {
+    let (answer, at) = fail(rt.alloc(), &["run"], NEVER, NEVER, 1)?;
+    assert_eq!(rt; answer, 7);
+    assert_eq!(rt; at.out.held(), b"".as_slice());
     assert_eq!(rt; at.err.held(), b"".as_slice());
     Ok(())
 }
