@@ -1,9 +1,11 @@
 pub mod DigitLemmas
+pub mod Divisions
 pub mod Fronts
 pub mod Grammar
 pub mod Literals
 pub mod OneNumber
 pub mod Point
+pub mod Powers
 pub mod Results
 pub mod Scaling
 pub mod Trimming

@@ -43,7 +43,7 @@ fn magnitude_of(parts: DecimalParts<'_>) -> Result<u64, NotSafe>
 }
 
 /// The integer of a sign and a safe magnitude.
-fn signed_integer(negative: bool, magnitude: u64) -> i64
+pub fn signed_integer(negative: bool, magnitude: u64) -> i64
     requires { magnitude ≤ max_safe }
     ensures integer { result ≡ signed negative magnitude }
     ensures safe { IsSafe result }

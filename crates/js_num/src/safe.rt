@@ -1,11 +1,15 @@
 // Safe integers.
 
-ghost use Rattle.std.specs.Prelude.{◌≡◌, ℤ, IfOk, OnOk, OnErr};
+ghost use Rattle.std.specs.Prelude.{◌≡◌, ℤ, pos, ◌+ℤ◌, ◌-ℤ◌, ◌*ℤ◌, IfOk, OnOk, OnErr};
 ghost use Rattle.std.specs.Fmt.{signed_decimal};
+ghost use Rattle.js_num.specs.Arithmetic.{IsQuotient, IsRemainder, IsPower};
+ghost use Rattle.js_num.specs.Bits.{bitwise};
 ghost use Rattle.js_num.specs.SafeRange.{IsSafe};
 ghost use Rattle.js_num.specs.StringToNumber.{IsNumberOf};
 
+use crate::bits::{BitOp, bitwise};
 use crate::literal::literal_number;
+use crate::power::power;
 use crate::white::{without_leading_white, without_trailing_white};
 use itoa::Buffer;
 use lava_base::list::List;
@@ -84,5 +88,80 @@ impl Safe {
             text.push(u16::from(*digit))?;
         }
         Ok(List::from_vec(text))
+    }
+
+    /// The sum (ECMA-262's Number::add); `NotSafe` exactly where it is past a limit.
+    pub fn add(self, b: Safe) -> Result<Safe, NotSafe>
+        ensures ok { IfOk result (λ r. r ≡ self +ℤ b) }
+        ensures safe { OnOk result (IsSafe (self +ℤ b)) }
+        ensures err { OnErr result (¬ IsSafe (self +ℤ b)) }
+    {
+        Safe::new(self.integer + b.integer)
+    }
+
+    /// The difference (ECMA-262's Number::subtract); `NotSafe` exactly where it is past a limit.
+    pub fn sub(self, b: Safe) -> Result<Safe, NotSafe>
+        ensures ok { IfOk result (λ r. r ≡ self -ℤ b) }
+        ensures safe { OnOk result (IsSafe (self -ℤ b)) }
+        ensures err { OnErr result (¬ IsSafe (self -ℤ b)) }
+    {
+        Safe::new(self.integer - b.integer)
+    }
+
+    /// The product (ECMA-262's Number::multiply); `NotSafe` exactly where it is past a limit.
+    pub fn mul(self, b: Safe) -> Result<Safe, NotSafe>
+        ensures ok { IfOk result (λ r. r ≡ self *ℤ b) }
+        ensures safe { OnOk result (IsSafe (self *ℤ b)) }
+        ensures err { OnErr result (¬ IsSafe (self *ℤ b)) }
+    {
+        match self.integer.checked_mul(b.integer) {
+            Some(product) => Safe::new(product),
+            None => Err(NotSafe),
+        }
+    }
+
+    /// The quotient (ECMA-262's Number::divide); `NotSafe` exactly where `b` is 0 or does not divide the integer.
+    pub fn div(self, b: Safe) -> Result<Safe, NotSafe>
+        ensures ok { IfOk result (IsQuotient self b) }
+        ensures safe { IfOk result IsSafe }
+        ensures err { OnErr result ((q : ℤ) → IsQuotient self b q → ⊥) }
+    {
+        if b.integer == 0 || self.integer % b.integer != 0 {
+            return Err(NotSafe);
+        }
+        Safe::new(self.integer / b.integer)
+    }
+
+    /// The remainder, with the sign of the dividend (ECMA-262's Number::remainder); `NotSafe` exactly where `b` is 0.
+    pub fn rem(self, b: Safe) -> Result<Safe, NotSafe>
+        ensures ok { IfOk result (IsRemainder self b) }
+        ensures safe { IfOk result IsSafe }
+        ensures err { OnErr result (b ≡ pos 0) }
+    {
+        if b.integer == 0 {
+            return Err(NotSafe);
+        }
+        Safe::new(self.integer % b.integer)
+    }
+
+    /// The power with the exponent `b` (ECMA-262's Number::exponentiate); `NotSafe` exactly where it is past a limit or no integer, and where the base is 0 and the exponent negative. `0 ** 0` is 1.
+    pub fn pow(self, b: Safe) -> Result<Safe, NotSafe>
+        ensures ok { IfOk result (IsPower self b) }
+        ensures safe { IfOk result IsSafe }
+        ensures err { OnErr result ((v : ℤ) → IsSafe v → IsPower self b v → ⊥) }
+    {
+        Ok(Safe {
+            integer: power(self.integer, b.integer)?,
+        })
+    }
+
+    /// What an operator on 32 bits gives (ECMA-262's NumberBitwiseOp, Number::leftShift, Number::signedRightShift and Number::unsignedRightShift).
+    pub fn bits(self, op: BitOp, b: Safe) -> Safe
+        ensures value { result ≡ bitwise op self b }
+        ensures safe { IsSafe result }
+    {
+        Safe {
+            integer: bitwise(op, self.integer, b.integer),
+        }
     }
 }
