@@ -3,8 +3,10 @@
 
 pub mod copy;
 pub mod fault;
+pub mod index;
 pub mod same;
 #[cfg(test)]
 mod tests;
 pub mod text;
+pub mod utf8;
 pub mod value;

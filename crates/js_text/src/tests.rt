@@ -2,11 +2,14 @@
 
 use crate::copy::{copy_key, copy_value};
 use crate::fault::TextFault;
+use crate::index::{MAX_INDEX, index_of_text, key_of_text};
 use crate::same::{is_same_key, is_same_value};
 use crate::text::{MAX_UNITS, from_units};
+use crate::utf8::from_utf8;
 use crate::value::{Key, Symbol, Value};
 use lava_base::ids::{ObjId, PartyId, Ref};
 use lava_base::list::List;
+use std::cmp::Ordering;
 use std::test::Fail;
 
 #[test]
@@ -39,7 +42,20 @@ fn a_text_has_a_limit(rt: HostRuntime) -> Result<(), Fail> {
         Some(TextFault::TooLong)
     );
     units.pop();
-    assert_eq!(rt; from_units(rt.alloc(), &units)?.len(), MAX_UNITS);
+    let full = from_units(rt.alloc(), &units)?;
+    assert_eq!(rt; full.len(), MAX_UNITS);
+    let one = from_units(rt.alloc(), &[0x41])?;
+    assert_eq!(rt;
+        full.concat(rt.alloc(), &one).err(),
+        Some(TextFault::TooLong)
+    );
+    let mut bytes = vec![in rt.alloc(); 0x41u8; 1_048_576]?;
+    assert_eq!(rt; from_utf8(rt.alloc(), &bytes)?.len(), MAX_UNITS);
+    bytes.push(0x41)?;
+    assert_eq!(rt;
+        from_utf8(rt.alloc(), &bytes).err(),
+        Some(TextFault::TooLong)
+    );
     Ok(())
 }
 
@@ -68,5 +84,65 @@ fn copies_are_the_same(rt: HostRuntime) -> Result<(), Fail> {
     for key in &keys {
         assert!(rt; is_same_key(key, &copy_key(key)?));
     }
+    Ok(())
+}
+
+#[test]
+fn texts_are_read_searched_and_cut(rt: HostRuntime) -> Result<(), Fail> {
+    let alloc = rt.alloc();
+    let refused: [(&[u8], u32); 4] = [
+        (b"a\xFF", 1),
+        (b"\xED\xA0\x80", 1),
+        (b"\xC3", 1),
+        (b"ab\xC0\x80", 2),
+    ];
+    for (bytes, at) in refused {
+        assert_eq!(rt;
+            from_utf8(alloc, bytes).err(),
+            Some(TextFault::NotUtf8 { at })
+        );
+    }
+    assert_eq!(rt;
+        from_utf8(alloc, b"\xF0\x9F\x98\x80")?.as_units(),
+        [0xD83D, 0xDE00].as_slice()
+    );
+    let indices: [(&[u8], Option<u32>); 6] = [
+        (b"4294967294", Some(MAX_INDEX)),
+        (b"4294967295", None),
+        (b"01", None),
+        (b"", None),
+        (b"0", Some(0)),
+        (b"1e3", None),
+    ];
+    for (bytes, index) in indices {
+        let text = from_utf8(alloc, bytes)?;
+        assert_eq!(rt; index_of_text(&text), index);
+        assert_eq!(rt; matches!(key_of_text(text), Key::Index(_)), index.is_some());
+    }
+    let orders: [(&[u8], &[u8], Ordering); 4] = [
+        (b"a", b"b", Ordering::Less),
+        (b"a", b"B", Ordering::Greater),
+        (b"a", b"ab", Ordering::Less),
+        (b"ab", b"ab", Ordering::Equal),
+    ];
+    for (a, b, order) in orders {
+        assert_eq!(rt; from_utf8(alloc, a)?.compare(&from_utf8(alloc, b)?), order);
+    }
+    let banana = from_units(alloc, &[0x62, 0x61, 0x6E, 0x61, 0x6E, 0x61])?;
+    let places: [(&[u8], u32, Option<u32>); 6] = [
+        (b"ana", 0, Some(1)),
+        (b"ana", 2, Some(3)),
+        (b"ana", 4, None),
+        (b"", 6, Some(6)),
+        (b"", 7, None),
+        (b"bananas", 0, None),
+    ];
+    for (part, from, place) in places {
+        assert_eq!(rt; banana.find(&from_utf8(alloc, part)?, from), place);
+    }
+    let joined = banana
+        .slice(alloc, 0, 2)?
+        .concat(alloc, &banana.slice(alloc, 4, 6)?)?;
+    assert!(rt; joined.is_same(&from_utf8(alloc, b"bana")?));
     Ok(())
 }

@@ -1,13 +1,15 @@
 // Texts, which are shared and not copied.
 
-ghost use Rattle.std.specs.Prelude.{◌≡◌, ◌<◌, ◌≤◌, ◌↔◌, ◌++◌, ◌∷◌, ◌&&◌, length, drop, slice_index, unwrap_or, encode_utf8, IsTrue, IfOk, IsErrOf, IsOkUnless, OnOk, OnErr};
+ghost use Rattle.std.specs.Prelude.{◌≡◌, ◌+◌, ◌<◌, ◌≤◌, ◌↔◌, ◌++◌, ◌∷◌, ◌&&◌, length, drop, slice_index, unwrap_or, encode_utf8, IsTrue, IfOk, IsErrOf, IsOkUnless, OnOk, OnErr};
 ghost use Rattle.std.specs.Char.Utf16.{is_high_surrogate, is_low_surrogate, surrogate_pair_char, lone_unit_char, utf16_lossy_chars};
+ghost use Rattle.js_text.specs.Search.{order_of_units, substring, IsFirstPlace};
 ghost use Rattle.js_text.specs.Texts.{same_units, utf8_of, AddsPartOf};
 
 use crate::fault::TextFault;
 use lava_base::list::List;
 use lava_base::memory::OutOfMemory;
 use std::alloc::Global;
+use std::cmp::Ordering;
 use std::marker::Model;
 use std::rc::Rc;
 
@@ -86,6 +88,59 @@ impl Text {
         ensures equal { IsTrue result ↔ (self.now ≡ other.now) }
     {
         self.units.as_slice() == other.units.as_slice()
+    }
+
+    /// Which text comes first, by their units (ECMA-262, IsLessThan): the first unit that is not equal decides, and else the lengths do.
+    pub fn compare(&self, other: &Text) -> Ordering
+        ensures order { result ≡ order_of_units self.now other.now }
+    {
+        self.as_units().cmp(&other.as_units())
+    }
+
+    /// The least place at `from` or after it where `part` stands (ECMA-262, StringIndexOf). An empty part stands at every place up to the length.
+    pub fn find(&self, part: &Text, from: u32) -> Option<u32>
+        ensures first { IsFirstPlace self.now part.now from result }
+    {
+        let units = self.as_units();
+        let wanted = part.as_units();
+        if wanted.len() > units.len() {
+            return None;
+        }
+        for at in from as usize..=units.len() - wanted.len() {
+            if units[at..].starts_with(wanted) {
+                return Some(at as u32);
+            }
+        }
+        None
+    }
+
+    /// The text of the units from one place up to another.
+    pub fn slice(&self, alloc: Global, from: u32, to: u32) -> Result<Text, OutOfMemory>
+        requires { (from ≤ to) × (to ≤ length self.now) }
+        ensures units { IfOk result (λ text. text ≡ substring self.now from to) }
+    {
+        let units = self.as_units()[from as usize..to as usize].to_vec(alloc)?;
+        Ok(Text {
+            units: Rc::new(alloc, units)?,
+        })
+    }
+
+    /// The units of this text, and then those of the other. `TooLong` comes exactly where they are more than `MAX_UNITS`.
+    pub fn concat(&self, alloc: Global, other: &Text) -> Result<Text, TextFault>
+        ensures units { IfOk result (λ text. text ≡ self.now ++ other.now) }
+        ensures too_long { IsErrOf result TextFault.TooLong ↔ (MAX_UNITS < length self.now + length other.now) }
+        ensures memory { length self.now + length other.now ≤ MAX_UNITS → IsOkUnless result TextFault.OutOfMemory }
+    {
+        let len = self.as_units().len() + other.as_units().len();
+        if len > MAX_UNITS as usize {
+            return Err(TextFault::TooLong);
+        }
+        let mut units = Vec::with_capacity(alloc, len)?;
+        units.extend_from_slice(self.as_units())?;
+        units.extend_from_slice(other.as_units())?;
+        Ok(Text {
+            units: Rc::new(alloc, units)?,
+        })
     }
 
     /// Appends the text in UTF-8, with U+FFFD for a surrogate without its partner. After want of memory `out` has got some first part of these bytes.
