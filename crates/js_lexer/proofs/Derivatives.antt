@@ -1,0 +1,377 @@
+-- What is left of a rule behind a character (its derivative), and that a text is by the rule exactly where the rest of it is by what is left.
+use Rattle.std.proofs.Common.{◌≡◌, ◌↔◌, ◌⊎◌, inl, inr, ℕ, Bool, true, false, cond, ◌&&◌, ◌||◌, not, List, [], ◌∷◌, ◌++◌, Option, Some, None, refl, sym, ap, subst, ◌∙◌, length, append_assoc, length-append, arith}
+use Rattle.js_lexer.specs.Characters.{first_of}
+use Rattle.js_lexer.specs.Rules.{Rule, Never, Nothing, One, NotBefore, Then, Or, Many, OnlyIf, Steps, stay, step, Leads}
+
+-- whether the rule may take nothing where this character comes next
+abbrev pub may_be_empty : Rule → Option ℕ → Bool
+may_be_empty Never n = false
+may_be_empty Nothing n = true
+may_be_empty (One p) n = false
+may_be_empty (NotBefore p) None = true
+may_be_empty (NotBefore p) (Some c) = not (p c)
+may_be_empty (Then a b) n = may_be_empty a n && may_be_empty b n
+may_be_empty (Or a b) n = may_be_empty a n || may_be_empty b n
+may_be_empty (Many a) n = true
+may_be_empty (OnlyIf a test) n = may_be_empty a n && test []
+
+abbrev pub then : Rule → Rule → Rule
+then Never b = Never
+then Nothing b = b
+then (One p) b = Then (One p) b
+then (NotBefore p) b = Then (NotBefore p) b
+then (Then a c) b = Then (Then a c) b
+then (Or a c) b = Then (Or a c) b
+then (Many a) b = Then (Many a) b
+then (OnlyIf a test) b = Then (OnlyIf a test) b
+
+abbrev pub unless_never : Rule → Rule → Rule
+unless_never a Never = a
+unless_never a Nothing = Or a Nothing
+unless_never a (One p) = Or a (One p)
+unless_never a (NotBefore p) = Or a (NotBefore p)
+unless_never a (Then b c) = Or a (Then b c)
+unless_never a (Or b c) = Or a (Or b c)
+unless_never a (Many b) = Or a (Many b)
+unless_never a (OnlyIf b test) = Or a (OnlyIf b test)
+
+abbrev pub or : Rule → Rule → Rule
+or Never b = b
+or Nothing b = unless_never Nothing b
+or (One p) b = unless_never (One p) b
+or (NotBefore p) b = unless_never (NotBefore p) b
+or (Then a c) b = unless_never (Then a c) b
+or (Or a c) b = unless_never (Or a c) b
+or (Many a) b = unless_never (Many a) b
+or (OnlyIf a test) b = unless_never (OnlyIf a test) b
+
+abbrev pub only_if : Rule → (List ℕ → Bool) → Rule
+only_if Never test = Never
+only_if Nothing test = OnlyIf Nothing test
+only_if (One p) test = OnlyIf (One p) test
+only_if (NotBefore p) test = OnlyIf (NotBefore p) test
+only_if (Then a b) test = OnlyIf (Then a b) test
+only_if (Or a b) test = OnlyIf (Or a b) test
+only_if (Many a) test = OnlyIf (Many a) test
+only_if (OnlyIf a t) test = OnlyIf (OnlyIf a t) test
+
+-- what is left of a rule behind a character
+abbrev pub behind : Rule → ℕ → Rule
+behind Never c = Never
+behind Nothing c = Never
+behind (One p) c = cond (p c) Nothing Never
+behind (NotBefore p) c = Never
+behind (Then a b) c = or (then (behind a c) b) (cond (may_be_empty a (Some c)) (behind b c) Never)
+behind (Or a b) c = or (behind a c) (behind b c)
+behind (Many a) c = then (behind a c) (Many a)
+behind (OnlyIf a test) c = only_if (behind a c) (λ w. test (c ∷ w))
+
+-- the short forms mean the same
+
+then_same : (a b : Rule) (xs ys : List ℕ) → Leads (then a b) xs ys ↔ Leads (Then a b) xs ys
+then_same Never b xs ys = (λ h. absurd h, λ h. absurd (h.1))
+then_same Nothing b xs ys = (λ h. (xs, refl, h), λ h. subst (λ z. Leads b z ys) (sym h.1) h.2)
+then_same (One p) b xs ys = (λ h. h, λ h. h)
+then_same (NotBefore p) b xs ys = (λ h. h, λ h. h)
+then_same (Then a c) b xs ys = (λ h. h, λ h. h)
+then_same (Or a c) b xs ys = (λ h. h, λ h. h)
+then_same (Many a) b xs ys = (λ h. h, λ h. h)
+then_same (OnlyIf a test) b xs ys = (λ h. h, λ h. h)
+
+only_left : {A : Type 0} → A ⊎ ⊥ → A
+only_left (inl a) = a
+only_left (inr h) = absurd h
+
+only_right : {A : Type 0} → ⊥ ⊎ A → A
+only_right (inl h) = absurd h
+only_right (inr a) = a
+
+unless_never_same : (a b : Rule) (xs ys : List ℕ) → Leads (unless_never a b) xs ys ↔ Leads (Or a b) xs ys
+unless_never_same a Never xs ys = (λ h. inl h, λ h. only_left h)
+unless_never_same a Nothing xs ys = (λ h. h, λ h. h)
+unless_never_same a (One p) xs ys = (λ h. h, λ h. h)
+unless_never_same a (NotBefore p) xs ys = (λ h. h, λ h. h)
+unless_never_same a (Then b c) xs ys = (λ h. h, λ h. h)
+unless_never_same a (Or b c) xs ys = (λ h. h, λ h. h)
+unless_never_same a (Many b) xs ys = (λ h. h, λ h. h)
+unless_never_same a (OnlyIf b test) xs ys = (λ h. h, λ h. h)
+
+or_same : (a b : Rule) (xs ys : List ℕ) → Leads (or a b) xs ys ↔ Leads (Or a b) xs ys
+or_same Never b xs ys = (λ h. inr h, λ h. only_right h)
+or_same Nothing b xs ys = unless_never_same Nothing b xs ys
+or_same (One p) b xs ys = unless_never_same (One p) b xs ys
+or_same (NotBefore p) b xs ys = unless_never_same (NotBefore p) b xs ys
+or_same (Then a c) b xs ys = unless_never_same (Then a c) b xs ys
+or_same (Or a c) b xs ys = unless_never_same (Or a c) b xs ys
+or_same (Many a) b xs ys = unless_never_same (Many a) b xs ys
+or_same (OnlyIf a test) b xs ys = unless_never_same (OnlyIf a test) b xs ys
+
+only_if_same : (a : Rule) (test : List ℕ → Bool) (xs ys : List ℕ) → Leads (only_if a test) xs ys ↔ Leads (OnlyIf a test) xs ys
+only_if_same Never test xs ys = (λ h. absurd h, λ h. absurd (h.3))
+only_if_same Nothing test xs ys = (λ h. h, λ h. h)
+only_if_same (One p) test xs ys = (λ h. h, λ h. h)
+only_if_same (NotBefore p) test xs ys = (λ h. h, λ h. h)
+only_if_same (Then a b) test xs ys = (λ h. h, λ h. h)
+only_if_same (Or a b) test xs ys = (λ h. h, λ h. h)
+only_if_same (Many a) test xs ys = (λ h. h, λ h. h)
+only_if_same (OnlyIf a t) test xs ys = (λ h. h, λ h. h)
+
+-- what a rule takes is a front of the text
+
+front_steps : (P : List ℕ → List ℕ → Type 0) → ((xs ys : List ℕ) → P xs ys → (w : List ℕ) × (xs ≡ w ++ ys)) → (xs ys : List ℕ) → Steps P xs ys → (w : List ℕ) × (xs ≡ w ++ ys)
+front_steps P all _ _ (stay xs) = ([], refl)
+front_steps P all _ _ (step xs ms ys p q) =
+    let i : (w : List ℕ) × (xs ≡ w ++ ms) = all xs ms p in
+    let j : (w : List ℕ) × (ms ≡ w ++ ys) = front_steps P all ms ys q in
+    (i.0 ++ j.0, i.1 ∙ ap (λ z. i.0 ++ z) j.1 ∙ sym (append_assoc i.0 j.0 ys))
+
+pub front : (r : Rule) (xs ys : List ℕ) → Leads r xs ys → (w : List ℕ) × (xs ≡ w ++ ys)
+front Never xs ys h = absurd h
+front Nothing xs ys h = ([], h)
+front (One p) [] ys h = absurd h
+front (One p) (x ∷ xs) ys h = (x ∷ [], ap (λ z. x ∷ z) h.1)
+front (NotBefore p) xs ys h = ([], h.0)
+front (Then a b) xs ys (ms, h, k) =
+    let i : (w : List ℕ) × (xs ≡ w ++ ms) = front a xs ms h in
+    let j : (w : List ℕ) × (ms ≡ w ++ ys) = front b ms ys k in
+    (i.0 ++ j.0, i.1 ∙ ap (λ z. i.0 ++ z) j.1 ∙ sym (append_assoc i.0 j.0 ys))
+front (Or a b) xs ys (inl h) = front a xs ys h
+front (Or a b) xs ys (inr h) = front b xs ys h
+front (Many a) xs ys h = front_steps (Leads a) (front a) xs ys h
+front (OnlyIf a test) xs ys (w, e, t, h) = (w, e)
+
+-- at the end of the text
+
+both : (a b : Bool) → (a && b) ≡ true → (a ≡ true) × (b ≡ true)
+both true b h = (refl, h)
+both false b h = absurd (cc)
+
+both_true : (a b : Bool) → a ≡ true → b ≡ true → (a && b) ≡ true
+both_true a b h k = rw (h, k) refl
+
+or_left : (a b : Bool) → a ≡ true → (a || b) ≡ true
+or_left a b h = rw h refl
+
+or_right : (a b : Bool) → b ≡ true → (a || b) ≡ true
+or_right true b h = refl
+or_right false b h = h
+
+either : (a b : Bool) → (a || b) ≡ true → (a ≡ true) ⊎ (b ≡ true)
+either true b h = inl refl
+either false b h = inr h
+
+-- what leads from the end of a text takes nothing
+abbrev AtEnd : Rule → List ℕ → Type 0
+AtEnd r ys = (may_be_empty r None ≡ true) × (ys ≡ [])
+
+empty_front : (w ys : List ℕ) → [] ≡ w ++ ys → (w ≡ []) × (ys ≡ [])
+empty_front [] ys h = (refl, sym h)
+empty_front (x ∷ w) ys h = absurd (cc)
+
+end_steps : (P : List ℕ → List ℕ → Type 0) → ((ms : List ℕ) → P [] ms → ms ≡ []) → (xs ys : List ℕ) → xs ≡ [] → Steps P xs ys → ys ≡ []
+end_steps P all _ _ e (stay xs) = e
+end_steps P all _ _ e (step xs ms ys p q) = end_steps P all ms ys (all ms (subst (λ z. P z ms) e p)) q
+
+end_only : (r : Rule) (ys : List ℕ) → Leads r [] ys → AtEnd r ys
+end_only Never ys h = absurd h
+end_only Nothing ys h = (refl, sym h)
+end_only (One p) ys h = absurd h
+end_only (NotBefore p) ys h = (refl, sym h.0)
+end_only (Then a b) ys (ms, h, k) =
+    let i : AtEnd a ms = end_only a ms h in
+    let j : AtEnd b ys = end_only b ys (subst (λ z. Leads b z ys) i.1 k) in
+    (both_true (may_be_empty a None) (may_be_empty b None) i.0 j.0, j.1)
+end_only (Or a b) ys (inl h) =
+    let i : AtEnd a ys = end_only a ys h in (or_left (may_be_empty a None) (may_be_empty b None) i.0, i.1)
+end_only (Or a b) ys (inr h) =
+    let i : AtEnd b ys = end_only b ys h in (or_right (may_be_empty a None) (may_be_empty b None) i.0, i.1)
+end_only (Many a) ys h = (refl, end_steps (Leads a) (λ ms k. (end_only a ms k).1) [] ys refl h)
+end_only (OnlyIf a test) ys (w, e, t, h) =
+    let i : AtEnd a ys = end_only a ys h in
+    let j : (w ≡ []) × (ys ≡ []) = empty_front w ys e in
+    (both_true (may_be_empty a None) (test []) i.0 (subst (λ z. test z ≡ true) j.0 t), i.1)
+
+-- where the rule may take nothing, the text leads to itself
+takes_none : (r : Rule) (xs : List ℕ) (n : Option ℕ) → n ≡ first_of xs → may_be_empty r n ≡ true → Leads r xs xs
+takes_none Never xs n e h = absurd (cc)
+takes_none Nothing xs n e h = refl
+takes_none (One p) xs n e h = absurd (cc)
+takes_none (NotBefore p) [] n e h = (refl, refl)
+takes_none (NotBefore p) (x ∷ xs) n e h = (refl, not_true (p x) (subst (λ m. may_be_empty (NotBefore p) m ≡ true) e h))
+  where
+    not_true : (b : Bool) → not b ≡ true → b ≡ false
+    not_true true h = cc
+    not_true false h = refl
+takes_none (Then a b) xs n e h =
+    let i : (may_be_empty a n ≡ true) × (may_be_empty b n ≡ true) = both (may_be_empty a n) (may_be_empty b n) h in
+    (xs, takes_none a xs n e i.0, takes_none b xs n e i.1)
+takes_none (Or a b) xs n e h =
+    elim (either (may_be_empty a n) (may_be_empty b n) h) [
+      | inl i ↦ inl (takes_none a xs n e i)
+      | inr i ↦ inr (takes_none b xs n e i)
+    ]
+takes_none (Many a) xs n e h = stay xs
+takes_none (OnlyIf a test) xs n e h =
+    let i : (may_be_empty a n ≡ true) × (test [] ≡ true) = both (may_be_empty a n) (test []) h in
+    ([], refl, i.1, takes_none a xs n e i.0)
+
+pub at_end : (r : Rule) (ys : List ℕ) → Leads r [] ys ↔ AtEnd r ys
+at_end r ys = (end_only r ys, λ h. subst (λ z. Leads r [] z) (sym h.1) (takes_none r [] None refl h.0))
+
+-- at a character
+
+-- the rule takes nothing, or the character and then what is left of it
+abbrev AtCharacter : Rule → ℕ → List ℕ → List ℕ → Type 0
+AtCharacter r c cs ys = ((may_be_empty r (Some c) ≡ true) × (ys ≡ c ∷ cs)) ⊎ Leads (behind r c) cs ys
+
+if_true : (b : Bool) (r : Rule) (xs ys : List ℕ) → b ≡ true → Leads r xs ys → Leads (cond b r Never) xs ys
+if_true b r xs ys e h = rw e h
+
+front_of : (c : ℕ) (cs w ys : List ℕ) → c ∷ cs ≡ w ++ ys → ((w ≡ []) × (ys ≡ c ∷ cs)) ⊎ ((v : List ℕ) × (w ≡ c ∷ v) × (cs ≡ v ++ ys))
+front_of c cs [] ys e = inl (refl, sym e)
+front_of c cs (x ∷ v) ys e = inr (v, ap (λ z. z ∷ v) (same_head x c (v ++ ys) cs (sym e)), same_tail c x cs (v ++ ys) e)
+  where
+    same_head : (a b : ℕ) (us vs : List ℕ) → a ∷ us ≡ b ∷ vs → a ≡ b
+    same_head a b us vs e = cc
+
+    same_tail : (a b : ℕ) (us vs : List ℕ) → a ∷ us ≡ b ∷ vs → us ≡ vs
+    same_tail a b us vs e = cc
+
+steps_from : (a : Rule) (c : ℕ) (cs : List ℕ) → ((ms : List ℕ) → Leads a (c ∷ cs) ms → AtCharacter a c cs ms) →
+    (xs ys : List ℕ) → xs ≡ c ∷ cs → Steps (Leads a) xs ys → AtCharacter (Many a) c cs ys
+steps_from a c cs all _ _ e (stay xs) = inl (refl, e)
+steps_from a c cs all _ _ e (step xs ms ys p q) =
+    elim (all ms (subst (λ z. Leads a z ms) e p)) [
+      | inl i ↦ steps_from a c cs all ms ys i.1 q
+      | inr i ↦ inr ((then_same (behind a c) (Many a) cs ys).1 (ms, i, q))
+    ]
+
+longer : (c : ℕ) (cs v : List ℕ) → cs ≡ v ++ c ∷ cs → ⊥
+longer c cs v e = omega (arith, ap length e ∙ length-append v (c ∷ cs))
+
+pub reads_from : (r : Rule) (c : ℕ) (cs ys : List ℕ) → Leads r (c ∷ cs) ys → AtCharacter r c cs ys
+reads_from Never c cs ys h = absurd h
+reads_from Nothing c cs ys h = inl (refl, sym h)
+reads_from (One p) c cs ys h = inr (if_true (p c) Nothing cs ys h.0 h.1)
+reads_from (NotBefore p) c cs ys h = inl (rw (h.1) refl, sym h.0)
+reads_from (Then a b) c cs ys (ms, h, k) =
+    elim (reads_from a c cs ms h) [
+      | inl i ↦
+          elim (reads_from b c cs ys (subst (λ z. Leads b z ys) i.1 k)) [
+            | inl j ↦ inl (both_true (may_be_empty a (Some c)) (may_be_empty b (Some c)) i.0 j.0, j.1)
+            | inr j ↦ inr ((or_same (then (behind a c) b) (cond (may_be_empty a (Some c)) (behind b c) Never) cs ys).1 (inr (if_true (may_be_empty a (Some c)) (behind b c) cs ys i.0 j)))
+          ]
+      | inr i ↦ inr ((or_same (then (behind a c) b) (cond (may_be_empty a (Some c)) (behind b c) Never) cs ys).1 (inl ((then_same (behind a c) b cs ys).1 (ms, i, k))))
+    ]
+reads_from (Or a b) c cs ys (inl h) =
+    elim (reads_from a c cs ys h) [
+      | inl i ↦ inl (or_left (may_be_empty a (Some c)) (may_be_empty b (Some c)) i.0, i.1)
+      | inr i ↦ inr ((or_same (behind a c) (behind b c) cs ys).1 (inl i))
+    ]
+reads_from (Or a b) c cs ys (inr h) =
+    elim (reads_from b c cs ys h) [
+      | inl i ↦ inl (or_right (may_be_empty a (Some c)) (may_be_empty b (Some c)) i.0, i.1)
+      | inr i ↦ inr ((or_same (behind a c) (behind b c) cs ys).1 (inr i))
+    ]
+reads_from (Many a) c cs ys h = steps_from a c cs (λ ms. reads_from a c cs ms) (c ∷ cs) ys refl h
+reads_from (OnlyIf a test) c cs ys (w, e, t, h) =
+    elim (reads_from a c cs ys h) [
+      | inl i ↦
+          elim (front_of c cs w ys e) [
+            | inl j ↦ inl (both_true (may_be_empty a (Some c)) (test []) i.0 (subst (λ z. test z ≡ true) j.0 t), j.1)
+            | inr j ↦ absurd (too_long c cs j.0 (j.2 ∙ ap (λ z. j.0 ++ z) i.1))
+          ]
+      | inr i ↦
+          elim (front_of c cs w ys e) [
+            | inl j ↦ absurd (too_short (behind a c) c cs ys j.1 i)
+            | inr j ↦ inr ((only_if_same (behind a c) (λ v. test (c ∷ v)) cs ys).1 (j.0, j.2, subst (λ z. test z ≡ true) j.1 t, i))
+          ]
+    ]
+  where
+    too_long : (c : ℕ) (cs v : List ℕ) → cs ≡ v ++ c ∷ cs → ⊥
+    too_long c cs v e = longer c cs v e
+
+    too_short : (r : Rule) (c : ℕ) (cs ys : List ℕ) → ys ≡ c ∷ cs → Leads r cs ys → ⊥
+    too_short r c cs ys e h =
+        let i : (w : List ℕ) × (cs ≡ w ++ ys) = front r cs ys h in longer c cs i.0 (i.1 ∙ ap (λ z. i.0 ++ z) e)
+
+cond_true : (b : Bool) (r : Rule) (xs ys : List ℕ) → Leads (cond b r Never) xs ys → (b ≡ true) × Leads r xs ys
+cond_true true r xs ys h = (refl, h)
+cond_true false r xs ys h = absurd h
+
+behind_to : (r : Rule) (c : ℕ) (cs ys : List ℕ) → Leads (behind r c) cs ys → Leads r (c ∷ cs) ys
+behind_to Never c cs ys h = absurd h
+behind_to Nothing c cs ys h = absurd h
+behind_to (One p) c cs ys h = cond_true (p c) Nothing cs ys h
+behind_to (NotBefore p) c cs ys h = absurd h
+behind_to (Then a b) c cs ys h =
+    elim ((or_same (then (behind a c) b) (cond (may_be_empty a (Some c)) (behind b c) Never) cs ys).0 h) [
+      | inl i ↦
+          let j : (ms : List ℕ) × Leads (behind a c) cs ms × Leads b ms ys = (then_same (behind a c) b cs ys).0 i in
+          (j.0, behind_to a c cs j.0 j.1, j.2)
+      | inr i ↦
+          let j : (may_be_empty a (Some c) ≡ true) × Leads (behind b c) cs ys = cond_true (may_be_empty a (Some c)) (behind b c) cs ys i in
+          (c ∷ cs, takes_none a (c ∷ cs) (Some c) refl j.0, behind_to b c cs ys j.1)
+    ]
+behind_to (Or a b) c cs ys h =
+    elim ((or_same (behind a c) (behind b c) cs ys).0 h) [
+      | inl i ↦ inl (behind_to a c cs ys i)
+      | inr i ↦ inr (behind_to b c cs ys i)
+    ]
+behind_to (Many a) c cs ys h =
+    let j : (ms : List ℕ) × Leads (behind a c) cs ms × Steps (Leads a) ms ys = (then_same (behind a c) (Many a) cs ys).0 h in
+    step (c ∷ cs) j.0 ys (behind_to a c cs j.0 j.1) j.2
+behind_to (OnlyIf a test) c cs ys h =
+    let j : (w : List ℕ) × (cs ≡ w ++ ys) × (test (c ∷ w) ≡ true) × Leads (behind a c) cs ys = (only_if_same (behind a c) (λ v. test (c ∷ v)) cs ys).0 h in
+    (c ∷ j.0, ap (λ z. c ∷ z) j.1, j.2, behind_to a c cs ys j.3)
+
+-- a text with a character in front is by a rule exactly where the rule takes nothing, or the text behind the character is by what is left of it
+pub at_character : (r : Rule) (c : ℕ) (cs ys : List ℕ) → Leads r (c ∷ cs) ys ↔ AtCharacter r c cs ys
+at_character r c cs ys = (
+  reads_from r c cs ys,
+  λ h. elim h [
+    | inl i ↦ subst (λ z. Leads r (c ∷ cs) z) (sym i.1) (takes_none r (c ∷ cs) (Some c) refl i.0)
+    | inr i ↦ behind_to r c cs ys i
+  ],
+)
+
+-- what a character does to a rule
+
+false_true : (b : Bool) → b ≡ false → b ≡ true → ⊥
+false_true b h k = cc
+
+-- the rule goes on as another
+pub goes : (r q : Rule) (c : ℕ) (cs ys : List ℕ) → may_be_empty r (Some c) ≡ false → behind r c ≡ q → Leads r (c ∷ cs) ys ↔ Leads q cs ys
+goes r q c cs ys e d = (
+  λ h. elim (reads_from r c cs ys h) [
+    | inl i ↦ absurd (false_true (may_be_empty r (Some c)) e i.0)
+    | inr i ↦ subst (λ z. Leads z cs ys) d i
+  ],
+  λ h. behind_to r c cs ys (subst (λ z. Leads z cs ys) (sym d) h),
+)
+
+-- the rule ends with the character
+pub ends : (r : Rule) (c : ℕ) (cs ys : List ℕ) → may_be_empty r (Some c) ≡ false → behind r c ≡ Nothing → Leads r (c ∷ cs) ys ↔ (ys ≡ cs)
+ends r c cs ys e d =
+    (λ h. sym ((goes r Nothing c cs ys e d).0 h), λ h. (goes r Nothing c cs ys e d).1 (sym h))
+
+-- the rule ends before the character
+pub ends_before : (r : Rule) (c : ℕ) (cs ys : List ℕ) → may_be_empty r (Some c) ≡ true → behind r c ≡ Never → Leads r (c ∷ cs) ys ↔ (ys ≡ c ∷ cs)
+ends_before r c cs ys e d = (
+  λ h. elim (reads_from r c cs ys h) [
+    | inl i ↦ i.1
+    | inr i ↦ absurd (subst (λ z. Leads z cs ys) d i)
+  ],
+  λ h. subst (λ z. Leads r (c ∷ cs) z) (sym h) (takes_none r (c ∷ cs) (Some c) refl e),
+)
+
+-- no text with the character in front is by the rule
+pub stuck : (r : Rule) (c : ℕ) (cs ys : List ℕ) → may_be_empty r (Some c) ≡ false → behind r c ≡ Never → Leads r (c ∷ cs) ys → ⊥
+stuck r c cs ys e d h = (goes r Never c cs ys e d).0 h
+
+-- the rule takes nothing at the end of the text, or does not stand there
+pub ends_there : (r : Rule) (ys : List ℕ) → may_be_empty r None ≡ true → Leads r [] ys ↔ (ys ≡ [])
+ends_there r ys e = (λ h. (end_only r ys h).1, λ h. (at_end r ys).1 (e, h))
+
+pub stuck_there : (r : Rule) (ys : List ℕ) → may_be_empty r None ≡ false → Leads r [] ys → ⊥
+stuck_there r ys e h = false_true (may_be_empty r None) e ((end_only r ys h).0)

@@ -1,0 +1,3 @@
+pub mod Derivatives
+pub mod Machine_laws
+pub mod Texts

@@ -1,0 +1,39 @@
+-- Characters, and which of them ECMA-262 has in which class.
+use Rattle.std.specs.Prelude.{ℕ, Bool, ◌||◌, ◌&&◌, ◌==◌, ◌-◌, nat_le, nat_lt, if◌then◌else◌, List, [], ◌∷◌, Option, Some, None}
+use Rattle.std.specs.Char.{is_ascii_digit, is_ascii_hexdigit}
+use Rattle.unicode_ident.specs.Ident.{is_xid_start, is_xid_continue}
+
+-- the first character of a text
+abbrev pub first_of : List ℕ → Option ℕ
+first_of [] = None
+first_of (c ∷ cs) = Some c
+
+-- LF, CR, LS, PS (ECMA-262, LineTerminator)
+abbrev pub is_line_terminator : ℕ → Bool
+is_line_terminator c = c == 10 || c == 13 || c == 0x2028 || c == 0x2029
+
+-- TAB, VT, FF, and the characters that Unicode calls spaces (ECMA-262, WhiteSpace)
+abbrev pub is_white_space : ℕ → Bool
+is_white_space c =
+    c == 9 || c == 11 || c == 12 || c == 32 || c == 160 || c == 0x1680 || (nat_le 0x2000 c && nat_le c 0x200a)
+    || c == 0x202f || c == 0x205f || c == 0x3000 || c == 0xfeff
+
+-- `$`, `_`, or a character that Unicode lets begin an identifier (ECMA-262, IdentifierStartChar)
+unfoldable pub is_name_start : ℕ → Bool
+is_name_start c = c == 36 || c == 95 || is_xid_start c
+
+-- `$`, or a character that Unicode lets go on with an identifier, of which `_` is one (of ECMA-262's IdentifierPartChar, without ZWNJ and ZWJ)
+unfoldable pub is_name_part : ℕ → Bool
+is_name_part c = c == 36 || is_xid_continue c
+
+-- ECMA-262, DecimalDigit
+abbrev pub is_digit : ℕ → Bool
+is_digit c = is_ascii_digit c
+
+-- ECMA-262, HexDigit
+abbrev pub is_hex_digit : ℕ → Bool
+is_hex_digit c = is_ascii_hexdigit c
+
+-- the number that a hexadecimal digit writes (ECMA-262, MV of HexDigit)
+abbrev pub hex_value : ℕ → ℕ
+hex_value c = if nat_lt c 58 then c - 48 else if nat_lt c 71 then c - 55 else c - 87

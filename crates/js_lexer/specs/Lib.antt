@@ -1,0 +1,4 @@
+pub mod Characters
+pub mod Grammar
+pub mod Machines
+pub mod Rules

@@ -1,0 +1,44 @@
+// What is left of a source.
+
+ghost use Rattle.std.specs.Prelude.{◌≡◌, ◌∷◌, [], MatchOption};
+ghost use Rattle.js_lexer.specs.Characters.{first_of};
+
+use std::marker::Model;
+use std::str::Chars;
+
+/// What is left of a source, which contracts see as the list of its characters.
+#[derive(Drop)]
+pub struct Cursor<'a> {
+    rest: Chars<'a>,
+}
+
+impl<'a> Model for Cursor<'a> {
+    ghost use Rattle.std.specs.Prelude.{List, ℕ};
+    ghost use Rattle.std.specs.Str.{chars};
+    ghost use Rattle.std.specs.Str.Iter.{chars_rest};
+
+    ghost Value = { List ℕ };
+
+    ghost view = { λ c. chars (chars_rest c.rest) };
+}
+
+impl<'a> Cursor<'a> {
+    /// The next character, which stays there.
+    pub fn peek(&self) -> Option<char>
+        ensures { result ≡ first_of self.now }
+    {
+        self.rest.as_str().chars().next()
+    }
+
+    /// Takes the next character.
+    #[tactic(auto, using(crate::proofs::Texts::next_character, crate::proofs::Texts::no_characters))]
+    pub fn bump(&mut self) -> Option<char>
+        ensures { MatchOption result ((self.old ≡ []) × (self.new ≡ [])) (λ c. self.old ≡ c ∷ self.new) }
+    {
+        let bytes = self.rest.as_str().as_bytes();
+        if bytes.is_empty() {
+            return None;
+        }
+        self.rest.next()
+    }
+}

@@ -1,0 +1,4 @@
+// Trees, and why a source has none.
+#![tactic(auto)]
+
+pub mod fault;
