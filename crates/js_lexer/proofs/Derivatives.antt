@@ -295,6 +295,18 @@ reads_from (OnlyIf a test) c cs ys (w, e, t, h) =
     too_short r c cs ys e h =
         let i : (w : List ℕ) × (cs ≡ w ++ ys) = front r cs ys h in longer c cs i.0 (i.1 ∙ ap (λ z. i.0 ++ z) e)
 
+-- a rule that leads back to where it began may take nothing
+pub takes_some : (r : Rule) (c : ℕ) (cs : List ℕ) → may_be_empty r (Some c) ≡ false → Leads r (c ∷ cs) (c ∷ cs) → ⊥
+takes_some r c cs e h =
+    elim (reads_from r c cs (c ∷ cs) h) [
+      | inl i ↦ differ (may_be_empty r (Some c)) e i.0
+      | inr i ↦
+        let j : (w : List ℕ) × (cs ≡ w ++ c ∷ cs) = front (behind r c) cs (c ∷ cs) i in longer c cs j.0 j.1
+    ]
+  where
+    differ : (b : Bool) → b ≡ false → b ≡ true → ⊥
+    differ b h k = cc
+
 cond_true : (b : Bool) (r : Rule) (xs ys : List ℕ) → Leads (cond b r Never) xs ys → (b ≡ true) × Leads r xs ys
 cond_true true r xs ys h = (refl, h)
 cond_true false r xs ys h = absurd h

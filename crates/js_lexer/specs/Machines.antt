@@ -26,5 +26,5 @@ run step stop s [] = ended [] (stop s)
 run step stop s (c ∷ cs) = stepped (λ t. run step stop t cs) c cs (step s c)
 
 -- a function's answer and what it leaves of the text are this reading
-abbrev pub Gives : {K : Type 0} → Reading K → Result K Stop → List ℕ → Type 0
+abbrev pub Gives : {K E : Type 0} → Result (K × List ℕ) E → Result K E → List ℕ → Type 0
 Gives reading answer left = MatchResult answer (λ k. reading ≡ Ok (k, left)) (λ stop. reading ≡ Err stop)

@@ -2,5 +2,9 @@
 #![tactic(auto)]
 
 mod characters;
+mod comments;
 mod cursor;
+mod escapes;
 mod machine;
+mod names;
+mod quoted;
