@@ -1,3 +1,4 @@
+pub mod Comments_laws
 pub mod Derivatives
 pub mod Escapes_laws
 pub mod Machine_laws
