@@ -1,3 +1,4 @@
 pub mod Derivatives
 pub mod Machine_laws
+pub mod Punctuator_laws
 pub mod Texts
