@@ -1,4 +1,5 @@
 pub mod Derivatives
+pub mod Keyword_laws
 pub mod Machine_laws
 pub mod Punctuator_laws
 pub mod Texts

@@ -3,5 +3,6 @@
 
 mod characters;
 mod cursor;
+pub mod keywords;
 mod machine;
 pub mod punctuators;
