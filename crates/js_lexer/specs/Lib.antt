@@ -3,6 +3,8 @@ pub mod Comments
 pub mod Elements
 pub mod Escapes
 pub mod Grammar
+pub mod Keywords
 pub mod Machines
+pub mod Punctuators
 pub mod Quoted
 pub mod Rules

@@ -23,6 +23,15 @@ impl<'a> Model for Cursor<'a> {
 }
 
 impl<'a> Cursor<'a> {
+    /// Another cursor at the same place.
+    pub fn copy(&self) -> Cursor<'a>
+        ensures { result ≡ self.now }
+    {
+        Cursor {
+            rest: self.rest.as_str().chars(),
+        }
+    }
+
     /// The next character, which stays there.
     pub fn peek(&self) -> Option<char>
         ensures { result ≡ first_of self.now }

@@ -8,3 +8,5 @@ mod escapes;
 mod machine;
 mod names;
 mod quoted;
+pub mod keywords;
+pub mod punctuators;
