@@ -1,4 +1,5 @@
 pub mod Characters
 pub mod Grammar
 pub mod Machines
+pub mod Numbers
 pub mod Rules

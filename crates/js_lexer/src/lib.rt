@@ -4,3 +4,4 @@
 mod characters;
 mod cursor;
 mod machine;
+mod numbers;
