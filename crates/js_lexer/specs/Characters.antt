@@ -1,6 +1,6 @@
 -- Characters, and which of them ECMA-262 has in which class.
 use Rattle.std.specs.Prelude.{ℕ, Bool, ◌||◌, ◌&&◌, ◌==◌, ◌-◌, nat_le, nat_lt, if◌then◌else◌, List, [], ◌∷◌, Option, Some, None}
-use Rattle.std.specs.Char.{is_ascii_digit, is_ascii_hexdigit}
+use Rattle.std.specs.Char.{is_ascii_digit, is_ascii_hexdigit, is_ascii_alphabetic}
 use Rattle.unicode_ident.specs.Ident.{is_xid_start, is_xid_continue}
 
 -- the first character of a text
@@ -33,6 +33,10 @@ is_digit c = is_ascii_digit c
 -- ECMA-262, HexDigit
 abbrev pub is_hex_digit : ℕ → Bool
 is_hex_digit c = is_ascii_hexdigit c
+
+-- the start of a name or a digit: no numeric literal ends before one. ASCII's letters, `$` and `_` are starts of names; they stand here by themselves so that it can be seen without Unicode's tables
+unfoldable pub bars_number_end : ℕ → Bool
+bars_number_end c = is_digit c || is_ascii_alphabetic c || c == 36 || c == 95 || is_name_start c
 
 -- the number that a hexadecimal digit writes (ECMA-262, MV of HexDigit)
 abbrev pub hex_value : ℕ → ℕ

@@ -1,7 +1,7 @@
 -- The lexical grammar (ECMA-262, "ECMAScript Language: Lexical Grammar"), as far as the profile of the language has it,
 -- and the forms of it that the profile leaves out by name.
 use Rattle.std.specs.Prelude.{ℕ, ◌+◌, ◌*◌, ◌==◌, ◌&&◌, ◌||◌, not, nat_le, Bool, true, false, List, [], ◌∷◌}
-use Rattle.js_lexer.specs.Characters.{is_line_terminator, is_white_space, is_name_start, is_name_part, is_digit, is_hex_digit, hex_value}
+use Rattle.js_lexer.specs.Characters.{is_line_terminator, is_white_space, is_name_start, is_name_part, is_digit, is_hex_digit, bars_number_end, hex_value}
 use Rattle.js_lexer.specs.Rules.{Rule, Nothing, One, NotBefore, Then, Or, Many, OnlyIf}
 
 -- this character
@@ -199,7 +199,7 @@ non_decimal_integer separators =
 
 -- neither the start of a name nor a digit follows a numeric literal
 abbrev pub literal_end : Rule
-literal_end = NotBefore (λ c. is_name_start c || is_digit c)
+literal_end = NotBefore bars_number_end
 
 -- NumericLiteral, without BigInts
 abbrev pub numeric_literal : Bool → Rule

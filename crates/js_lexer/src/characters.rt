@@ -1,7 +1,7 @@
 // Characters, and which of them ECMA-262 has in which class.
 
 ghost use Rattle.std.specs.Prelude.{◌≡◌, ◌-◌, ◌+◌, ◌<◌, IsTrue};
-ghost use Rattle.js_lexer.specs.Characters.{is_line_terminator, is_white_space, is_name_start, is_name_part, is_digit, is_hex_digit, hex_value};
+ghost use Rattle.js_lexer.specs.Characters.{is_line_terminator, is_white_space, is_name_start, is_name_part, is_digit, is_hex_digit, bars_number_end, hex_value};
 
 use unicode_ident::{is_xid_continue, is_xid_start};
 
@@ -54,6 +54,14 @@ pub fn is_hex_digit(c: char) -> bool
     ensures { result ≡ is_hex_digit c }
 {
     c.is_ascii_hexdigit()
+}
+
+#[tactic(auto, unfolding(crate::specs::Characters::bars_number_end))]
+/// The start of a name or a digit, before which no numeric literal ends (ECMA-262, "Numeric Literals").
+pub fn bars_number_end(c: char) -> bool
+    ensures { result ≡ bars_number_end c }
+{
+    is_digit(c) || c.is_ascii_alphabetic() || c == '$' || c == '_' || is_name_start(c)
 }
 
 /// The number that a hexadecimal digit writes.
