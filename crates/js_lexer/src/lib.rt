@@ -5,12 +5,9 @@ mod characters;
 mod comments;
 mod cursor;
 mod escapes;
-mod machine;
-<<<<<<< HEAD
-mod names;
-mod quoted;
 pub mod keywords;
-pub mod punctuators;
-=======
+mod machine;
+mod names;
 mod numbers;
->>>>>>> 04bc50f8ba1e7a19843e22a67605e0484823cedb
+pub mod punctuators;
+mod quoted;
