@@ -6,5 +6,6 @@ pub mod Machine_laws
 pub mod Names_laws
 pub mod Punctuator_laws
 pub mod Quoted_laws
+pub mod Scan_steps
 pub mod Sequences
 pub mod Texts

@@ -9,3 +9,4 @@ pub mod Numbers
 pub mod Punctuators
 pub mod Quoted
 pub mod Rules
+pub mod Scanning

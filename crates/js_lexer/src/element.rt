@@ -2,7 +2,9 @@
 
 ghost use Rattle.std.specs.Prelude.{◌≡◌};
 ghost use Rattle.js_lexer.specs.Machines.{Gives};
-ghost use Rattle.js_lexer.specs.Scanning.{element_of, other_of, number_of, string_of, template_of, slash_of, dot_of, private_of, escape_of, word_of, mark_of};
+ghost use Rattle.js_lexer.specs.Characters.{is_digit};
+ghost use Rattle.js_lexer.specs.Rules.{begins_with};
+ghost use Rattle.js_lexer.specs.Scanning.{element_of, unnamed_of, other_of, number_of, string_of, template_of, slash_of, dot_of, private_of, escape_of, word_of, mark_of};
 
 use crate::characters::{is_digit, is_line_terminator, is_name_start, is_white_space};
 use crate::comments::{block_comment, skip_line};
@@ -10,8 +12,8 @@ use crate::cursor::Cursor;
 use crate::escapes::Escape;
 use crate::machine::{Stop, read};
 use crate::names::skip_name;
-use crate::numbers::{Numeral, numeral};
-use crate::punctuators::{Punctuator, punctuator};
+use crate::numbers::{Numeral, numeric_literal};
+use crate::punctuators::{Punctuator, read_punctuator};
 use crate::quoted::{End, Quote, quoted_text};
 use crate::token::TemplatePart;
 
@@ -55,8 +57,9 @@ pub enum NoElement {
     LeftOut(Form),
 }
 
+#[tactic(auto, using(crate::proofs::Scan_steps::unnamed_next))]
 /// Takes the next element. `inside` says whether a `}` goes on with a template. After a refusal it is left open how much was taken.
-pub fn element(cursor: &mut Cursor, inside: bool) -> Result<Element, NoElement>
+pub fn take_element(cursor: &mut Cursor, inside: bool) -> Result<Element, NoElement>
     ensures { Gives (element_of inside cursor.old) result cursor.new }
 {
     let Some(c) = cursor.peek() else {
@@ -66,14 +69,21 @@ pub fn element(cursor: &mut Cursor, inside: bool) -> Result<Element, NoElement>
         cursor.bump();
         return word(cursor);
     }
+    unnamed(cursor, c, inside)
+}
+
+/// An element that begins with `c`, which begins no name.
+fn unnamed(cursor: &mut Cursor, c: char, inside: bool) -> Result<Element, NoElement>
+    ensures { Gives (unnamed_of inside c cursor.old) result cursor.new }
+{
     if is_white_space(c) || is_line_terminator(c) {
         cursor.bump();
-        return Ok(Element::Gap);
+        Ok(Element::Gap)
+    } else if is_digit(c) {
+        number(cursor)
+    } else {
+        other(cursor, c, inside)
     }
-    if is_digit(c) {
-        return number(cursor);
-    }
-    other(cursor, c, inside)
 }
 
 /// An element that begins with `c`, which begins neither a name nor a decimal integer.
@@ -112,7 +122,7 @@ fn word(cursor: &mut Cursor) -> Result<Element, NoElement>
 fn number(cursor: &mut Cursor) -> Result<Element, NoElement>
     ensures { Gives (number_of cursor.old) result cursor.new }
 {
-    match numeral(cursor) {
+    match numeric_literal(cursor) {
         Ok(Numeral::Number) => Ok(Element::Number),
         Ok(Numeral::Separated) => Err(NoElement::LeftOut(Form::Separator)),
         Ok(Numeral::BigInt) => Err(NoElement::LeftOut(Form::BigInt)),
@@ -176,9 +186,19 @@ fn dot(cursor: &mut Cursor) -> Result<Element, NoElement>
 {
     let mut ahead = cursor.copy();
     ahead.bump();
-    match ahead.peek() {
-        Some(c) if is_digit(c) => number(cursor),
-        _ => mark(cursor),
+    if is_digit_next(&ahead) {
+        number(cursor)
+    } else {
+        mark(cursor)
+    }
+}
+
+fn is_digit_next(cursor: &Cursor) -> bool
+    ensures { result ≡ begins_with is_digit cursor.now }
+{
+    match cursor.peek() {
+        Some(c) => is_digit(c),
+        None => false,
     }
 }
 
@@ -215,7 +235,7 @@ fn private(cursor: &mut Cursor) -> Result<Element, NoElement>
 fn mark(cursor: &mut Cursor) -> Result<Element, NoElement>
     ensures { Gives (mark_of cursor.old) result cursor.new }
 {
-    match punctuator(cursor) {
+    match read_punctuator(cursor) {
         Some(mark) => Ok(Element::Punctuator(mark)),
         None => Err(NoElement::Stopped(Stop::Bad)),
     }

@@ -4,6 +4,7 @@
 mod characters;
 mod comments;
 mod cursor;
+mod element;
 mod escapes;
 pub mod keywords;
 mod machine;
@@ -11,3 +12,4 @@ mod names;
 mod numbers;
 pub mod punctuators;
 mod quoted;
+pub mod token;
