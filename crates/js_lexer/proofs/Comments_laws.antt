@@ -11,7 +11,7 @@ use Rattle.js_lexer.specs.Rules.{Rule, Never, Nothing, One, NotBefore, Then, Or,
 use Rattle.js_lexer.specs.Grammar.{char, is, not_asterisk, rest_of_comment}
 use Rattle.js_lexer.specs.Machines.{Reading, run}
 use Rattle.js_lexer.specs.Comments.{comment_step, comment_stop, inside_step}
-use Rattle.js_lexer.specs.Elements.{skip}
+use Rattle.js_lexer.specs.Skipping.{skip}
 use Rattle.js_lexer.proofs.Derivatives.{behind, may_be_empty, goes, ends, stuck, stuck_there, ends_before, ends_there}
 use Rattle.js_lexer.proofs.Machine_laws.{Follows, Stops, Reads, exact}
 use Rattle.js_lexer.proofs.Sequences.{past_lookahead, no_lookahead}

@@ -1,9 +1,9 @@
 pub mod Comments_laws
 pub mod Derivatives
 pub mod Escapes_laws
+pub mod Firsts
 pub mod Keyword_laws
 pub mod Machine_laws
-pub mod Names_laws
 pub mod Punctuator_laws
 pub mod Quoted_laws
 pub mod Scan_steps

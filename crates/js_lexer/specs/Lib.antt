@@ -10,3 +10,4 @@ pub mod Punctuators
 pub mod Quoted
 pub mod Rules
 pub mod Scanning
+pub mod Skipping

@@ -22,7 +22,7 @@ use Rattle.js_lexer.specs.declared.token.TemplatePart.{TemplatePart}
 use Rattle.js_lexer.specs.declared.token.TemplatePart.TheVariants as templates
 use Rattle.js_lexer.specs.Characters.{is_digit, is_line_terminator, is_name_part, is_name_start, is_white_space}
 use Rattle.js_lexer.specs.Comments.{comment_step, comment_stop}
-use Rattle.js_lexer.specs.Elements.{skip}
+use Rattle.js_lexer.specs.Skipping.{skip}
 use Rattle.js_lexer.specs.Escapes.{escape_step, escape_stop}
 use Rattle.js_lexer.specs.Grammar.{in_line}
 use Rattle.js_lexer.specs.Machines.{Reading, run}

@@ -4,7 +4,7 @@ ghost use Rattle.std.specs.Prelude.{◌≡◌};
 ghost use Rattle.js_lexer.specs.Machines.{run, Gives};
 ghost use Rattle.js_lexer.specs.Comments.{comment_step, comment_stop};
 ghost use Rattle.js_lexer.specs.Grammar.{in_line};
-ghost use Rattle.js_lexer.specs.Elements.{skip};
+ghost use Rattle.js_lexer.specs.Skipping.{skip};
 ghost use Rattle.js_lexer.specs.declared.comments.Comment.TheVariants as comments;
 
 use crate::characters::is_line_terminator;

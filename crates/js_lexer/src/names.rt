@@ -2,7 +2,7 @@
 
 ghost use Rattle.std.specs.Prelude.{◌≡◌};
 ghost use Rattle.js_lexer.specs.Characters.{is_name_part};
-ghost use Rattle.js_lexer.specs.Elements.{skip};
+ghost use Rattle.js_lexer.specs.Skipping.{skip};
 
 use crate::characters::is_name_part;
 use crate::cursor::Cursor;

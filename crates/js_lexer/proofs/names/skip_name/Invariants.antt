@@ -1,6 +1,6 @@
 use Rattle.std.proofs.Common.{◌≡◌, ℕ, length}
 use Rattle.js_lexer.specs.Characters.{is_name_part}
-use Rattle.js_lexer.specs.Elements.{skip}
+use Rattle.js_lexer.specs.Skipping.{skip}
 use Rattle.js_lexer.proofs.names.skip_name.Given as goal
 
 abbrev pub invariant-loop-c : goal.invariant-loop-c
