@@ -1,3 +1,4 @@
+pub mod Beginnings
 pub mod Comments_laws
 pub mod Derivatives
 pub mod Escapes_laws
