@@ -12,7 +12,7 @@ use Rattle.js_lexer.specs.declared.token.TemplatePart.TheVariants as templates
 use Rattle.js_lexer.specs.Characters.{is_name_start, is_digit, is_white_space, is_line_terminator}
 use Rattle.js_lexer.specs.Elements.{gap, Stands, Shows, IsTemplate, MayStand}
 use Rattle.js_lexer.specs.Grammar.{char, is, is_nonzero_digit, digits, more_digits, optional, exponent, rest_of_line, rest_of_comment, unicode_escape, decimal_literal, decimal_integer, non_decimal_integer, numeric_literal, bigint, literal_end}
-use Rattle.js_lexer.specs.Punctuators.{punctuator_of, single, singles, named, begun, IsPunctuator}
+use Rattle.js_lexer.specs.Punctuators.{punctuator_of, single, singles, named, begun, grown, grows, IsPunctuator}
 use Rattle.js_lexer.specs.Rules.{Rule, Then, One, Leads, begins_with}
 use Rattle.js_lexer.proofs.Punctuator_laws.{punctuator_exact}
 
@@ -30,7 +30,7 @@ may_begin inside (elements.Template templates.Whole) c cs = c == 96
 may_begin inside (elements.Template templates.Head) c cs = c == 96
 may_begin inside (elements.Template templates.Middle) c cs = c == 125 && inside
 may_begin inside (elements.Template templates.Tail) c cs = c == 125 && inside
-may_begin inside (elements.Punctuator p) c cs = is_some (single c)
+may_begin inside (elements.Punctuator p) c cs = is_some (single c) && not (c == 125 && inside)
 
 -- whether a form may
 abbrev pub form_begins : Form → ℕ → List ℕ → Bool
@@ -93,6 +93,34 @@ begun_some (Some p) cs r h = refl
 mark_begins : (p : Punctuator) (c : ℕ) (cs ys : List ℕ) → IsPunctuator p (c ∷ cs) ys → is_some (single c) ≡ true
 mark_begins p c cs ys h = begun_some (single c) cs (p, ys) ((punctuator_exact p (c ∷ cs) ys).0 h)
 
+-- a `}` alone is read as that
+brace_alone : (cs : List ℕ) → (grown punctuators.RightBrace cs).0 ≡ punctuators.RightBrace
+brace_alone [] = refl
+brace_alone (c ∷ cs) = by_equals (c == 61)
+  where
+    by_equals : (b : Bool) → (grows (λ q. grown q cs) punctuators.RightBrace c cs (cond b None None)).0 ≡ punctuators.RightBrace
+    by_equals true = refl
+    by_equals false = refl
+
+brace_mark : (p : Punctuator) (cs ys : List ℕ) → IsPunctuator p (125 ∷ cs) ys → p ≡ punctuators.RightBrace
+brace_mark p cs ys h =
+    let e : Some (grown punctuators.RightBrace cs) ≡ Some (p, ys) = (punctuator_exact p (125 ∷ cs) ys).0 h in
+    sym (out (grown punctuators.RightBrace cs) (p, ys) e) ∙ brace_alone cs
+  where
+    out : (r s : Punctuator × List ℕ) → Some r ≡ Some s → r.0 ≡ s.0
+    out r s h = cc
+
+mark_stands : (inside : Bool) (p : Punctuator) (c : ℕ) (cs ys : List ℕ) → IsPunctuator p (c ∷ cs) ys → MayStand inside p → (is_some (single c) && not (c == 125 && inside)) ≡ true
+mark_stands inside p c cs ys h m = both_true (is_some (single c)) (not (c == 125 && inside)) (mark_begins p c cs ys h) (by_brace (c == 125) inside refl m)
+  where
+    equal : (c n : ℕ) → (c == n) ≡ true → c ≡ n
+    equal c n h = grind (arith, nat_tests)
+
+    by_brace : (b inside : Bool) → (c == 125) ≡ b → MayStand inside p → not (b && inside) ≡ true
+    by_brace true true e m = absurd (m refl (brace_mark p cs ys (subst (λ z. IsPunctuator p (z ∷ cs) ys) (equal c 125 e) h)))
+    by_brace true false e m = refl
+    by_brace false inside e m = refl
+
 gap_begins : (c : ℕ) (cs ys : List ℕ) → Leads gap (c ∷ cs) ys → ((is_white_space c || is_line_terminator c) || (c == 47 && begins_with is_comment_second cs)) ≡ true
 gap_begins c cs ys (inl h) = or_left (is_white_space c || is_line_terminator c) (c == 47 && begins_with is_comment_second cs) (or_left (is_white_space c) (is_line_terminator c) h.0)
 gap_begins c cs ys (inr (inl h)) = or_left (is_white_space c || is_line_terminator c) (c == 47 && begins_with is_comment_second cs) (or_right (is_white_space c) (is_line_terminator c) h.0)
@@ -113,7 +141,7 @@ begins inside (elements.Template templates.Whole) c cs ys (ms, h, k) = h.0
 begins inside (elements.Template templates.Head) c cs ys (ms, h, k) = h.0
 begins inside (elements.Template templates.Middle) c cs ys (i, (ms, h, k)) = both_true (c == 125) inside h.0 i
 begins inside (elements.Template templates.Tail) c cs ys (i, (ms, h, k)) = both_true (c == 125) inside h.0 i
-begins inside (elements.Punctuator p) c cs ys h = mark_begins p c cs ys h.0
+begins inside (elements.Punctuator p) c cs ys h = mark_stands inside p c cs ys h.0 h.1
 
 pub form_begins_so : (form : Form) (c : ℕ) (cs : List ℕ) → Shows form (c ∷ cs) → form_begins form c cs ≡ true
 form_begins_so forms.BigInt c cs (ys, h) = bigint_begins c cs ys h

@@ -2,11 +2,13 @@ pub mod Beginnings
 pub mod Comments_laws
 pub mod Derivatives
 pub mod Escapes_laws
+pub mod Exactly
 pub mod Firsts
 pub mod Keyword_laws
 pub mod Machine_laws
 pub mod Punctuator_laws
 pub mod Quoted_laws
+pub mod Quoted_taken
 pub mod Scan_steps
 pub mod Sequences
 pub mod Texts
