@@ -6,9 +6,11 @@ pub mod Exactly
 pub mod Firsts
 pub mod Keyword_laws
 pub mod Machine_laws
+pub mod Marks_taken
 pub mod Punctuator_laws
 pub mod Quoted_laws
 pub mod Quoted_taken
 pub mod Scan_steps
 pub mod Sequences
 pub mod Texts
+pub mod Words_taken
