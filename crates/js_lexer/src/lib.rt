@@ -3,6 +3,10 @@
 
 mod characters;
 mod cursor;
+#[cfg(test)]
+mod keyword_tests;
 pub mod keywords;
 mod machine;
+#[cfg(test)]
+mod punctuator_tests;
 pub mod punctuators;
