@@ -1,5 +1,5 @@
 -- The keyword that is found among those of a word's length is the one whose text is the word.
-use Rattle.std.proofs.Common.{◌≡◌, ◌↔◌, ℕ, Bool, true, false, cond, List, [], ◌∷◌, length, Option, Some, None, IfSome, IfNone, refl, sym, ap, subst, ◌∙◌}
+use Rattle.std.proofs.Common.{◌≡◌, ◌↔◌, ℕ, Bool, true, false, cond, List, [], ◌∷◌, length, Option, Some, None, IfSome, IfNone, refl, sym, subst, ◌∙◌}
 use Rattle.std.specs.List.{find}
 use Rattle.std.specs.Str.{bytes_eq}
 use Rattle.std.proofs.lemmas.Slice.Eq.{bytes_eq-Decides}
@@ -26,8 +26,8 @@ same_text us vs h = (bytes_eq-Decides us vs).0 h
 
 pub keyword_exact : (word : List ℕ) (k : Keyword) → (keyword_text k ≡ word) ↔ (keyword_named word ≡ Some k)
 keyword_exact word k = (
-    λ h. subst (λ z. keyword_named z ≡ Some k) h (finds_each k),
-    λ h. same_text (keyword_text k) word (subst (λ z. IfSome z (λ x. is_text_of word x ≡ true)) h (found_passes (is_text_of word) (of_length (length word)))),
+  λ h. subst (λ z. keyword_named z ≡ Some k) h (finds_each k),
+  λ h. same_text (keyword_text k) word (subst (λ z. IfSome z (λ x. is_text_of word x ≡ true)) h (found_passes (is_text_of word) (of_length (length word)))),
 )
 
 pub named_so : (r : Option Keyword) (word : List ℕ) → r ≡ keyword_named word → IfSome r (λ k. keyword_text k ≡ word)

@@ -1,10 +1,8 @@
 -- What is read a character at a time is the longest punctuator that stands there.
-use Rattle.std.proofs.Common.{◌≡◌, ◌↔◌, ℕ, ◌≤◌, ◌==◌, ◌&&◌, ◌||◌, not, Bool, true, false, cond, List, [], ◌∷◌, ◌++◌, length, Option, Some, None, IfSome, IfNone, MatchOption, refl, sym, ap, subst, ◌∙◌, arith, append_assoc, length-append}
-use Rattle.js_lexer.specs.Characters.{is_digit}
-use Rattle.js_lexer.specs.Rules.{begins_with}
+use Rattle.std.proofs.Common.{◌≡◌, ◌↔◌, ℕ, ◌≤◌, ◌==◌, ◌&&◌, Bool, true, false, cond, List, [], ◌∷◌, ◌++◌, length, Option, Some, None, IfSome, IfNone, MatchOption, refl, sym, ap, subst, ◌∙◌, arith, append_assoc, length-append}
 use Rattle.js_lexer.specs.Punctuators.{text_of, follows, Stands, IsPunctuator, singles, named, single, with_equals, twice, if_next, extended, grows, grown, dots, question, started, begun, punctuator_of}
 use Rattle.js_lexer.specs.declared.punctuators.Punctuator.{Punctuator}
-use Rattle.js_lexer.specs.declared.punctuators.Punctuator.TheVariants.{LeftBrace, RightBrace, LeftParenthesis, RightParenthesis, LeftBracket, RightBracket, Dot, Ellipsis, Semicolon, Comma, Less, Greater, LessOrEqual, GreaterOrEqual, Equal, NotEqual, StrictEqual, StrictNotEqual, Plus, Minus, Star, Slash, Percent, StarStar, Increment, Decrement, ShiftLeft, ShiftRight, UnsignedShiftRight, Ampersand, Bar, Caret, Exclamation, Tilde, LogicalAnd, LogicalOr, Coalesce, Question, OptionalChain, Colon, Assign, AddAssign, SubtractAssign, MultiplyAssign, DivideAssign, RemainderAssign, ExponentiateAssign, ShiftLeftAssign, ShiftRightAssign, UnsignedShiftRightAssign, BitAndAssign, BitOrAssign, BitXorAssign, LogicalAndAssign, LogicalOrAssign, CoalesceAssign, Arrow}
+use Rattle.js_lexer.specs.declared.punctuators.Punctuator.TheVariants.{LeftBrace, Dot, Ellipsis, Less, Greater, Equal, NotEqual, Plus, Minus, Star, Slash, Percent, StarStar, ShiftLeft, ShiftRight, UnsignedShiftRight, Ampersand, Bar, Caret, Exclamation, LogicalAnd, LogicalOr, Coalesce, Question, OptionalChain, Assign}
 
 -- what is found, from a punctuator with this behind it: it stands at the same place, and is no shorter
 record Grows (p : Punctuator) (cs : List ℕ) (r : Punctuator × List ℕ) : Type 0 where

@@ -155,74 +155,78 @@ impl Keyword {
     }
 }
 
+static OF_TWO: [Keyword; 3] = [Keyword::Do, Keyword::If, Keyword::In];
+
+static OF_THREE: [Keyword; 5] = [
+    Keyword::For,
+    Keyword::New,
+    Keyword::Try,
+    Keyword::Var,
+    Keyword::Let,
+];
+
+static OF_FOUR: [Keyword; 8] = [
+    Keyword::Case,
+    Keyword::Else,
+    Keyword::Enum,
+    Keyword::Null,
+    Keyword::This,
+    Keyword::True,
+    Keyword::Void,
+    Keyword::With,
+];
+
+static OF_FIVE: [Keyword; 9] = [
+    Keyword::Break,
+    Keyword::Catch,
+    Keyword::Class,
+    Keyword::Const,
+    Keyword::False,
+    Keyword::Super,
+    Keyword::Throw,
+    Keyword::While,
+    Keyword::Yield,
+];
+
+static OF_SIX: [Keyword; 8] = [
+    Keyword::Delete,
+    Keyword::Export,
+    Keyword::Import,
+    Keyword::Return,
+    Keyword::Switch,
+    Keyword::Typeof,
+    Keyword::Static,
+    Keyword::Public,
+];
+
+static OF_SEVEN: [Keyword; 5] = [
+    Keyword::Default,
+    Keyword::Extends,
+    Keyword::Finally,
+    Keyword::Package,
+    Keyword::Private,
+];
+
+static OF_EIGHT: [Keyword; 3] = [Keyword::Continue, Keyword::Debugger, Keyword::Function];
+
+static OF_NINE: [Keyword; 2] = [Keyword::Interface, Keyword::Protected];
+
+static OF_TEN: [Keyword; 2] = [Keyword::Instanceof, Keyword::Implements];
+
 /// The keywords of a length in bytes.
 fn of_length(length: usize) -> &'static [Keyword]
     ensures { result.now ≡ of_length length }
 {
     match length {
-        2 => &[
-            Keyword::Do,
-            Keyword::If,
-            Keyword::In,
-        ],
-        3 => &[
-            Keyword::For,
-            Keyword::New,
-            Keyword::Try,
-            Keyword::Var,
-            Keyword::Let,
-        ],
-        4 => &[
-            Keyword::Case,
-            Keyword::Else,
-            Keyword::Enum,
-            Keyword::Null,
-            Keyword::This,
-            Keyword::True,
-            Keyword::Void,
-            Keyword::With,
-        ],
-        5 => &[
-            Keyword::Break,
-            Keyword::Catch,
-            Keyword::Class,
-            Keyword::Const,
-            Keyword::False,
-            Keyword::Super,
-            Keyword::Throw,
-            Keyword::While,
-            Keyword::Yield,
-        ],
-        6 => &[
-            Keyword::Delete,
-            Keyword::Export,
-            Keyword::Import,
-            Keyword::Return,
-            Keyword::Switch,
-            Keyword::Typeof,
-            Keyword::Static,
-            Keyword::Public,
-        ],
-        7 => &[
-            Keyword::Default,
-            Keyword::Extends,
-            Keyword::Finally,
-            Keyword::Package,
-            Keyword::Private,
-        ],
-        8 => &[
-            Keyword::Continue,
-            Keyword::Debugger,
-            Keyword::Function,
-        ],
-        9 => &[
-            Keyword::Interface,
-            Keyword::Protected,
-        ],
-        10 => &[
-            Keyword::Instanceof,
-            Keyword::Implements,
-        ],
+        2 => &OF_TWO,
+        3 => &OF_THREE,
+        4 => &OF_FOUR,
+        5 => &OF_FIVE,
+        6 => &OF_SIX,
+        7 => &OF_SEVEN,
+        8 => &OF_EIGHT,
+        9 => &OF_NINE,
+        10 => &OF_TEN,
         _ => &[],
     }
 }

@@ -13,3 +13,7 @@ mod numbers;
 pub mod punctuators;
 mod quoted;
 pub mod token;
+#[cfg(test)]
+mod keyword_tests;
+#[cfg(test)]
+mod punctuator_tests;

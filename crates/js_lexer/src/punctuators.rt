@@ -233,7 +233,7 @@ fn may_follow(punctuator: Punctuator, cursor: &Cursor) -> bool
     }
 }
 
-/// Takes what makes the punctuator in front of the cursor longer, a character at a time.
+/// Behind a punctuator: takes what makes it longer, a character at a time.
 fn grown(cursor: &mut Cursor, shortest: Punctuator) -> Punctuator
     ensures { (result, cursor.new) ≡ grown shortest cursor.old }
 {
@@ -248,7 +248,7 @@ fn grown(cursor: &mut Cursor, shortest: Punctuator) -> Punctuator
     found
 }
 
-/// Behind a `.`: takes two more, where they are there.
+/// Behind a `.`: takes two more, where both stand there (`...`), or nothing.
 fn dots(cursor: &mut Cursor) -> Punctuator
     ensures { (result, cursor.new) ≡ dots cursor.old }
 {
@@ -260,7 +260,7 @@ fn dots(cursor: &mut Cursor) -> Punctuator
     Punctuator::Dot
 }
 
-/// Behind a `?`.
+/// Behind a `?`: takes a `.` that no digit follows (`?.`), or else what makes `?` longer.
 fn question(cursor: &mut Cursor) -> Punctuator
     ensures { (result, cursor.new) ≡ question cursor.old }
 {
@@ -272,7 +272,7 @@ fn question(cursor: &mut Cursor) -> Punctuator
     grown(cursor, Punctuator::Question)
 }
 
-/// Takes what makes the punctuator of one character in front of the cursor longer.
+/// Behind a punctuator of one character: takes what makes it longer.
 fn started(cursor: &mut Cursor, first: Punctuator) -> Punctuator
     ensures { (result, cursor.new) ≡ started first cursor.old }
 {
