@@ -1,6 +1,7 @@
 // What is left of a source.
 
 ghost use Rattle.std.specs.Prelude.{◌≡◌, ◌∷◌, [], MatchOption};
+ghost use Rattle.std.specs.Str.{chars};
 ghost use Rattle.js_lexer.specs.Characters.{first_of};
 
 use std::marker::Model;
@@ -23,6 +24,13 @@ impl<'a> Model for Cursor<'a> {
 }
 
 impl<'a> Cursor<'a> {
+    /// At the start of a text.
+    pub fn new(text: &'a str) -> Cursor<'a>
+        ensures { result ≡ chars text.now }
+    {
+        Cursor { rest: text.chars() }
+    }
+
     /// The next character, which stays there.
     pub fn peek(&self) -> Option<char>
         ensures { result ≡ first_of self.now }

@@ -5,3 +5,5 @@ mod characters;
 mod cursor;
 mod machine;
 mod numbers;
+#[cfg(test)]
+mod numbers_tests;
