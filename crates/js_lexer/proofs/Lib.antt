@@ -7,9 +7,14 @@ pub mod Firsts
 pub mod Keyword_laws
 pub mod Machine_laws
 pub mod Marks_taken
+pub mod Number_characters
+pub mod Number_laws
+pub mod Number_rests
+pub mod Number_steps
 pub mod Punctuator_laws
 pub mod Quoted_laws
 pub mod Quoted_taken
+pub mod Rule_steps
 pub mod Scan_steps
 pub mod Sequences
 pub mod Texts

@@ -16,4 +16,6 @@ pub mod token;
 #[cfg(test)]
 mod keyword_tests;
 #[cfg(test)]
+mod numbers_tests;
+#[cfg(test)]
 mod punctuator_tests;
