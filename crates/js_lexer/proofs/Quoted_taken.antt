@@ -19,7 +19,7 @@ use Rattle.js_lexer.specs.Scanning.{string_taken, template_taken, part_of}
 use Rattle.js_lexer.proofs.Exactly.{Exactly, of_only, is_string, is_template, strings, template_parts, double_others, single_others, accent_others, brace_others, double_form, single_form, accent_form, brace_form}
 use Rattle.js_lexer.proofs.Quoted_laws.{body, quoted_exact, same_end}
 
-abbrev reading : Quote → List ℕ → Reading End
+abbrev pub reading : Quote → List ℕ → Reading End
 reading q xs = run quoted_step quoted_stop (opened q) xs
 
 same_one : (o k : End) → same_end o k ≡ true → o ≡ k
