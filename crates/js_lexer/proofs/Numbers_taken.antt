@@ -15,7 +15,7 @@ use Rattle.js_lexer.specs.declared.quoted.Quote.TheVariants as quotes
 use Rattle.js_lexer.specs.declared.token.TemplatePart.TheVariants as templates
 use Rattle.js_lexer.specs.Characters.{is_name_start, is_digit, is_white_space, is_line_terminator}
 use Rattle.js_lexer.specs.Elements.{gap, Stands, Shows, StandsNone}
-use Rattle.js_lexer.specs.Grammar.{numeric_literal, bigint}
+use Rattle.js_lexer.specs.Grammar.{char, numeric_literal, bigint}
 use Rattle.js_lexer.specs.Machines.{Reading, run}
 use Rattle.js_lexer.specs.Numbers.{number_step, number_stop}
 use Rattle.js_lexer.specs.Punctuators.{punctuator_of, single, singles, named, IsPunctuator}
@@ -341,3 +341,85 @@ other_no_form inside c cs o = no_form c cs none_there
 
 exactly_other : (inside : Bool) (c : ℕ) (cs : List ℕ) → Other inside c → Exactly inside (c ∷ cs) (mark_of (c ∷ cs))
 exactly_other inside c cs o = exactly_mark inside c cs (other_others inside c cs o) (other_no_form inside c cs o) o.brace (punctuator_of (c ∷ cs)) refl
+
+-- by the two cases of a test
+by_test : {A : Type 0} (P : A → Type 0) (b : Bool) (x y : A) → (b ≡ true → P x) → (b ≡ false → P y) → P (cond b x y)
+by_test P true x y f g = f refl
+by_test P false x y f g = g refl
+
+-- a certain character
+at_one : (inside : Bool) (cs : List ℕ) (c n : ℕ) (taking : ℕ → Taking) → (c == n) ≡ true → Exactly inside (n ∷ cs) (taking n) → Exactly inside (c ∷ cs) (taking c)
+at_one inside cs c n taking e h = subst (λ z. Exactly inside (z ∷ cs) (taking z)) (sym (equal c n e)) h
+
+brace_inside : (inside : Bool) (c : ℕ) (cs : List ℕ) → (c == 125 && inside) ≡ true → Exactly inside (c ∷ cs) (template_of templates.Tail templates.Middle (c ∷ cs))
+brace_inside inside c cs h =
+    let p : (c == 125 ≡ true) × (inside ≡ true) = both (c == 125) inside h in
+    at_one inside cs c 125 (λ z. template_of templates.Tail templates.Middle (z ∷ cs)) p.0
+    (subst (λ b. Exactly b (125 ∷ cs) (template_of templates.Tail templates.Middle (125 ∷ cs))) (sym p.1) (exactly_brace cs (reading quotes.Template cs) refl))
+  where
+    both : (a b : Bool) → (a && b) ≡ true → (a ≡ true) × (b ≡ true)
+    both true b h = (refl, h)
+    both false b h = absurd (cc)
+
+other_exactly : (inside : Bool) (c : ℕ) (cs : List ℕ) → is_name_start c ≡ false → (is_white_space c || is_line_terminator c) ≡ false → is_digit c ≡ false → Exactly inside (c ∷ cs) (other_of inside c (c ∷ cs))
+other_exactly inside c cs s w d =
+    by_test (Exactly inside (c ∷ cs)) (c == 34) _ _ (λ e. at_one inside cs c 34 (λ z. string_of quotes.Double (z ∷ cs)) e (exactly_double inside cs (reading quotes.Double cs) refl))
+    (λ n1. by_test (Exactly inside (c ∷ cs)) (c == 39) _ _ (λ e. at_one inside cs c 39 (λ z. string_of quotes.Single (z ∷ cs)) e (exactly_single inside cs (reading quotes.Single cs) refl))
+    (λ n2. by_test (Exactly inside (c ∷ cs)) (c == 96) _ _ (λ e. at_one inside cs c 96 (λ z. template_of templates.Whole templates.Head (z ∷ cs)) e (exactly_accent inside cs (reading quotes.Template cs) refl))
+    (λ n3. by_test (Exactly inside (c ∷ cs)) (c == 125 && inside) _ _ (λ e. brace_inside inside c cs e)
+    (λ n4. by_test (Exactly inside (c ∷ cs)) (c == 47) _ _ (λ e. at_one inside cs c 47 (λ z. slash_of (z ∷ cs)) e (exactly_slash inside cs))
+    (λ n5. by_test (Exactly inside (c ∷ cs)) (c == 46) _ _ (λ e. at_one inside cs c 46 (λ z. dot_of (z ∷ cs)) e (exactly_point inside cs))
+    (λ n6. by_test (Exactly inside (c ∷ cs)) (c == 92) _ _ (λ e. at_one inside cs c 92 (λ z. escape_of (z ∷ cs)) e (exactly_backslash inside cs (escape_reading cs) refl))
+    (λ n7. by_test (Exactly inside (c ∷ cs)) (c == 35) _ _ (λ e. at_one inside cs c 35 (λ z. private_of (z ∷ cs)) e (exactly_hash inside cs))
+    (λ n8. by_test (Exactly inside (c ∷ cs)) (c == 64) _ _ (λ e. at_one inside cs c 64 (λ z. Err (LeftOut forms.Decorator)) e (exactly_at inside cs))
+    (λ n9. exactly_other inside c cs (record { start = s; space = w; digit = d; double = n1; single = n2; accent = n3; brace = n4; slash = n5; point = n6; backslash = n7; hash = n8; at = n9 }))))))))))
+
+unnamed_exactly : (inside : Bool) (c : ℕ) (cs : List ℕ) → is_name_start c ≡ false → Exactly inside (c ∷ cs) (unnamed_of inside c (c ∷ cs))
+unnamed_exactly inside c cs s =
+    by_test (Exactly inside (c ∷ cs)) (is_white_space c || is_line_terminator c) _ _ (exactly_space inside c cs)
+    (λ w. by_test (Exactly inside (c ∷ cs)) (is_digit c) _ _ (exactly_digit inside c cs) (other_exactly inside c cs s w))
+
+-- nothing stands at the end of a text
+
+nothing_stands : (inside : Bool) (e : Element) (ys : List ℕ) → Stands inside e [] ys → ⊥
+nothing_stands inside elements.Gap ys (inl h) = h
+nothing_stands inside elements.Gap ys (inr (inl h)) = h
+nothing_stands inside elements.Gap ys (inr (inr (inl (ms, h, k)))) = h
+nothing_stands inside elements.Gap ys (inr (inr (inr (ms, h, k)))) = h
+nothing_stands inside elements.Word ys (ms, h, k) = h
+nothing_stands inside elements.Number ys (ms, inl (inl (ns, inl h, l)), k) = h
+nothing_stands inside elements.Number ys (ms, inl (inl (ns, inr (os, h, m), l)), k) = h
+nothing_stands inside elements.Number ys (ms, inl (inr (ns, h, l)), k) = h
+nothing_stands inside elements.Number ys (ms, inr (ns, h, l), k) = h
+nothing_stands inside elements.String ys (inl (ms, h, k)) = h
+nothing_stands inside elements.String ys (inr (ms, h, k)) = h
+nothing_stands inside (elements.Template templates.Whole) ys (ms, h, k) = h
+nothing_stands inside (elements.Template templates.Head) ys (ms, h, k) = h
+nothing_stands inside (elements.Template templates.Middle) ys (i, (ms, h, k)) = h
+nothing_stands inside (elements.Template templates.Tail) ys (i, (ms, h, k)) = h
+nothing_stands inside (elements.Punctuator p) ys h = out (p, ys) ((punctuator_exact p [] ys).0 h.0)
+  where
+    out : (r : Punctuator × List ℕ) → (let x : Option (Punctuator × List ℕ) = None in x) ≡ Some r → ⊥
+    out r h = cc
+
+nothing_shows : (form : Form) → Shows form [] → ⊥
+nothing_shows forms.BigInt (ys, (ms, inl (inl h), k)) = h
+nothing_shows forms.BigInt (ys, (ms, inl (inr (ns, h, l)), k)) = h
+nothing_shows forms.BigInt (ys, (ms, inr (ns, h, l), k)) = h
+nothing_shows forms.Separator (ys, (ms, inl (inl (ns, inl h, l)), k), n) = h
+nothing_shows forms.Separator (ys, (ms, inl (inl (ns, inr (os, h, m), l)), k), n) = h
+nothing_shows forms.Separator (ys, (ms, inl (inr (ns, h, l)), k), n) = h
+nothing_shows forms.Separator (ys, (ms, inr (ns, h, l), k), n) = h
+nothing_shows forms.Escape (ys, (ms, inl (zs, h, l), k)) = h
+nothing_shows forms.Escape (ys, (ms, inr e, (ns, h, k))) = none ms e h
+  where
+    none : (ms : List ℕ) → [] ≡ ms → Leads (char 92) ms ns → ⊥
+    none [] e h = h
+    none (x ∷ xs) e h = cc
+nothing_shows forms.Private (ys, (ms, h, k)) = h
+nothing_shows forms.Decorator (ys, h) = h
+
+-- the next element is taken exactly
+pub element_exactly : (inside : Bool) (xs : List ℕ) → Exactly inside xs (element_of inside xs)
+element_exactly inside [] = (nothing_stands inside, nothing_shows)
+element_exactly inside (c ∷ cs) = by_test (Exactly inside (c ∷ cs)) (is_name_start c) _ _ (exactly_word inside c cs) (unnamed_exactly inside c cs)
