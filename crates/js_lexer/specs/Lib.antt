@@ -5,9 +5,11 @@ pub mod Escapes
 pub mod Grammar
 pub mod Keywords
 pub mod Machines
+pub mod Nestings
 pub mod Numbers
 pub mod Punctuators
 pub mod Quoted
 pub mod Rules
 pub mod Scanning
 pub mod Skipping
+pub mod Spots

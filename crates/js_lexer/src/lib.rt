@@ -9,9 +9,11 @@ mod escapes;
 pub mod keywords;
 mod machine;
 mod names;
+mod nesting;
 mod numbers;
 pub mod punctuators;
 mod quoted;
+mod spot;
 pub mod token;
 #[cfg(test)]
 mod keyword_tests;
