@@ -1,3 +1,4 @@
+pub mod Answers
 pub mod Characters
 pub mod Comments
 pub mod Elements
@@ -12,4 +13,5 @@ pub mod Quoted
 pub mod Rules
 pub mod Scanning
 pub mod Skipping
+pub mod Sources
 pub mod Spots

@@ -1,6 +1,7 @@
 // What is left of a source.
 
-ghost use Rattle.std.specs.Prelude.{◌≡◌, ◌∷◌, [], MatchOption};
+ghost use Rattle.std.specs.Prelude.{◌≡◌, ◌↔◌, ℕ, List, ◌∷◌, ◌++◌, [], length, MatchOption, IsTrue};
+ghost use Rattle.std.specs.Str.{encode_utf8_all};
 ghost use Rattle.std.specs.Str.{chars};
 ghost use Rattle.js_lexer.specs.Characters.{first_of};
 
@@ -57,5 +58,30 @@ impl<'a> Cursor<'a> {
             return None;
         }
         self.rest.next()
+    }
+
+    /// Whether no character is left.
+    pub fn is_at_end(&self) -> bool
+        ensures { IsTrue result ↔ (self.now ≡ []) }
+    {
+        self.peek().is_none()
+    }
+
+    /// How many bytes are left.
+    #[tactic(auto, using(crate::proofs::Texts::bytes_left))]
+    pub fn left(&self) -> usize
+        ensures { result ≡ length (encode_utf8_all self.now) }
+    {
+        self.rest.as_str().as_bytes().len()
+    }
+
+    /// The bytes that stand between two cursors of one text.
+    #[tactic(auto, using(crate::proofs::Texts::bytes_between, crate::proofs::Texts::fits_between))]
+    pub fn bytes_to(&self, behind: &Cursor) -> &'a [u8]
+        requires { (w : List ℕ) × (self.now ≡ w ++ behind.now) }
+        ensures { (w : List ℕ) → self.now ≡ w ++ behind.now → result.now ≡ encode_utf8_all w }
+    {
+        let bytes = self.rest.as_str().as_bytes();
+        &bytes[..bytes.len() - behind.left()]
     }
 }

@@ -7,6 +7,7 @@ mod cursor;
 mod element;
 mod escapes;
 pub mod keywords;
+pub mod lexer;
 mod machine;
 mod names;
 mod nesting;
