@@ -16,6 +16,7 @@ pub mod Punctuator_laws
 pub mod Quoted_laws
 pub mod Quoted_taken
 pub mod Rule_steps
+pub mod Runs
 pub mod Scan_steps
 pub mod Sequences
 pub mod Texts
