@@ -12,6 +12,7 @@ pub mod Number_laws
 pub mod Number_rests
 pub mod Number_steps
 pub mod Numbers_taken
+pub mod Passing_laws
 pub mod Punctuator_laws
 pub mod Quoted_laws
 pub mod Quoted_taken

@@ -53,7 +53,7 @@ static WORDS: [(&str, Keyword); 45] = [
 #[test]
 fn each_keyword_is_found_by_its_text(rt: HostRuntime) {
     for (word, keyword) in &WORDS {
-        assert_eq!(rt; keyword_of(word), Some(*keyword), "{word}");
+        assert_eq!(rt; keyword_of(word.as_bytes()), Some(*keyword), "{word}");
         assert_eq!(rt; keyword.text(), *word);
     }
 }
@@ -80,6 +80,6 @@ fn other_words_are_none(rt: HostRuntime) {
         "console",
     ];
     for word in words {
-        assert_eq!(rt; keyword_of(word), None, "{word}");
+        assert_eq!(rt; keyword_of(word.as_bytes()), None, "{word}");
     }
 }

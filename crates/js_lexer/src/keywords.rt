@@ -232,14 +232,14 @@ fn of_length(length: usize) -> &'static [Keyword]
 }
 
 /// The first of the keywords whose text is the word.
-fn among(keywords: &[Keyword], word: &str) -> Option<Keyword>
+fn among(keywords: &[Keyword], word: &[u8]) -> Option<Keyword>
     ensures { result ≡ find (is_text_of word.now) keywords.now }
 {
-    keywords.iter().copied().find(|k| k.text() == word)
+    keywords.iter().copied().find(|k| k.text().as_bytes() == word)
 }
 
-/// The keyword whose text is the word, if there is one.
-pub fn keyword_of(word: &str) -> Option<Keyword>
+/// The keyword whose text the bytes of a word are, if there is one.
+pub fn keyword_of(word: &[u8]) -> Option<Keyword>
     ensures some { IfSome result (λ k. keyword_text k ≡ word.now) }
     ensures none { IfNone result ((k : Keyword) → ¬ (keyword_text k ≡ word.now)) }
 {

@@ -11,6 +11,7 @@ pub mod lexer;
 mod machine;
 mod names;
 mod nesting;
+mod passing;
 mod numbers;
 pub mod punctuators;
 mod quoted;
