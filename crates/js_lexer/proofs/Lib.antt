@@ -5,6 +5,7 @@ pub mod Escapes_laws
 pub mod Exactly
 pub mod Firsts
 pub mod Keyword_laws
+pub mod Lexer_laws
 pub mod Machine_laws
 pub mod Marks_taken
 pub mod Number_characters

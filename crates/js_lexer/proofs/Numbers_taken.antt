@@ -381,7 +381,7 @@ unnamed_exactly inside c cs s =
 
 -- nothing stands at the end of a text
 
-nothing_stands : (inside : Bool) (e : Element) (ys : List ℕ) → Stands inside e [] ys → ⊥
+pub nothing_stands : (inside : Bool) (e : Element) (ys : List ℕ) → Stands inside e [] ys → ⊥
 nothing_stands inside elements.Gap ys (inl h) = h
 nothing_stands inside elements.Gap ys (inr (inl h)) = h
 nothing_stands inside elements.Gap ys (inr (inr (inl (ms, h, k)))) = h
@@ -402,7 +402,7 @@ nothing_stands inside (elements.Punctuator p) ys h = out (p, ys) ((punctuator_ex
     out : (r : Punctuator × List ℕ) → (let x : Option (Punctuator × List ℕ) = None in x) ≡ Some r → ⊥
     out r h = cc
 
-nothing_shows : (form : Form) → Shows form [] → ⊥
+pub nothing_shows : (form : Form) → Shows form [] → ⊥
 nothing_shows forms.BigInt (ys, (ms, inl (inl h), k)) = h
 nothing_shows forms.BigInt (ys, (ms, inl (inr (ns, h, l)), k)) = h
 nothing_shows forms.BigInt (ys, (ms, inr (ns, h, l), k)) = h

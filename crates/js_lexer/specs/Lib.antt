@@ -5,6 +5,7 @@ pub mod Elements
 pub mod Escapes
 pub mod Grammar
 pub mod Keywords
+pub mod Lexing
 pub mod Machines
 pub mod Nestings
 pub mod Numbers

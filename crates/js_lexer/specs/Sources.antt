@@ -44,17 +44,21 @@ token_between from to kind = record { start = from.place; from = from.offset; to
 abbrev pub behind_token : Spot → Spot
 behind_token s = record { place = s.place; offset = s.offset; after_return = s.after_return; after_line = false }
 
+-- the state behind a token whose text ends at a spot
+abbrev pub pushed : State → Element → TokenKind → List ℕ → Spot → State
+pushed s e kind left to = record {
+  rest = left;
+  spot = behind_token to;
+  opens = nested e s.opens;
+  tokens = s.tokens ++ token_between s.spot to kind ∷ [];
+}
+
 -- the state behind a gap, and behind a token, with the text w
 abbrev pub over_gap : State → List ℕ → List ℕ → State
 over_gap s w left = record { rest = left; spot = over_all s.spot w; opens = s.opens; tokens = s.tokens }
 
 abbrev pub over_token : State → Element → TokenKind → List ℕ → List ℕ → State
-over_token s e kind w left = record {
-  rest = left;
-  spot = behind_token (over_all s.spot w);
-  opens = nested e s.opens;
-  tokens = s.tokens ++ token_between s.spot (over_all s.spot w) kind ∷ [];
-}
+over_token s e kind w left = pushed s e kind left (over_all s.spot w)
 
 -- one element more is taken: the one that stands there
 pub data Takes : State → State → Type 0 where

@@ -1,16 +1,210 @@
 // The tokens of a source.
 
-ghost use Rattle.std.specs.Prelude.{◌≡◌, length, List as Listed, IfOk, IfErr};
+ghost use Rattle.std.specs.Prelude.{◌≡◌, ◌+◌, ◌≤◌, ℕ, ◌++◌, [], length, List as Listed, IfOk, IfErr, OnOk, OnErr};
+ghost use Rattle.std.specs.Str.{IsUtf8, IsValidUpTo, chars, encode_utf8_all};
 ghost use Rattle.lava_base.specs.declared.place.Place.{Place};
 ghost use Rattle.js_tree.specs.declared.fault.SyntaxWhat.{SyntaxWhat};
-ghost use Rattle.js_lexer.specs.Answers.{HasCause, GivesTokens, Refuses, IsFault, StandInOrder};
-ghost use Rattle.js_lexer.specs.Sources.{IsTokens};
+ghost use Rattle.js_lexer.specs.Answers.{HasCause, GivesTokens, Refuses, IsFault, StandInOrder, form_name};
+ghost use Rattle.js_lexer.specs.Lexing.{AfterTake, AfterRun};
+ghost use Rattle.js_lexer.specs.Sources.{State, IsKind, IsTokens, pushed, opening, behind_mark, begins_hashbang, behind_hashbang};
+ghost use Rattle.js_lexer.specs.Spots.{IsSound, over_all};
+ghost use Rattle.js_lexer.specs.declared.element.Element.{Element};
+ghost use Rattle.js_lexer.specs.declared.element.Element.TheVariants as elements;
+ghost use Rattle.js_lexer.specs.declared.lexer.Refusal.TheVariants as refusals;
 ghost use Rattle.js_lexer.specs.declared.token.Token.{Token};
 
-use crate::token::Token;
-use js_tree::fault::SyntaxFault;
+use crate::comments::skip_line;
+use crate::cursor::Cursor;
+use crate::element::{Element, Form, NoElement, take_element};
+use crate::keywords::keyword_of;
+use crate::nesting::Nesting;
+use crate::passing::passed;
+use crate::spot::{MAX_SOURCE, Spot};
+use crate::token::{Token, TokenKind};
 use lava_base::list::List;
+use lava_base::memory::OutOfMemory;
+use lava_base::name::Name;
+use lava_base::place::Place;
+use js_tree::fault::{SyntaxFault, SyntaxWhat};
 use std::alloc::Global;
+use std::marker::Model;
+
+/// How far a source is read.
+#[derive(Drop)]
+pub struct Lexer<'a> {
+    rest: Cursor<'a>,
+    spot: Spot,
+    nesting: Nesting,
+    tokens: List<Token>,
+}
+
+impl<'a> Model for Lexer<'a> {
+    ghost use Rattle.std.specs.Prelude.{◌+◌, ◌≤◌, length};
+    ghost use Rattle.std.specs.Str.{encode_utf8_all};
+    ghost use Rattle.js_lexer.specs.Sources.{State};
+    ghost use Rattle.js_lexer.specs.Spots.{IsSound};
+    ghost use Rattle.js_lexer.specs.declared.spot.TheConstants.{MAX_SOURCE};
+
+    ghost Value = { State };
+
+    ghost view = { λ l. record { rest = l.rest; spot = l.spot; opens = l.nesting; tokens = l.tokens } };
+
+    ghost invariant = { λ l. IsSound l.spot × (l.spot.offset + length (encode_utf8_all l.rest) ≤ MAX_SOURCE) };
+}
+
+/// Why no more elements are taken.
+#[derive(Drop)]
+pub enum Refusal {
+    /// None could be.
+    NoElement(NoElement),
+    /// There is no memory left.
+    OutOfMemory,
+}
+
+impl From<OutOfMemory> for Refusal {
+    ghost from_gives = { λ _ e. e ≡ refusals.OutOfMemory };
+
+    fn from(_: OutOfMemory) -> Refusal {
+        Refusal::OutOfMemory
+    }
+}
+
+impl<'a> Lexer<'a> {
+    /// At the start of a text, behind a byte order mark and a `#!` line.
+    pub fn new(alloc: Global, text: &'a str) -> Lexer<'a>
+        requires { length text.now ≤ MAX_SOURCE }
+        ensures { result ≡ opening (chars text.now) }
+    {
+        let mut lexer = Lexer::at_start(alloc, text);
+        lexer.pass_hashbang();
+        lexer
+    }
+
+    /// At the start of a text, behind a byte order mark.
+    #[tactic(auto, using(crate::proofs::Lexer_laws::room_behind_mark, crate::proofs::Lexer_laws::room_at_start))]
+    fn at_start(alloc: Global, text: &'a str) -> Lexer<'a>
+        requires { length text.now ≤ MAX_SOURCE }
+        ensures { result ≡ behind_mark (chars text.now) }
+    {
+        let mut rest = Cursor::new(text);
+        let mut offset = 0;
+        if rest.peek() == Some('\u{feff}') {
+            rest.bump();
+            offset = 3;
+        }
+        let place = Place { line: 1, unit: 1 };
+        let spot = Spot {
+            place,
+            offset,
+            after_return: false,
+            after_line: false,
+        };
+        Lexer {
+            rest,
+            spot,
+            nesting: Nesting::new(alloc),
+            tokens: List::new(alloc),
+        }
+    }
+
+    /// Passes a `#!` line, but not its end.
+    #[tactic(auto, using(crate::proofs::Lexer_laws::keep_skip))]
+    fn pass_hashbang(&mut self)
+        ensures { self.new ≡ behind_hashbang self.old }
+    {
+        if !self.is_at_hashbang() {
+            return;
+        }
+        let mut rest = self.rest.copy();
+        skip_line(&mut rest);
+        self.spot = passed(self.spot, &self.rest, &rest);
+        self.rest = rest;
+    }
+
+    fn is_at_hashbang(&self) -> bool
+        ensures { result ≡ begins_hashbang self.now.rest }
+    {
+        let mut ahead = self.rest.copy();
+        ahead.bump() == Some('#') && ahead.bump() == Some('!')
+    }
+
+    /// Takes all elements.
+    #[tactic(auto, using(crate::proofs::Lexer_laws::takes_shorter))]
+    fn run(&mut self) -> Result<(), Refusal>
+        ensures { AfterRun self.old result self.new }
+    {
+        while !self.rest.is_at_end() {
+            self.take()?;
+        }
+        Ok(())
+    }
+
+    /// Takes the next element.
+    fn take(&mut self) -> Result<(), Refusal>
+        ensures { AfterTake self.old result self.new }
+    {
+        let mut rest = self.rest.copy();
+        let element = match take_element(&mut rest, self.nesting.is_inside()) {
+            Ok(element) => element,
+            Err(none) => return Err(Refusal::NoElement(none)),
+        };
+        let spot = passed(self.spot, &self.rest, &rest);
+        if let Element::Gap = element {
+            self.spot = spot;
+            self.rest = rest;
+            return Ok(());
+        }
+        let kind = kind_of(element, self.rest.bytes_to(&rest));
+        self.push(element, kind, rest, spot)?;
+        Ok(())
+    }
+
+    /// Passes an element that is a token.
+    fn push(
+        &mut self,
+        element: Element,
+        kind: TokenKind,
+        rest: Cursor<'a>,
+        spot: Spot,
+    ) -> Result<(), OutOfMemory>
+        requires sound { IsSound spot }
+        requires room { spot.offset + length (encode_utf8_all rest) ≤ MAX_SOURCE }
+        ensures { OnOk result (self.new ≡ pushed self.old element kind rest.entry spot) }
+    {
+        self.nesting.pass(element)?;
+        self.tokens.push(Token {
+            start: self.spot.place,
+            from: self.spot.offset,
+            to: spot.offset,
+            kind,
+            after_line: self.spot.after_line,
+        })?;
+        self.rest = rest;
+        self.spot = Spot {
+            after_line: false,
+            ..spot
+        };
+        Ok(())
+    }
+}
+
+/// The kind of the token that an element with these bytes is.
+fn kind_of(element: Element, bytes: &[u8]) -> TokenKind
+    requires { ¬ (element ≡ elements.Gap) }
+    ensures { (w : Listed ℕ) → bytes.now ≡ encode_utf8_all w → IsKind element w result }
+{
+    match element {
+        Element::Word => match keyword_of(bytes) {
+            Some(keyword) => TokenKind::Keyword(keyword),
+            None => TokenKind::Name,
+        },
+        Element::Number => TokenKind::Number,
+        Element::String => TokenKind::String,
+        Element::Template(part) => TokenKind::Template(part),
+        Element::Punctuator(mark) => TokenKind::Punctuator(mark),
+        Element::Gap => unreachable!(),
+    }
+}
 
 /// The tokens of a source, by ECMA-262's lexical grammar in the profile of the language.
 ///
