@@ -1,5 +1,6 @@
 pub mod Beginnings
 pub mod Comments_laws
+pub mod Continuations
 pub mod Derivatives
 pub mod Escapes_laws
 pub mod Exactly
