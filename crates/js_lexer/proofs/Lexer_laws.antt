@@ -17,10 +17,12 @@ use Rattle.js_lexer.specs.Punctuators.{text_of}
 use Rattle.js_lexer.specs.Rules.{Rule, Leads}
 use Rattle.js_lexer.specs.Skipping.{skip, keep}
 use Rattle.js_lexer.specs.Sources as sources
-use Rattle.js_lexer.specs.Sources.{State, Takes, over_gap, over_token, IsKind}
+use Rattle.js_lexer.specs.Sources.{State, Takes, over_gap, over_token, pushed, IsKind}
 use Rattle.js_lexer.specs.Spots.{over_all}
 use Rattle.js_lexer.proofs.Derivatives.{may_be_empty, behind, front, reads_from}
+use Rattle.js_lexer.specs.Scanning.{element_of}
 use Rattle.js_lexer.proofs.Numbers_taken.{nothing_stands}
+use Rattle.js_lexer.proofs.Runs.{taken_is_element}
 
 -- what is kept and what is skipped are the whole
 pub keep_skip : (p : ℕ → Bool) (xs : List ℕ) → xs ≡ keep p xs ++ skip p xs
@@ -79,9 +81,45 @@ pub takes_shorter : (s t : State) → Takes s t → length t.rest < length s.res
 takes_shorter _ _ (sources.gap s w left a h) = stands_shorter (inside s.opens) elements.Gap s.rest left h.0
 takes_shorter _ _ (sources.token s e kind w left a h k) = stands_shorter (inside s.opens) e s.rest left h.0
 
+-- what an element takes is a front of the text
+stands_front : (within : Bool) (e : Element) (xs ys : List ℕ) → Stands within e xs ys → (w : List ℕ) × (xs ≡ w ++ ys)
+stands_front within elements.Gap xs ys h = front gap xs ys h
+stands_front within elements.Word xs ys h = front name xs ys h
+stands_front within elements.Number xs ys h = front (numeric_literal false) xs ys h
+stands_front within elements.String xs ys (inl h) = front (string_literal 34) xs ys h
+stands_front within elements.String xs ys (inr h) = front (string_literal 39) xs ys h
+stands_front within (elements.Template templates.Whole) xs ys h = front no_substitution_template xs ys h
+stands_front within (elements.Template templates.Head) xs ys h = front template_head xs ys h
+stands_front within (elements.Template templates.Middle) xs ys h = front template_middle xs ys h.1
+stands_front within (elements.Template templates.Tail) xs ys h = front template_tail xs ys h.1
+stands_front within (elements.Punctuator p) xs ys h = (text_of p, h.0.0.0)
+
 -- room for the places and offsets of a text
 pub room_behind_mark : (bs cs : List ℕ) → IsUtf8 bs → chars bs ≡ 0xFEFF ∷ cs → 3 + length (encode_utf8_all cs) ≡ length bs
-room_behind_mark bs cs u e = sym (ap length (sym (encodes-chars bs u) ∙ ap encode_utf8_all e ∙ encodes-append (0xFEFF ∷ []) cs))
+unfolding encode_utf8
+room_behind_mark bs cs u e =
+    omega (arith, ap length (sym (encodes-chars bs u) ∙ ap encode_utf8_all e ∙ encodes-append (0xFEFF ∷ []) cs), length-append (encode_utf8_all (0xFEFF ∷ [])) (encode_utf8_all cs), mark_bytes)
+  where
+    mark_bytes : length (encode_utf8_all (0xFEFF ∷ [])) ≡ 3
+    mark_bytes = refl
 
 pub room_at_start : (bs cs : List ℕ) → IsUtf8 bs → chars bs ≡ cs → length (encode_utf8_all cs) ≡ length bs
 room_at_start bs cs u e = ap length (ap encode_utf8_all (sym e) ∙ encodes-chars bs u)
+
+-- an element that is taken stands there, with some text
+pub behind_taken : (within : Bool) (e : Element) (xs ys : List ℕ) → element_of within xs ≡ Ok (e, ys) → (w : List ℕ) × (xs ≡ w ++ ys)
+behind_taken within e xs ys h = stands_front within e xs ys ((taken_is_element within xs e ys h).0)
+
+pub gap_taken_so : (s : State) (ys : List ℕ) (spot : Spot) → element_of (inside s.opens) s.rest ≡ Ok (elements.Gap, ys) → ((w : List ℕ) → s.rest ≡ w ++ ys → spot ≡ over_all s.spot w) →
+    Takes s (record { rest = ys; spot = spot; opens = s.opens; tokens = s.tokens })
+gap_taken_so s ys spot h passes =
+    let f : (w : List ℕ) × (s.rest ≡ w ++ ys) = behind_taken (inside s.opens) elements.Gap s.rest ys h in
+    subst (λ z. Takes s (record { rest = ys; spot = z; opens = s.opens; tokens = s.tokens })) (sym (passes f.0 f.1))
+    (sources.gap s f.0 ys f.1 (taken_is_element (inside s.opens) s.rest elements.Gap ys h))
+
+pub token_taken_so : (s : State) (e : Element) (kind : TokenKind) (ys bytes : List ℕ) (spot : Spot) → element_of (inside s.opens) s.rest ≡ Ok (e, ys) → ((w : List ℕ) → s.rest ≡ w ++ ys → spot ≡ over_all s.spot w) →
+    ((w : List ℕ) → s.rest ≡ w ++ ys → bytes ≡ encode_utf8_all w) → ((w : List ℕ) → bytes ≡ encode_utf8_all w → IsKind e w kind) → Takes s (pushed s e kind ys spot)
+token_taken_so s e kind ys bytes spot h passes between is =
+    let f : (w : List ℕ) × (s.rest ≡ w ++ ys) = behind_taken (inside s.opens) e s.rest ys h in
+    subst (λ z. Takes s (pushed s e kind ys z)) (sym (passes f.0 f.1))
+    (sources.token s e kind f.0 ys f.1 (taken_is_element (inside s.opens) s.rest e ys h) (is f.0 (between f.0 f.1)))

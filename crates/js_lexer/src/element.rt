@@ -1,6 +1,7 @@
 // Elements of a source: what its lexical grammar divides it into (ECMA-262, InputElement).
 
 ghost use Rattle.std.specs.Prelude.{◌≡◌};
+ghost use Rattle.js_lexer.specs.Answers.{form_name};
 ghost use Rattle.js_lexer.specs.Machines.{Gives};
 ghost use Rattle.js_lexer.specs.Characters.{is_digit};
 ghost use Rattle.js_lexer.specs.Rules.{begins_with};
@@ -46,6 +47,21 @@ pub enum Form {
     Private,
     /// A decorator.
     Decorator,
+}
+
+impl Form {
+    /// The name by which a refusal tells the form.
+    pub fn name(self) -> &'static str
+        ensures { result.now ≡ form_name self }
+    {
+        match self {
+            Form::BigInt => "bigint",
+            Form::Separator => "separator",
+            Form::Escape => "escape",
+            Form::Private => "private",
+            Form::Decorator => "decorator",
+        }
+    }
 }
 
 /// Why no element is taken.

@@ -3,9 +3,11 @@
 ghost use Rattle.std.specs.Prelude.{◌≡◌, ◌+◌, ◌≤◌, ℕ, ◌++◌, [], length, List as Listed, IfOk, IfErr, OnOk, OnErr};
 ghost use Rattle.std.specs.Str.{IsUtf8, IsValidUpTo, chars, encode_utf8_all};
 ghost use Rattle.lava_base.specs.declared.place.Place.{Place};
+ghost use Rattle.js_tree.specs.declared.fault.SyntaxFault.TheVariants as faults;
 ghost use Rattle.js_tree.specs.declared.fault.SyntaxWhat.{SyntaxWhat};
-ghost use Rattle.js_lexer.specs.Answers.{HasCause, GivesTokens, Refuses, IsFault, StandInOrder, form_name};
-ghost use Rattle.js_lexer.specs.Lexing.{AfterTake, AfterRun};
+ghost use Rattle.js_tree.specs.declared.fault.SyntaxWhat.TheVariants as what;
+ghost use Rattle.js_lexer.specs.Answers.{HasCause, GivesTokens, Refuses, IsFault, StandInOrder};
+ghost use Rattle.js_lexer.specs.Lexing.{AfterTake, AfterRun, IsFaultOf};
 ghost use Rattle.js_lexer.specs.Sources.{State, IsKind, IsTokens, pushed, opening, behind_mark, begins_hashbang, behind_hashbang};
 ghost use Rattle.js_lexer.specs.Spots.{IsSound, over_all};
 ghost use Rattle.js_lexer.specs.declared.element.Element.{Element};
@@ -15,8 +17,9 @@ ghost use Rattle.js_lexer.specs.declared.token.Token.{Token};
 
 use crate::comments::skip_line;
 use crate::cursor::Cursor;
-use crate::element::{Element, Form, NoElement, take_element};
+use crate::element::{Element, NoElement, take_element};
 use crate::keywords::keyword_of;
+use crate::machine::Stop;
 use crate::nesting::Nesting;
 use crate::passing::passed;
 use crate::spot::{MAX_SOURCE, Spot};
@@ -128,6 +131,15 @@ impl<'a> Lexer<'a> {
         ahead.bump() == Some('#') && ahead.bump() == Some('!')
     }
 
+    /// The place behind all that is left.
+    fn end(&self) -> Place
+        ensures { result ≡ (over_all self.now.spot self.now.rest).place }
+    {
+        let mut end = self.rest.copy();
+        while let Some(_) = end.bump() {}
+        passed(self.spot, &self.rest, &end).place
+    }
+
     /// Takes all elements.
     #[tactic(auto, using(crate::proofs::Lexer_laws::takes_shorter))]
     fn run(&mut self) -> Result<(), Refusal>
@@ -217,5 +229,66 @@ pub fn tokens(alloc: Global, source: &[u8]) -> Result<List<Token>, SyntaxFault>
     ensures refused { (place : Place) (what : SyntaxWhat) → IsFault source.now place what → Refuses result place what }
     ensures in_order { IfOk result (λ tokens. StandInOrder 0 tokens (length source.now)) }
 {
-    Err(SyntaxFault::OutOfMemory)
+    if source.len() > MAX_SOURCE as usize {
+        return Err(SyntaxFault::OutOfMemory);
+    }
+    match str::from_utf8(source) {
+        Ok(text) => whole_tokens(alloc, text),
+        Err(error) => Err(broken_fault(alloc, source, error.valid_up_to())),
+    }
+}
+
+/// The tokens of a source that is UTF-8.
+fn whole_tokens(alloc: Global, text: &str) -> Result<List<Token>, SyntaxFault>
+    requires { length text.now ≤ MAX_SOURCE }
+    ensures tokens { IfOk result (λ tokens. IsTokens text.now tokens) }
+    ensures cause { IfErr result (HasCause text.now) }
+{
+    let mut lexer = Lexer::new(alloc, text);
+    let Err(refusal) = lexer.run() else {
+        return Ok(lexer.tokens);
+    };
+    Err(fault_of(alloc, refusal, lexer.spot.place))
+}
+
+/// What is wrong with a source that is not UTF-8, of which the first `valid` bytes are the longest front that is.
+fn broken_fault(alloc: Global, source: &[u8], valid: usize) -> SyntaxFault
+    requires front { IsValidUpTo source.now valid }
+    requires short { length source.now ≤ MAX_SOURCE }
+    requires broken { ¬ (IsUtf8 source.now) }
+    ensures { HasCause source.now result }
+{
+    let Ok(text) = str::from_utf8(&source[..valid]) else {
+        unreachable!();
+    };
+    let mut lexer = Lexer::new(alloc, text);
+    match lexer.run() {
+        Ok(()) => not_utf8(lexer.spot.place),
+        Err(Refusal::NoElement(NoElement::Stopped(Stop::Cut))) => not_utf8(lexer.end()),
+        Err(refusal) => fault_of(alloc, refusal, lexer.spot.place),
+    }
+}
+
+fn not_utf8(place: Place) -> SyntaxFault
+    ensures { result ≡ faults.At place what.NotUtf8 }
+{
+    SyntaxFault::At {
+        place,
+        what: SyntaxWhat::NotUtf8,
+    }
+}
+
+/// The fault of a refusal at a place, where it isn't that the text ends inside an element.
+fn fault_of(alloc: Global, refusal: Refusal, place: Place) -> SyntaxFault
+    ensures { IsFaultOf refusal place result }
+{
+    let what = match refusal {
+        Refusal::NoElement(NoElement::Stopped(_)) => SyntaxWhat::BadToken,
+        Refusal::NoElement(NoElement::LeftOut(form)) => match Name::of(alloc, form.name()) {
+            Ok(name) => SyntaxWhat::Unsupported(name),
+            Err(OutOfMemory) => return SyntaxFault::OutOfMemory,
+        },
+        Refusal::OutOfMemory => return SyntaxFault::OutOfMemory,
+    };
+    SyntaxFault::At { place, what }
 }
