@@ -1,5 +1,5 @@
 -- With which character an element or a form that is left out can begin.
-use Rattle.std.proofs.Common.{◌≡◌, ◌<◌, ◌↔◌, ◌⊎◌, inl, inr, ℕ, ◌==◌, ◌||◌, ◌&&◌, Bool, true, false, cond, not, nat_le, nat_lt, List, [], ◌∷◌, ◌++◌, Option, Some, None, is_some, refl, sym, ap, subst, ◌∙◌, arith}
+use Rattle.std.proofs.Common.{◌≡◌, inl, inr, ℕ, ◌==◌, ◌||◌, ◌&&◌, Bool, true, false, cond, not, List, [], ◌∷◌, Option, Some, None, is_some, refl, sym, subst, ◌∙◌, arith}
 use Rattle.std.proofs.lemmas.Bool.Decides.{nat_tests}
 use Rattle.js_lexer.specs.declared.element.Element.{Element}
 use Rattle.js_lexer.specs.declared.element.Element.TheVariants as elements
@@ -7,12 +7,11 @@ use Rattle.js_lexer.specs.declared.element.Form.{Form}
 use Rattle.js_lexer.specs.declared.element.Form.TheVariants as forms
 use Rattle.js_lexer.specs.declared.punctuators.Punctuator.{Punctuator}
 use Rattle.js_lexer.specs.declared.punctuators.Punctuator.TheVariants as punctuators
-use Rattle.js_lexer.specs.declared.token.TemplatePart.{TemplatePart}
 use Rattle.js_lexer.specs.declared.token.TemplatePart.TheVariants as templates
 use Rattle.js_lexer.specs.Characters.{is_name_start, is_digit, is_white_space, is_line_terminator}
-use Rattle.js_lexer.specs.Elements.{gap, Stands, Shows, IsTemplate, MayStand}
-use Rattle.js_lexer.specs.Grammar.{char, is, is_nonzero_digit, digits, more_digits, optional, exponent, rest_of_line, rest_of_comment, unicode_escape, decimal_literal, decimal_integer, non_decimal_integer, numeric_literal, bigint, literal_end}
-use Rattle.js_lexer.specs.Punctuators.{punctuator_of, single, singles, named, begun, grown, grows, IsPunctuator}
+use Rattle.js_lexer.specs.Elements.{gap, Stands, Shows, MayStand}
+use Rattle.js_lexer.specs.Grammar.{char, is, is_nonzero_digit, digits, more_digits, optional, exponent, rest_of_line, rest_of_comment, unicode_escape, decimal_literal, decimal_integer, numeric_literal, bigint}
+use Rattle.js_lexer.specs.Punctuators.{single, begun, grown, grows, IsPunctuator}
 use Rattle.js_lexer.specs.Rules.{Rule, Then, One, Leads, begins_with}
 use Rattle.js_lexer.proofs.Punctuator_laws.{punctuator_exact}
 

@@ -1,18 +1,16 @@
 -- Comments, and what is left behind the characters of a class.
-use Rattle.std.proofs.Common.{◌≡◌, ◌↔◌, ◌⊎◌, inl, inr, ℕ, ◌==◌, ◌&&◌, ◌||◌, Bool, true, false, cond, not, List, [], ◌∷◌, ◌++◌, Option, Some, None, Result, Ok, Err, refl, sym, ap, subst, ◌∙◌, arith}
+use Rattle.std.proofs.Common.{◌≡◌, ◌↔◌, inl, inr, ℕ, ◌==◌, Bool, true, false, cond, List, [], ◌∷◌, Some, Ok, refl, sym, subst, arith}
 use Rattle.std.proofs.lemmas.Bool.Decides.{nat_tests}
 use Rattle.js_lexer.specs.declared.machine.Step.{Step}
 use Rattle.js_lexer.specs.declared.machine.Step.TheVariants.{Go, With, Before, Bad}
-use Rattle.js_lexer.specs.declared.machine.Stop.{Stop}
-use Rattle.js_lexer.specs.declared.machine.Stop.TheVariants as stops
 use Rattle.js_lexer.specs.declared.comments.Comment.{Comment}
 use Rattle.js_lexer.specs.declared.comments.Comment.TheVariants as comments
-use Rattle.js_lexer.specs.Rules.{Rule, Never, Nothing, One, NotBefore, Then, Or, Many, OnlyIf, Leads, begins_with, Steps, stay, step}
+use Rattle.js_lexer.specs.Rules.{Rule, One, NotBefore, Then, Or, Many, Leads}
 use Rattle.js_lexer.specs.Grammar.{char, is, not_asterisk, rest_of_comment}
-use Rattle.js_lexer.specs.Machines.{Reading, run}
+use Rattle.js_lexer.specs.Machines.{run}
 use Rattle.js_lexer.specs.Comments.{comment_step, comment_stop, inside_step}
 use Rattle.js_lexer.specs.Skipping.{skip}
-use Rattle.js_lexer.proofs.Derivatives.{behind, may_be_empty, goes, ends, stuck, stuck_there, ends_before, ends_there}
+use Rattle.js_lexer.proofs.Derivatives.{behind, may_be_empty, goes, stuck_there, ends_before, ends_there}
 use Rattle.js_lexer.proofs.Machine_laws.{Follows, Stops, Reads, exact}
 use Rattle.js_lexer.proofs.Sequences.{past_lookahead, no_lookahead}
 use Rattle.js_lexer.proofs.Escapes_laws.{by_test, always}
@@ -52,11 +50,13 @@ instead r c Bad same h = λ cs ys l. h cs ys ((same cs ys).0 l)
 asterisk_right : (c : ℕ) → Right (comment_rest comments.Asterisk tt) c (comment_step comments.Asterisk c)
 asterisk_right c =
     by_test (Right (comment_rest comments.Asterisk tt) c) (c == 47) _ _
-    (λ h cs ys.
-    (λ l. elim l [
-      | inl i ↦ absurd (no_lookahead (is 47) (Many in_comment) comment_end (c ∷ cs) ys h i)
-      | inr i ↦ sym i.1
-    ], λ e. inr (h, sym e)))
+    (λ h cs ys. (
+      λ l. elim l [
+        | inl i ↦ absurd (no_lookahead (is 47) (Many in_comment) comment_end (c ∷ cs) ys h i)
+        | inr i ↦ sym i.1
+      ],
+      λ e. inr (h, sym e),
+    ))
     (λ h. instead (comment_rest comments.Asterisk tt) c (inside_step c) (no_slash h) (inside_right c))
   where
     differ : (b : Bool) → b ≡ false → b ≡ true → ⊥
@@ -65,11 +65,13 @@ asterisk_right c =
     no_slash : (c == 47) ≡ false → (cs ys : List ℕ) → Leads (comment_rest comments.Asterisk tt) (c ∷ cs) ys ↔ Leads rest_of_comment (c ∷ cs) ys
     no_slash h cs ys =
         let same : Leads (Then (Then (NotBefore (is 47)) (Many in_comment)) comment_end) (c ∷ cs) ys ↔ Leads rest_of_comment (c ∷ cs) ys
-          = past_lookahead (is 47) (Many in_comment) comment_end (c ∷ cs) ys h in
-        (λ l. elim l [
-          | inl i ↦ same.0 i
-          | inr i ↦ absurd (differ (c == 47) h i.0)
-        ], λ l. inl (same.1 l))
+        = past_lookahead (is 47) (Many in_comment) comment_end (c ∷ cs) ys h in (
+          λ l. elim l [
+            | inl i ↦ same.0 i
+            | inr i ↦ absurd (differ (c == 47) h i.0)
+          ],
+          λ l. inl (same.1 l),
+        )
 
 right : (s : Comment) (c : ℕ) → Right (comment_rest s tt) c (comment_step s c)
 right comments.Inside c = inside_right c
@@ -89,7 +91,7 @@ stops_there comments.Asterisk k ys = stuck_there (comment_rest comments.Asterisk
 pub comment_exact : (xs ys : List ℕ) → Leads rest_of_comment xs ys ↔ (run comment_step comment_stop comments.Inside xs ≡ Ok (tt, ys))
 comment_exact xs ys =
     let e : Leads rest_of_comment xs ys ↔ Reads comment_step comment_stop comment_rest always (run comment_step comment_stop comments.Inside xs) tt ys
-      = exact comment_step comment_stop comment_rest always (λ s c. follows_of s c (comment_step s c) (right s c)) stops_there comments.Inside tt xs ys in
+    = exact comment_step comment_stop comment_rest always (λ s c. follows_of s c (comment_step s c) (right s c)) stops_there comments.Inside tt xs ys in
     (λ h. (e.0 h).1, λ h. e.1 (tt, h, refl))
 
 -- all the characters of a class, and none of them behind

@@ -301,7 +301,7 @@ takes_some r c cs e h =
     elim (reads_from r c cs (c ∷ cs) h) [
       | inl i ↦ differ (may_be_empty r (Some c)) e i.0
       | inr i ↦
-        let j : (w : List ℕ) × (cs ≡ w ++ c ∷ cs) = front (behind r c) cs (c ∷ cs) i in longer c cs j.0 j.1
+          let j : (w : List ℕ) × (cs ≡ w ++ c ∷ cs) = front (behind r c) cs (c ∷ cs) i in longer c cs j.0 j.1
     ]
   where
     differ : (b : Bool) → b ≡ false → b ≡ true → ⊥

@@ -1,19 +1,17 @@
 -- The machine of `u` escapes reads exactly UnicodeEscapeSequence.
-use Rattle.std.proofs.Common.{◌≡◌, ◌≤◌, ◌<◌, ◌↔◌, ◌⊎◌, inl, inr, ℕ, ◌+◌, ◌*◌, ◌-◌, ◌==◌, ◌&&◌, Bool, true, false, cond, nat_le, nat_lt, not, List, [], ◌∷◌, ◌++◌, Option, Some, None, Result, Ok, Err, refl, sym, ap, subst, ◌∙◌, arith}
+use Rattle.std.proofs.Common.{◌≡◌, ◌≤◌, ◌<◌, ◌↔◌, ℕ, ◌+◌, ◌*◌, ◌==◌, ◌&&◌, Bool, true, false, cond, nat_le, nat_lt, List, [], ◌∷◌, ◌++◌, Option, None, refl, sym, ap, subst, ◌∙◌, arith}
 use Rattle.std.proofs.lemmas.Bool.Decides.{nat_tests}
 use Rattle.js_lexer.specs.declared.machine.Step.{Step}
 use Rattle.js_lexer.specs.declared.machine.Step.TheVariants.{Go, With, Before, Bad}
-use Rattle.js_lexer.specs.declared.machine.Stop.{Stop}
-use Rattle.js_lexer.specs.declared.machine.Stop.TheVariants as stops
 use Rattle.js_lexer.specs.declared.escapes.Escape.{Escape}
 use Rattle.js_lexer.specs.declared.escapes.Escape.TheVariants as escapes
 use Rattle.js_lexer.specs.Characters.{is_hex_digit, hex_value}
-use Rattle.js_lexer.specs.Rules.{Rule, Never, Nothing, One, NotBefore, Then, Or, Many, OnlyIf, Leads}
+use Rattle.js_lexer.specs.Rules.{Rule, Never, Nothing, Then, Leads}
 use Rattle.js_lexer.specs.Grammar.{char, hex_digit, hex_from, code_point, code_point_after, after_u, unicode_escape}
-use Rattle.js_lexer.specs.Machines.{Reading, run}
+use Rattle.js_lexer.specs.Machines.{run}
 use Rattle.js_lexer.specs.Escapes.{escape_step, escape_stop, hex_step, digits_step, first_step, unicode_step, backslash_step}
-use Rattle.js_lexer.proofs.Derivatives.{behind, may_be_empty, goes, ends, stuck, stuck_there, at_character}
-use Rattle.js_lexer.proofs.Machine_laws.{Follows, Stops, Reads, exact, bad_stays, cut_goes_on, EndsIn}
+use Rattle.js_lexer.proofs.Derivatives.{behind, may_be_empty, goes, ends, stuck, stuck_there}
+use Rattle.js_lexer.proofs.Machine_laws.{Follows, Stops, Reads, exact}
 
 -- the digits that write v; past the greatest code point no state has such a v
 abbrev after_digits : ℕ → Rule
@@ -66,8 +64,8 @@ unicode_right c =
     by_test (Right escapes.Unicode c) (c == 123) _ _
     (λ h cs ys. goes after_u (escape_rest escapes.Brace) c cs ys refl (rw (h, brace_no_hex c h) refl))
     (λ h. hex_right escapes.Unicode c (Go escapes.ThreeDigits)
-      (λ k cs ys. goes after_u (escape_rest escapes.ThreeDigits) c cs ys refl (rw (h, k) refl))
-      (λ k cs ys. stuck after_u c cs ys refl (rw (h, k) refl)))
+    (λ k cs ys. goes after_u (escape_rest escapes.ThreeDigits) c cs ys refl (rw (h, k) refl))
+    (λ k cs ys. stuck after_u c cs ys refl (rw (h, k) refl)))
 
 three_right : (c : ℕ) → Right escapes.ThreeDigits c (hex_step (Go escapes.TwoDigits) c)
 three_right c =
@@ -192,8 +190,8 @@ code_point_right : (v c : ℕ) → Right (escapes.CodePoint v) c (digits_step v 
 code_point_right v c =
     by_test (Right (escapes.CodePoint v) c) (c == 125) _ _ (closes v c)
     (λ h. by_test (Right (escapes.CodePoint v) c) (nat_lt v 0x11000 && is_hex_digit c) _ _
-      (λ k. let p : (nat_lt v 0x11000 ≡ true) × (is_hex_digit c ≡ true) = both (nat_lt v 0x11000) (is_hex_digit c) k in goes_to v c h p.0 p.1)
-      (too_large v c h))
+    (λ k. let p : (nat_lt v 0x11000 ≡ true) × (is_hex_digit c ≡ true) = both (nat_lt v 0x11000) (is_hex_digit c) k in goes_to v c h p.0 p.1)
+    (too_large v c h))
   where
     both : (a b : Bool) → (a && b) ≡ true → (a ≡ true) × (b ≡ true)
     both true b h = (refl, h)

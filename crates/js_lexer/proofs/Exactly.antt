@@ -1,21 +1,16 @@
 -- At each character the next element is taken exactly: what stands there is taken, and nothing else stands there.
-use Rattle.std.proofs.Common.{◌≡◌, ◌<◌, ◌↔◌, ◌⊎◌, inl, inr, ℕ, ◌==◌, ◌||◌, ◌&&◌, Bool, true, false, cond, not, nat_le, nat_lt, List, [], ◌∷◌, ◌++◌, Option, Some, None, is_some, Result, Ok, Err, refl, sym, ap, subst, ◌∙◌, arith}
-use Rattle.std.proofs.lemmas.Bool.Decides.{nat_tests}
-use Rattle.std.specs.Char.{is_ascii_alphabetic}
+use Rattle.std.proofs.Common.{◌≡◌, ℕ, Bool, true, false, List, ◌∷◌, Ok, Err, refl}
 use Rattle.js_lexer.specs.declared.element.Element.{Element}
 use Rattle.js_lexer.specs.declared.element.Element.TheVariants as elements
 use Rattle.js_lexer.specs.declared.element.Form.{Form}
 use Rattle.js_lexer.specs.declared.element.Form.TheVariants as forms
 use Rattle.js_lexer.specs.declared.element.NoElement.TheVariants.{Stopped, LeftOut}
-use Rattle.js_lexer.specs.declared.machine.Stop.{Stop}
 use Rattle.js_lexer.specs.declared.punctuators.Punctuator.{Punctuator}
 use Rattle.js_lexer.specs.declared.token.TemplatePart.{TemplatePart}
 use Rattle.js_lexer.specs.declared.token.TemplatePart.TheVariants as templates
-use Rattle.js_lexer.specs.Characters.{is_name_start, is_digit, is_white_space, is_line_terminator}
 use Rattle.js_lexer.specs.Elements.{Stands, Shows, StandsNone}
-use Rattle.js_lexer.specs.Rules.{begins_with}
 use Rattle.js_lexer.specs.Scanning.{Taking}
-use Rattle.js_lexer.proofs.Beginnings.{may_begin, form_begins, is_comment_second, begins, form_begins_so}
+use Rattle.js_lexer.proofs.Beginnings.{may_begin, form_begins, begins, form_begins_so}
 use Rattle.js_lexer.proofs.Firsts.{other_no_start}
 
 -- what a taking says of the text is so, and says all
@@ -70,7 +65,6 @@ no_form c cs none form h = clash (form_begins form c cs) (none form) (form_begin
 
 pub is_gap : (e : Element) → of_family gaps e ≡ true → e ≡ elements.Gap
 is_gap elements.Gap h = refl
-
 is_gap elements.Word h = absurd (cc)
 is_gap elements.Number h = absurd (cc)
 is_gap elements.String h = absurd (cc)

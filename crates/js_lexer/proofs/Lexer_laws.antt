@@ -1,5 +1,5 @@
 -- The lexer's state, and that each element has some text.
-use Rattle.std.proofs.Common.{◌≡◌, ◌<◌, ◌≤◌, ◌+◌, ◌↔◌, ◌⊎◌, inl, inr, ℕ, ◌==◌, ◌&&◌, ◌||◌, Bool, true, false, cond, not, nat_lt, List, [], ◌∷◌, ◌++◌, length, Option, Some, None, Result, Ok, Err, refl, sym, ap, subst, ◌∙◌, length-append, arith}
+use Rattle.std.proofs.Common.{◌≡◌, ◌<◌, ◌+◌, inl, inr, ℕ, Bool, true, false, cond, List, [], ◌∷◌, ◌++◌, length, Some, Ok, refl, sym, ap, subst, ◌∙◌, length-append, arith}
 use Rattle.std.specs.Char.{encode_utf8}
 use Rattle.std.specs.Str.{IsUtf8, chars, encode_utf8_all}
 use Rattle.std.proofs.lemmas.Str.{encodes-append, encodes-chars}
@@ -10,7 +10,7 @@ use Rattle.js_lexer.specs.declared.punctuators.Punctuator.TheVariants as punctua
 use Rattle.js_lexer.specs.declared.spot.Spot.{Spot}
 use Rattle.js_lexer.specs.declared.token.TemplatePart.TheVariants as templates
 use Rattle.js_lexer.specs.declared.token.TokenKind.{TokenKind}
-use Rattle.js_lexer.specs.Elements.{Stands, IsElement, gap}
+use Rattle.js_lexer.specs.Elements.{Stands, gap}
 use Rattle.js_lexer.specs.Grammar.{name, numeric_literal, string_literal, no_substitution_template, template_head, template_middle, template_tail}
 use Rattle.js_lexer.specs.Nestings.{inside}
 use Rattle.js_lexer.specs.Punctuators.{text_of}
@@ -38,8 +38,8 @@ shorter : (r : Rule) (c : ℕ) (cs ys : List ℕ) → may_be_empty r (Some c) �
 shorter r c cs ys e h = elim (reads_from r c cs ys h) [
   | inl i ↦ absurd (differ (may_be_empty r (Some c)) e i.0)
   | inr i ↦
-    let k : (w : List ℕ) × (cs ≡ w ++ ys) = front (behind r c) cs ys i in
-    omega (arith, ap length k.1 ∙ length-append k.0 ys)
+      let k : (w : List ℕ) × (cs ≡ w ++ ys) = front (behind r c) cs ys i in
+      omega (arith, ap length k.1 ∙ length-append k.0 ys)
 ]
   where
     differ : (b : Bool) → b ≡ false → b ≡ true → ⊥

@@ -1,3 +1,4 @@
+pub mod Answers_laws
 pub mod Beginnings
 pub mod Comments_laws
 pub mod Continuations
@@ -14,6 +15,7 @@ pub mod Number_laws
 pub mod Number_rests
 pub mod Number_steps
 pub mod Numbers_taken
+pub mod Orders
 pub mod Passing_laws
 pub mod Punctuator_laws
 pub mod Quoted_laws

@@ -1,29 +1,25 @@
 -- Punctuators, white space and comments are taken exactly.
-use Rattle.std.proofs.Common.{◌≡◌, ◌<◌, ◌↔◌, ◌⊎◌, inl, inr, ℕ, ◌==◌, ◌||◌, ◌&&◌, Bool, true, false, cond, not, nat_lt, List, [], ◌∷◌, ◌++◌, Option, Some, None, is_some, Result, Ok, Err, refl, sym, ap, subst, ◌∙◌, arith}
+use Rattle.std.proofs.Common.{◌≡◌, inl, inr, ℕ, ◌==◌, ◌&&◌, Bool, true, false, cond, List, [], ◌∷◌, ◌++◌, Option, Some, None, Ok, Err, refl, sym, ap, subst, ◌∙◌, arith}
 use Rattle.std.proofs.lemmas.Bool.Decides.{nat_tests}
-use Rattle.std.specs.Char.{is_ascii_alphabetic}
 use Rattle.js_lexer.specs.declared.comments.Comment.TheVariants as comments
 use Rattle.js_lexer.specs.declared.element.Element.{Element}
 use Rattle.js_lexer.specs.declared.element.Element.TheVariants as elements
 use Rattle.js_lexer.specs.declared.element.Form.{Form}
-use Rattle.js_lexer.specs.declared.element.Form.TheVariants as forms
-use Rattle.js_lexer.specs.declared.machine.Stop.{Stop}
 use Rattle.js_lexer.specs.declared.punctuators.Punctuator.{Punctuator}
-use Rattle.js_lexer.specs.declared.punctuators.Punctuator.TheVariants as punctuators
 use Rattle.js_lexer.specs.declared.token.TemplatePart.TheVariants as templates
-use Rattle.js_lexer.specs.Characters.{is_name_start, is_digit, is_white_space, is_line_terminator}
+use Rattle.js_lexer.specs.Characters.{is_name_start}
 use Rattle.js_lexer.specs.Comments.{comment_step, comment_stop}
-use Rattle.js_lexer.specs.Elements.{gap, Stands, Shows, StandsNone, MayStand}
+use Rattle.js_lexer.specs.Elements.{gap, Stands, Shows, MayStand}
 use Rattle.js_lexer.specs.Grammar.{char, in_line, rest_of_line, rest_of_comment}
 use Rattle.js_lexer.specs.Machines.{Reading, run}
-use Rattle.js_lexer.specs.Punctuators.{punctuator_of, single, singles, named, follows, text_of, IsPunctuator}
+use Rattle.js_lexer.specs.Punctuators.{punctuator_of, text_of, IsPunctuator}
 use Rattle.js_lexer.specs.Rules.{Leads, begins_with}
-use Rattle.js_lexer.specs.Scanning.{Taking, mark_taken, mark_of, gap_taken, slash_taken}
+use Rattle.js_lexer.specs.Scanning.{mark_taken, mark_of, gap_taken, slash_taken}
 use Rattle.js_lexer.specs.Skipping.{skip}
-use Rattle.js_lexer.proofs.Beginnings.{may_begin, form_begins, is_comment_second, begins, form_begins_so}
+use Rattle.js_lexer.proofs.Beginnings.{is_comment_second, begins}
 use Rattle.js_lexer.proofs.Comments_laws.{comment_exact, skip_exact}
-use Rattle.js_lexer.proofs.Exactly.{Exactly, Others, Family, gaps, words, numbers, strings, template_parts, marks, of_family, of_only, is_mark, is_gap, no_form, slash_form}
-use Rattle.js_lexer.proofs.Firsts.{other_no_start, space_no_start}
+use Rattle.js_lexer.proofs.Exactly.{Exactly, Others, marks, of_only, is_mark, slash_form}
+use Rattle.js_lexer.proofs.Firsts.{other_no_start}
 use Rattle.js_lexer.proofs.Punctuator_laws.{punctuator_exact}
 
 -- punctuators
@@ -57,19 +53,21 @@ may_stand inside c cs p ys h k i e =
 
 pub exactly_mark : (inside : Bool) (c : ℕ) (cs : List ℕ) → Others inside marks c cs → ((form : Form) → Shows form (c ∷ cs) → ⊥) → (c == 125 && inside) ≡ false →
     (o : Option (Punctuator × List ℕ)) → punctuator_of (c ∷ cs) ≡ o → Exactly inside (c ∷ cs) (mark_taken o)
-exactly_mark inside c cs others forms b None e =
-    (λ f ys h.
-    let k : (p : Punctuator) × (f ≡ elements.Punctuator p) × (punctuator_of (c ∷ cs) ≡ Some (p, ys)) = mark_read inside c cs others f ys h in
-    some_none (k.0, ys) (punctuator_of (c ∷ cs)) k.2 e,
-    forms)
+exactly_mark inside c cs others forms b None e = (
+  λ f ys h.
+      let k : (p : Punctuator) × (f ≡ elements.Punctuator p) × (punctuator_of (c ∷ cs) ≡ Some (p, ys)) = mark_read inside c cs others f ys h in
+      some_none (k.0, ys) (punctuator_of (c ∷ cs)) k.2 e,
+  forms,
+)
 exactly_mark inside c cs others forms b (Some (p, zs)) e =
-    let stands : IsPunctuator p (c ∷ cs) zs = (punctuator_exact p (c ∷ cs) zs).1 e in
-    ((stands, may_stand inside c cs p zs b stands),
-    λ f ys h.
-    let k : (p : Punctuator) × (f ≡ elements.Punctuator p) × (punctuator_of (c ∷ cs) ≡ Some (p, ys)) = mark_read inside c cs others f ys h in
-    let s : (k.0, ys) ≡ (p, zs) = some_same (k.0, ys) (p, zs) (punctuator_of (c ∷ cs)) k.2 e in
-    (k.1 ∙ ap (λ z. elements.Punctuator z.0) s, ap (λ z. z.1) s),
-    forms)
+    let stands : IsPunctuator p (c ∷ cs) zs = (punctuator_exact p (c ∷ cs) zs).1 e in (
+      (stands, may_stand inside c cs p zs b stands),
+      λ f ys h.
+          let k : (p : Punctuator) × (f ≡ elements.Punctuator p) × (punctuator_of (c ∷ cs) ≡ Some (p, ys)) = mark_read inside c cs others f ys h in
+          let s : (k.0, ys) ≡ (p, zs) = some_same (k.0, ys) (p, zs) (punctuator_of (c ∷ cs)) k.2 e in
+          (k.1 ∙ ap (λ z. elements.Punctuator z.0) s, ap (λ z. z.1) s),
+      forms,
+    )
 
 -- comments
 
@@ -135,34 +133,37 @@ block_gap cs ys (inr (inr (inr (ms, h, (ns, k, l))))) = subst (λ z. Leads rest_
     tails (x ∷ xs) ns e k = let f : cs ≡ xs = cc in f ∙ k.1
 
 line_exactly : (inside : Bool) (cs : List ℕ) → Exactly inside (47 ∷ 47 ∷ cs) (Ok (elements.Gap, skip in_line cs))
-line_exactly inside cs =
-    (inr (inr (inl (47 ∷ cs, (refl, refl), (cs, (refl, refl), (skip_exact in_line cs (skip in_line cs)).1 refl)))),
-    λ e ys h.
-    let same : e ≡ elements.Gap = gap_only inside 47 cs refl e ys h in
-    (same, line_gap cs ys (subst (λ z. Stands inside z (47 ∷ 47 ∷ cs) ys) same h)),
-    slash_form (47 ∷ cs))
+line_exactly inside cs = (
+  inr (inr (inl (47 ∷ cs, (refl, refl), (cs, (refl, refl), (skip_exact in_line cs (skip in_line cs)).1 refl)))),
+  λ e ys h.
+      let same : e ≡ elements.Gap = gap_only inside 47 cs refl e ys h in
+      (same, line_gap cs ys (subst (λ z. Stands inside z (47 ∷ 47 ∷ cs) ys) same h)),
+  slash_form (47 ∷ cs),
+)
 
 abbrev block_reading : List ℕ → Reading (Unit {0})
 block_reading cs = run comment_step comment_stop comments.Inside cs
 
 block_exactly : (inside : Bool) (cs : List ℕ) (r : Reading (Unit {0})) → block_reading cs ≡ r → Exactly inside (47 ∷ 42 ∷ cs) (gap_taken r)
-block_exactly inside cs (Ok (u, zs)) e =
-    (inr (inr (inr (42 ∷ cs, (refl, refl), (cs, (refl, refl), (comment_exact cs zs).1 e)))),
-    λ f ys h.
-    let same : f ≡ elements.Gap = gap_only inside 42 cs refl f ys h in
-    (same, out ys (sym ((comment_exact cs ys).0 (block_gap cs ys (subst (λ z. Stands inside z (47 ∷ 42 ∷ cs) ys) same h))) ∙ e)),
-    slash_form (42 ∷ cs))
+block_exactly inside cs (Ok (u, zs)) e = (
+  inr (inr (inr (42 ∷ cs, (refl, refl), (cs, (refl, refl), (comment_exact cs zs).1 e)))),
+  λ f ys h.
+      let same : f ≡ elements.Gap = gap_only inside 42 cs refl f ys h in
+      (same, out ys (sym ((comment_exact cs ys).0 (block_gap cs ys (subst (λ z. Stands inside z (47 ∷ 42 ∷ cs) ys) same h))) ∙ e)),
+  slash_form (42 ∷ cs),
+)
   where
     pairs : (a b : Unit {0} × List ℕ) → (let x : Reading (Unit {0}) = Ok a in x) ≡ Ok b → a ≡ b
     pairs a b h = cc
 
     out : (ys : List ℕ) → (let x : Reading (Unit {0}) = Ok (tt, ys) in x) ≡ Ok (u, zs) → ys ≡ zs
     out ys h = ap (λ z. z.1) (pairs (tt, ys) (u, zs) h)
-block_exactly inside cs (Err stop) e =
-    (λ f ys h.
-    let same : f ≡ elements.Gap = gap_only inside 42 cs refl f ys h in
-    out ys (sym ((comment_exact cs ys).0 (block_gap cs ys (subst (λ z. Stands inside z (47 ∷ 42 ∷ cs) ys) same h))) ∙ e),
-    slash_form (42 ∷ cs))
+block_exactly inside cs (Err stop) e = (
+  λ f ys h.
+      let same : f ≡ elements.Gap = gap_only inside 42 cs refl f ys h in
+      out ys (sym ((comment_exact cs ys).0 (block_gap cs ys (subst (λ z. Stands inside z (47 ∷ 42 ∷ cs) ys) same h))) ∙ e),
+  slash_form (42 ∷ cs),
+)
   where
     out : (ys : List ℕ) → (let x : Reading (Unit {0}) = Ok (tt, ys) in x) ≡ Err stop → ⊥
     out ys h = cc

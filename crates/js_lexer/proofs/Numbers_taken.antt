@@ -1,11 +1,11 @@
 -- Numbers and white space are taken exactly, and so each element.
-use Rattle.std.proofs.Common.{◌≡◌, ◌<◌, ◌↔◌, ◌⊎◌, inl, inr, ℕ, ◌==◌, ◌||◌, ◌&&◌, Bool, true, false, cond, not, nat_lt, List, [], ◌∷◌, ◌++◌, Option, Some, None, is_some, Result, Ok, Err, refl, sym, ap, subst, ◌∙◌, arith}
+use Rattle.std.proofs.Common.{◌≡◌, ◌⊎◌, inl, inr, ℕ, ◌==◌, ◌||◌, ◌&&◌, Bool, true, false, cond, not, List, [], ◌∷◌, Option, Some, None, is_some, Ok, Err, refl, sym, ap, subst, ◌∙◌, arith}
 use Rattle.std.proofs.lemmas.Bool.Decides.{nat_tests}
 use Rattle.js_lexer.specs.declared.element.Element.{Element}
 use Rattle.js_lexer.specs.declared.element.Element.TheVariants as elements
 use Rattle.js_lexer.specs.declared.element.Form.{Form}
 use Rattle.js_lexer.specs.declared.element.Form.TheVariants as forms
-use Rattle.js_lexer.specs.declared.element.NoElement.TheVariants.{Stopped, LeftOut}
+use Rattle.js_lexer.specs.declared.element.NoElement.TheVariants.{LeftOut}
 use Rattle.js_lexer.specs.declared.machine.Stop.{Stop}
 use Rattle.js_lexer.specs.declared.numbers.Numeral.{Numeral}
 use Rattle.js_lexer.specs.declared.numbers.Numeral.TheVariants as numerals
@@ -14,15 +14,15 @@ use Rattle.js_lexer.specs.declared.punctuators.Punctuator.{Punctuator}
 use Rattle.js_lexer.specs.declared.quoted.Quote.TheVariants as quotes
 use Rattle.js_lexer.specs.declared.token.TemplatePart.TheVariants as templates
 use Rattle.js_lexer.specs.Characters.{is_name_start, is_digit, is_white_space, is_line_terminator}
-use Rattle.js_lexer.specs.Elements.{gap, Stands, Shows, StandsNone}
-use Rattle.js_lexer.specs.Grammar.{char, numeric_literal, bigint}
+use Rattle.js_lexer.specs.Elements.{gap, Stands, Shows}
+use Rattle.js_lexer.specs.Grammar.{char}
 use Rattle.js_lexer.specs.Machines.{Reading, run}
 use Rattle.js_lexer.specs.Numbers.{number_step, number_stop}
-use Rattle.js_lexer.specs.Punctuators.{punctuator_of, single, singles, named, IsPunctuator}
+use Rattle.js_lexer.specs.Punctuators.{punctuator_of, singles, named, IsPunctuator}
 use Rattle.js_lexer.specs.Rules.{Leads, begins_with}
-use Rattle.js_lexer.specs.Scanning.{Taking, number_taken, number_of, mark_of, dot_of, slash_of, escape_of, private_of, string_of, template_of, other_of, unnamed_of, element_of, escape_reading, refused}
-use Rattle.js_lexer.proofs.Beginnings.{may_begin, form_begins, is_comment_second, begins, form_begins_so}
-use Rattle.js_lexer.proofs.Exactly.{Exactly, Others, Family, gaps, words, numbers, strings, template_parts, marks, of_family, of_only, is_gap, is_number, no_form}
+use Rattle.js_lexer.specs.Scanning.{Taking, number_taken, number_of, mark_of, dot_of, slash_of, escape_of, private_of, string_of, template_of, other_of, unnamed_of, element_of, escape_reading}
+use Rattle.js_lexer.proofs.Beginnings.{form_begins, begins, form_begins_so}
+use Rattle.js_lexer.proofs.Exactly.{Exactly, Others, gaps, numbers, marks, of_only, is_gap, is_number, no_form}
 use Rattle.js_lexer.proofs.Firsts.{other_no_start, space_no_start, digit_no_start}
 use Rattle.js_lexer.proofs.Marks_taken.{exactly_mark, exactly_slash}
 use Rattle.js_lexer.proofs.Number_laws.{number_plain, number_separated, number_big}
@@ -67,20 +67,21 @@ by_numeral : (inside : Bool) (c : ℕ) (cs : List ℕ) →
     ((e : Element) (ys : List ℕ) → Stands inside e (c ∷ cs) ys → e ≡ elements.Number) →
     ((form : Form) → Shows form (c ∷ cs) → NumberForm form) →
     (r : Reading Numeral) → numeral_reading (c ∷ cs) ≡ r → Exactly inside (c ∷ cs) (number_taken r)
-by_numeral inside c cs only only_form (Ok (numerals.Number, zs)) e =
-    ((number_plain (c ∷ cs) zs).1 e,
-    λ f ys h.
-    let same : f ≡ elements.Number = only f ys h in
-    let k : numeral_reading (c ∷ cs) ≡ Ok (numerals.Number, ys) = (number_plain (c ∷ cs) ys).0 (subst (λ z. Stands inside z (c ∷ cs) ys) same h) in
-    (same, ap (λ z. z.1) (out_of (numerals.Number, ys) (numerals.Number, zs) (numeral_reading (c ∷ cs)) k e)),
-    no_forms)
+by_numeral inside c cs only only_form (Ok (numerals.Number, zs)) e = (
+  (number_plain (c ∷ cs) zs).1 e,
+  λ f ys h.
+      let same : f ≡ elements.Number = only f ys h in
+      let k : numeral_reading (c ∷ cs) ≡ Ok (numerals.Number, ys) = (number_plain (c ∷ cs) ys).0 (subst (λ z. Stands inside z (c ∷ cs) ys) same h) in
+      (same, ap (λ z. z.1) (out_of (numerals.Number, ys) (numerals.Number, zs) (numeral_reading (c ∷ cs)) k e)),
+  no_forms,
+)
   where
     no_forms : (form : Form) → Shows form (c ∷ cs) → ⊥
     no_forms forms.BigInt (ys, h) = number_not_big (ap (λ z. z.0) (out_of (numerals.Number, zs) (numerals.BigInt, ys) (numeral_reading (c ∷ cs)) e ((number_big (c ∷ cs) ys).0 h)))
     no_forms forms.Separator (ys, h, n) = n zs ((number_plain (c ∷ cs) zs).1 e)
-    no_forms forms.Escape h = elim (only_form forms.Escape h) [ | inl f ↦ cc | inr f ↦ cc ]
-    no_forms forms.Private h = elim (only_form forms.Private h) [ | inl f ↦ cc | inr f ↦ cc ]
-    no_forms forms.Decorator h = elim (only_form forms.Decorator h) [ | inl f ↦ cc | inr f ↦ cc ]
+    no_forms forms.Escape h = elim (only_form forms.Escape h) [ inl f ↦ cc | inr f ↦ cc ]
+    no_forms forms.Private h = elim (only_form forms.Private h) [ inl f ↦ cc | inr f ↦ cc ]
+    no_forms forms.Decorator h = elim (only_form forms.Decorator h) [ inl f ↦ cc | inr f ↦ cc ]
 by_numeral inside c cs only only_form (Ok (numerals.Separated, zs)) e = (there, unique)
   where
     there : Shows forms.Separator (c ∷ cs)
@@ -89,9 +90,9 @@ by_numeral inside c cs only only_form (Ok (numerals.Separated, zs)) e = (there, 
     unique : (other : Form) → Shows other (c ∷ cs) → other ≡ forms.Separator
     unique forms.Separator h = refl
     unique forms.BigInt (ys, h) = absurd (separated_not_big (ap (λ z. z.0) (out_of (numerals.Separated, zs) (numerals.BigInt, ys) (numeral_reading (c ∷ cs)) e ((number_big (c ∷ cs) ys).0 h))))
-    unique forms.Escape h = elim (only_form forms.Escape h) [ | inl f ↦ absurd (cc) | inr f ↦ absurd (cc) ]
-    unique forms.Private h = elim (only_form forms.Private h) [ | inl f ↦ absurd (cc) | inr f ↦ absurd (cc) ]
-    unique forms.Decorator h = elim (only_form forms.Decorator h) [ | inl f ↦ absurd (cc) | inr f ↦ absurd (cc) ]
+    unique forms.Escape h = elim (only_form forms.Escape h) [ inl f ↦ absurd (cc) | inr f ↦ absurd (cc) ]
+    unique forms.Private h = elim (only_form forms.Private h) [ inl f ↦ absurd (cc) | inr f ↦ absurd (cc) ]
+    unique forms.Decorator h = elim (only_form forms.Decorator h) [ inl f ↦ absurd (cc) | inr f ↦ absurd (cc) ]
 by_numeral inside c cs only only_form (Ok (numerals.BigInt, zs)) e = ((zs, (number_big (c ∷ cs) zs).1 e), unique)
   where
     no_both : (ys : List ℕ) → ((numeral_reading (c ∷ cs) ≡ Ok (numerals.Number, ys)) ⊎ (numeral_reading (c ∷ cs) ≡ Ok (numerals.Separated, ys))) → ⊥
@@ -101,9 +102,9 @@ by_numeral inside c cs only only_form (Ok (numerals.BigInt, zs)) e = ((zs, (numb
     unique : (other : Form) → Shows other (c ∷ cs) → other ≡ forms.BigInt
     unique forms.BigInt h = refl
     unique forms.Separator (ys, h, n) = absurd (no_both ys ((number_separated (c ∷ cs) ys).0 h))
-    unique forms.Escape h = elim (only_form forms.Escape h) [ | inl f ↦ absurd (cc) | inr f ↦ absurd (cc) ]
-    unique forms.Private h = elim (only_form forms.Private h) [ | inl f ↦ absurd (cc) | inr f ↦ absurd (cc) ]
-    unique forms.Decorator h = elim (only_form forms.Decorator h) [ | inl f ↦ absurd (cc) | inr f ↦ absurd (cc) ]
+    unique forms.Escape h = elim (only_form forms.Escape h) [ inl f ↦ absurd (cc) | inr f ↦ absurd (cc) ]
+    unique forms.Private h = elim (only_form forms.Private h) [ inl f ↦ absurd (cc) | inr f ↦ absurd (cc) ]
+    unique forms.Decorator h = elim (only_form forms.Decorator h) [ inl f ↦ absurd (cc) | inr f ↦ absurd (cc) ]
 by_numeral inside c cs only only_form (Err stop) e = (none, no_forms)
   where
     none : (f : Element) (ys : List ℕ) → Stands inside f (c ∷ cs) ys → ⊥
@@ -116,9 +117,9 @@ by_numeral inside c cs only only_form (Err stop) e = (none, no_forms)
     no_forms : (form : Form) → Shows form (c ∷ cs) → ⊥
     no_forms forms.BigInt (ys, h) = never_both (numerals.BigInt, ys) stop (numeral_reading (c ∷ cs)) ((number_big (c ∷ cs) ys).0 h) e
     no_forms forms.Separator (ys, h, n) = neither ys ((number_separated (c ∷ cs) ys).0 h)
-    no_forms forms.Escape h = elim (only_form forms.Escape h) [ | inl f ↦ cc | inr f ↦ cc ]
-    no_forms forms.Private h = elim (only_form forms.Private h) [ | inl f ↦ cc | inr f ↦ cc ]
-    no_forms forms.Decorator h = elim (only_form forms.Decorator h) [ | inl f ↦ cc | inr f ↦ cc ]
+    no_forms forms.Escape h = elim (only_form forms.Escape h) [ inl f ↦ cc | inr f ↦ cc ]
+    no_forms forms.Private h = elim (only_form forms.Private h) [ inl f ↦ cc | inr f ↦ cc ]
+    no_forms forms.Decorator h = elim (only_form forms.Decorator h) [ inl f ↦ cc | inr f ↦ cc ]
 
 clash : (b : Bool) → b ≡ false → b ≡ true → ⊥
 clash b h k = cc
@@ -295,12 +296,13 @@ a_gap c cs s = by_class (is_white_space c) (is_line_terminator c) refl refl s
     by_class false false e f h = absurd (cc)
 
 exactly_space : (inside : Bool) (c : ℕ) (cs : List ℕ) → (is_white_space c || is_line_terminator c) ≡ true → Exactly inside (c ∷ cs) (Ok (elements.Gap, cs))
-exactly_space inside c cs s =
-    (a_gap c cs s,
-    λ e ys h.
-    let same : e ≡ elements.Gap = is_gap e (of_only inside gaps c cs (space_others inside c cs s) e ys h) in
-    (same, space_gap c cs ys s (subst (λ z. Stands inside z (c ∷ cs) ys) same h)),
-    space_no_form c cs s)
+exactly_space inside c cs s = (
+  a_gap c cs s,
+  λ e ys h.
+      let same : e ≡ elements.Gap = is_gap e (of_only inside gaps c cs (space_others inside c cs s) e ys h) in
+      (same, space_gap c cs ys s (subst (λ z. Stands inside z (c ∷ cs) ys) same h)),
+  space_no_form c cs s,
+)
 
 -- at any other character
 

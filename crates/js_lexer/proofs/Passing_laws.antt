@@ -1,11 +1,11 @@
 -- From one spot to another.
-use Rattle.std.proofs.Common.{◌≡◌, ◌<◌, ◌≤◌, ◌+◌, ℕ, List, [], ◌∷◌, ◌++◌, length, refl, sym, ap, subst, ◌∙◌, length-append, arith}
+use Rattle.std.proofs.Common.{◌≡◌, ◌<◌, ◌≤◌, ◌+◌, ℕ, List, [], ◌∷◌, ◌++◌, length, refl, sym, ap, ◌∙◌, length-append, arith}
 use Rattle.std.specs.Char.{encode_utf8}
 use Rattle.std.specs.Str.{encode_utf8_all}
 use Rattle.std.proofs.lemmas.Str.{encodes-append, length-le-encodes}
 use Rattle.std.proofs.lemmas.List.{append_cancel_right}
 use Rattle.js_lexer.specs.declared.spot.Spot.{Spot}
-use Rattle.js_lexer.specs.Spots.{over, over_all}
+use Rattle.js_lexer.specs.Spots.{over}
 
 -- where more bytes are left than behind, a character stands between
 pub one_more : (c : ℕ) (cs ys w : List ℕ) → c ∷ cs ≡ w ++ ys → length (encode_utf8_all ys) < length (encode_utf8_all (c ∷ cs)) → (v : List ℕ) × (cs ≡ v ++ ys) × (w ≡ c ∷ v)

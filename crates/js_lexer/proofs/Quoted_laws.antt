@@ -1,10 +1,8 @@
 -- The machine of strings and templates reads exactly what the grammar has.
-use Rattle.std.proofs.Common.{◌≡◌, ◌↔◌, ◌⊎◌, inl, inr, ℕ, ◌==◌, ◌&&◌, ◌||◌, Bool, true, false, cond, not, List, [], ◌∷◌, ◌++◌, Option, Some, None, Result, Ok, Err, refl, sym, ap, subst, ◌∙◌, arith}
+use Rattle.std.proofs.Common.{◌≡◌, ◌↔◌, inl, inr, ℕ, ◌==◌, ◌&&◌, ◌||◌, Bool, true, false, not, List, ◌∷◌, Some, None, Ok, refl, sym, subst, ◌∙◌, arith}
 use Rattle.std.proofs.lemmas.Bool.Decides.{nat_tests}
 use Rattle.js_lexer.specs.declared.machine.Step.{Step}
 use Rattle.js_lexer.specs.declared.machine.Step.TheVariants.{Go, With, Before, Bad}
-use Rattle.js_lexer.specs.declared.machine.Stop.{Stop}
-use Rattle.js_lexer.specs.declared.machine.Stop.TheVariants as stops
 use Rattle.js_lexer.specs.declared.escapes.Escape.{Escape}
 use Rattle.js_lexer.specs.declared.escapes.Escape.TheVariants as escapes
 use Rattle.js_lexer.specs.declared.quoted.Quote.{Quote}
@@ -15,9 +13,9 @@ use Rattle.js_lexer.specs.declared.quoted.Part.{Part}
 use Rattle.js_lexer.specs.declared.quoted.Part.TheVariants as parts
 use Rattle.js_lexer.specs.declared.quoted.Quoted.{Quoted}
 use Rattle.js_lexer.specs.Characters.{is_digit, is_hex_digit, is_line_terminator}
-use Rattle.js_lexer.specs.Rules.{Rule, Never, Nothing, One, NotBefore, Then, Or, Many, OnlyIf, Leads, begins_with}
+use Rattle.js_lexer.specs.Rules.{Rule, Never, Nothing, NotBefore, Then, Or, Many, Leads}
 use Rattle.js_lexer.specs.Grammar.{char, is, hex_digit, after_u, after_backslash, is_escape_character, string_character, template_character}
-use Rattle.js_lexer.specs.Machines.{Reading, run}
+use Rattle.js_lexer.specs.Machines.{run}
 use Rattle.js_lexer.specs.Escapes.{escape_step, escape_stop}
 use Rattle.js_lexer.specs.Quoted.{quoted_step, quoted_stop, part_step, plain_step, string_step, template_step, after_backslash_step, after_escape, opened, go}
 use Rattle.js_lexer.proofs.Derivatives.{behind, may_be_empty, goes, ends, stuck, stuck_there, takes_some}
@@ -98,10 +96,10 @@ double_right c =
     by_test (Right (body quotes.Double) c) (c == 34) _ _
     (λ h. subst (λ x. Right (body quotes.Double) x (With the_ends.Closed)) (sym (equal c 34 h)) double_closes)
     (λ q. by_test (Right (body quotes.Double) c) (c == 92) _ _
-      (λ h. subst (λ x. Right (body quotes.Double) x (go quotes.Double parts.Backslash)) (sym (equal c 92 h)) double_backslash)
-      (λ b. by_test (Right (body quotes.Double) c) (c == 10 || c == 13) _ _
-        (λ h. double_line c q b h)
-        (λ n. double_plain c q b n)))
+    (λ h. subst (λ x. Right (body quotes.Double) x (go quotes.Double parts.Backslash)) (sym (equal c 92 h)) double_backslash)
+    (λ b. by_test (Right (body quotes.Double) c) (c == 10 || c == 13) _ _
+    (λ h. double_line c q b h)
+    (λ n. double_plain c q b n)))
   where
     double_backslash : Right (body quotes.Double) 92 (go quotes.Double parts.Backslash)
     double_backslash the_ends.Closed cs ys = goes (body quotes.Double the_ends.Closed) (behind_part after_backslash quotes.Double the_ends.Closed) 92 cs ys refl refl
@@ -124,10 +122,10 @@ single_right c =
     by_test (Right (body quotes.Single) c) (c == 39) _ _
     (λ h. subst (λ x. Right (body quotes.Single) x (With the_ends.Closed)) (sym (equal c 39 h)) single_closes)
     (λ q. by_test (Right (body quotes.Single) c) (c == 92) _ _
-      (λ h. subst (λ x. Right (body quotes.Single) x (go quotes.Single parts.Backslash)) (sym (equal c 92 h)) single_backslash)
-      (λ b. by_test (Right (body quotes.Single) c) (c == 10 || c == 13) _ _
-        (λ h. single_line c q b h)
-        (λ n. single_plain c q b n)))
+    (λ h. subst (λ x. Right (body quotes.Single) x (go quotes.Single parts.Backslash)) (sym (equal c 92 h)) single_backslash)
+    (λ b. by_test (Right (body quotes.Single) c) (c == 10 || c == 13) _ _
+    (λ h. single_line c q b h)
+    (λ n. single_plain c q b n)))
   where
     single_backslash : Right (body quotes.Single) 92 (go quotes.Single parts.Backslash)
     single_backslash the_ends.Closed cs ys = goes (body quotes.Single the_ends.Closed) (behind_part after_backslash quotes.Single the_ends.Closed) 92 cs ys refl refl
@@ -164,10 +162,10 @@ template_right c =
     by_test (Right (body quotes.Template) c) (c == 96) _ _
     (λ h. subst (λ x. Right (body quotes.Template) x (With the_ends.Closed)) (sym (equal c 96 h)) template_closes)
     (λ q. by_test (Right (body quotes.Template) c) (c == 92) _ _
-      (λ h. subst (λ x. Right (body quotes.Template) x (go quotes.Template parts.Backslash)) (sym (equal c 92 h)) template_backslash)
-      (λ b. by_test (Right (body quotes.Template) c) (c == 36) _ _
-        (λ h. subst (λ x. Right (body quotes.Template) x (go quotes.Template parts.Dollar)) (sym (equal c 36 h)) template_dollar)
-        (λ d. template_plain c q b d)))
+    (λ h. subst (λ x. Right (body quotes.Template) x (go quotes.Template parts.Backslash)) (sym (equal c 92 h)) template_backslash)
+    (λ b. by_test (Right (body quotes.Template) c) (c == 36) _ _
+    (λ h. subst (λ x. Right (body quotes.Template) x (go quotes.Template parts.Dollar)) (sym (equal c 36 h)) template_dollar)
+    (λ d. template_plain c q b d)))
 
 plain_right : (q : Quote) (c : ℕ) → Right (body q) c (plain_step q c)
 plain_right quotes.Double c = double_right c
@@ -238,14 +236,14 @@ backslash_right q c =
     by_test (Right (λ k. behind_part after_backslash q k) c) (c == 48) _ _
     (λ h. subst (λ x. Right (λ k. behind_part after_backslash q k) x (go q parts.Zero)) (sym (equal c 48 h)) (λ k cs ys. first_goes after_backslash (NotBefore is_digit) (chars q) (close_of q k) (48 ∷ cs) cs ys (backslash_zero cs)))
     (λ z. by_test (Right (λ k. behind_part after_backslash q k) c) (is_digit c) _ _
-      (λ d k cs ys. first_stuck after_backslash (chars q) (close_of q k) (c ∷ cs) ys (backslash_digit c z d cs))
-      (λ d. by_test (Right (λ k. behind_part after_backslash q k) c) (c == 120) _ _
-        (λ h. subst (λ x. Right (λ k. behind_part after_backslash q k) x (go q parts.TwoHexDigits)) (sym (equal c 120 h)) (λ k cs ys. first_goes after_backslash (Then hex_digit hex_digit) (chars q) (close_of q k) (120 ∷ cs) cs ys (backslash_x cs)))
-        (λ x. by_test (Right (λ k. behind_part after_backslash q k) c) (c == 117) _ _
-          (λ h. subst (λ x. Right (λ k. behind_part after_backslash q k) x (go q (parts.Escape escapes.Unicode))) (sym (equal c 117 h)) (λ k cs ys. first_goes after_backslash after_u (chars q) (close_of q k) (117 ∷ cs) cs ys (backslash_u cs)))
-          (λ u. by_test (Right (λ k. behind_part after_backslash q k) c) (c == 13) _ _
-            (λ h. subst (λ x. Right (λ k. behind_part after_backslash q k) x (go q parts.CarriageReturn)) (sym (equal c 13 h)) (λ k cs ys. first_goes after_backslash (Or (char 10) (NotBefore (is 10))) (chars q) (close_of q k) (13 ∷ cs) cs ys (backslash_return cs)))
-            (λ r k cs ys. first_ends after_backslash (chars q) (close_of q k) (c ∷ cs) cs ys (backslash_other c z d x u r cs))))))
+    (λ d k cs ys. first_stuck after_backslash (chars q) (close_of q k) (c ∷ cs) ys (backslash_digit c z d cs))
+    (λ d. by_test (Right (λ k. behind_part after_backslash q k) c) (c == 120) _ _
+    (λ h. subst (λ x. Right (λ k. behind_part after_backslash q k) x (go q parts.TwoHexDigits)) (sym (equal c 120 h)) (λ k cs ys. first_goes after_backslash (Then hex_digit hex_digit) (chars q) (close_of q k) (120 ∷ cs) cs ys (backslash_x cs)))
+    (λ x. by_test (Right (λ k. behind_part after_backslash q k) c) (c == 117) _ _
+    (λ h. subst (λ x. Right (λ k. behind_part after_backslash q k) x (go q (parts.Escape escapes.Unicode))) (sym (equal c 117 h)) (λ k cs ys. first_goes after_backslash after_u (chars q) (close_of q k) (117 ∷ cs) cs ys (backslash_u cs)))
+    (λ u. by_test (Right (λ k. behind_part after_backslash q k) c) (c == 13) _ _
+    (λ h. subst (λ x. Right (λ k. behind_part after_backslash q k) x (go q parts.CarriageReturn)) (sym (equal c 13 h)) (λ k cs ys. first_goes after_backslash (Or (char 10) (NotBefore (is 10))) (chars q) (close_of q k) (13 ∷ cs) cs ys (backslash_return cs)))
+    (λ r k cs ys. first_ends after_backslash (chars q) (close_of q k) (c ∷ cs) cs ys (backslash_other c z d x u r cs))))))
   where
     chars : Quote → Rule
     chars q = Many (character_of q)
@@ -285,9 +283,10 @@ return_right q c =
     lf_or_not = Or (char 10) (NotBefore (is 10))
 
     no_lf : (c == 10) ≡ false → (k : End) (cs ys : List ℕ) → Leads (behind_part lf_or_not q k) (c ∷ cs) ys ↔ Leads (body q k) (c ∷ cs) ys
-    no_lf h k cs ys =
-        (λ l. (l.0, only l.0 l.1, l.2),
-        λ l. (l.0, (c ∷ cs, inr (refl, h), l.1), l.2))
+    no_lf h k cs ys = (
+      λ l. (l.0, only l.0 l.1, l.2),
+      λ l. (l.0, (c ∷ cs, inr (refl, h), l.1), l.2),
+    )
       where
         differ : (b : Bool) → b ≡ false → b ≡ true → ⊥
         differ b h k = cc
@@ -307,21 +306,25 @@ dollar_right q c =
 
     brace : (c == 123) ≡ true → (k : End) (cs ys : List ℕ) → Leads (dollar_rest q k) (c ∷ cs) ys ↔ ((same_end the_ends.Substitution k ≡ true) × (ys ≡ cs))
     brace h the_ends.Closed cs ys = and_never false refl (no_lookahead (is 123) (Many (character_of q)) (close_of q the_ends.Closed) (c ∷ cs) ys h)
-    brace h the_ends.Substitution cs ys =
-        (λ l. elim l [
-          | inl i ↦ absurd (no_lookahead (is 123) (Many (character_of q)) (close_of q the_ends.Substitution) (c ∷ cs) ys h i)
-          | inr i ↦ (refl, sym i.1)
-        ], λ p. inr (h, sym p.1))
+    brace h the_ends.Substitution cs ys = (
+      λ l. elim l [
+        | inl i ↦ absurd (no_lookahead (is 123) (Many (character_of q)) (close_of q the_ends.Substitution) (c ∷ cs) ys h i)
+        | inr i ↦ (refl, sym i.1)
+      ],
+      λ p. inr (h, sym p.1),
+    )
 
     no_brace : (c == 123) ≡ false → (k : End) (cs ys : List ℕ) → Leads (dollar_rest q k) (c ∷ cs) ys ↔ Leads (body q k) (c ∷ cs) ys
     no_brace h the_ends.Closed cs ys = past_lookahead (is 123) (Many (character_of q)) (close_of q the_ends.Closed) (c ∷ cs) ys h
     no_brace h the_ends.Substitution cs ys =
         let same : Leads (behind_part (NotBefore (is 123)) q the_ends.Substitution) (c ∷ cs) ys ↔ Leads (body q the_ends.Substitution) (c ∷ cs) ys
-          = past_lookahead (is 123) (Many (character_of q)) (close_of q the_ends.Substitution) (c ∷ cs) ys h in
-        (λ l. elim l [
-          | inl i ↦ same.0 i
-          | inr i ↦ absurd (differ (c == 123) h i.0)
-        ], λ l. inl (same.1 l))
+        = past_lookahead (is 123) (Many (character_of q)) (close_of q the_ends.Substitution) (c ∷ cs) ys h in (
+          λ l. elim l [
+            | inl i ↦ same.0 i
+            | inr i ↦ absurd (differ (c == 123) h i.0)
+          ],
+          λ l. inl (same.1 l),
+        )
 
 part_right : (q : Quote) (p : Part) (c : ℕ) → Right (part_rest q p) c (part_step q p c)
 part_right q parts.Plain c = plain_right q c

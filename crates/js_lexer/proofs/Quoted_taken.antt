@@ -1,8 +1,7 @@
 -- Strings and templates are taken exactly.
-use Rattle.std.proofs.Common.{◌≡◌, ◌↔◌, ◌⊎◌, inl, inr, ℕ, ◌==◌, ◌||◌, ◌&&◌, Bool, true, false, List, [], ◌∷◌, ◌++◌, Result, Ok, Err, refl, sym, ap, subst, ◌∙◌}
+use Rattle.std.proofs.Common.{◌≡◌, inl, inr, ℕ, Bool, true, false, List, ◌∷◌, Ok, Err, refl, sym, ap, subst, ◌∙◌}
 use Rattle.js_lexer.specs.declared.element.Element.{Element}
 use Rattle.js_lexer.specs.declared.element.Element.TheVariants as elements
-use Rattle.js_lexer.specs.declared.element.Form.{Form}
 use Rattle.js_lexer.specs.declared.machine.Stop.{Stop}
 use Rattle.js_lexer.specs.declared.quoted.End.{End}
 use Rattle.js_lexer.specs.declared.quoted.End.TheVariants as the_ends
@@ -10,8 +9,7 @@ use Rattle.js_lexer.specs.declared.quoted.Quote.{Quote}
 use Rattle.js_lexer.specs.declared.quoted.Quote.TheVariants as quotes
 use Rattle.js_lexer.specs.declared.token.TemplatePart.{TemplatePart}
 use Rattle.js_lexer.specs.declared.token.TemplatePart.TheVariants as templates
-use Rattle.js_lexer.specs.Elements.{Stands, Shows, StandsNone}
-use Rattle.js_lexer.specs.Grammar.{rest_of_string, rest_of_template, rest_to_substitution}
+use Rattle.js_lexer.specs.Elements.{Stands}
 use Rattle.js_lexer.specs.Machines.{Reading, run}
 use Rattle.js_lexer.specs.Quoted.{quoted_step, quoted_stop, opened}
 use Rattle.js_lexer.specs.Rules.{Leads}
@@ -53,7 +51,6 @@ never_both a stop r h k = out a stop (sym h ∙ k)
     out : (a : End × List ℕ) (stop : Stop) → (let x : Reading End = Ok a in x) ≡ Err stop → ⊥
     out a stop h = cc
 
-
 -- strings between 34 and 34
 double_reads : (inside : Bool) (cs : List ℕ) (e : Element) (ys : List ℕ) → Stands inside e (34 ∷ cs) ys → (e ≡ elements.String) × (reading quotes.Double cs ≡ Ok (the_ends.Closed, ys))
 double_reads inside cs e ys h =
@@ -65,19 +62,20 @@ double_reads inside cs e ys h =
     read (inr l) = absurd (let e : false ≡ true = l.1.0 in cc)
 
 pub exactly_double : (inside : Bool) (cs : List ℕ) (r : Reading End) → reading quotes.Double cs ≡ r → Exactly inside (34 ∷ cs) (string_taken r)
-exactly_double inside cs (Ok (the_ends.Closed, zs)) e =
-    (inl (cs, (refl, refl), reading_leads quotes.Double the_ends.Closed cs zs e),
-    λ f ys h.
-    let k : (f ≡ elements.String) × (reading quotes.Double cs ≡ Ok (the_ends.Closed, ys)) = double_reads inside cs f ys h in
-    (k.0, ap (λ z. z.1) (ok_same (the_ends.Closed, ys) (the_ends.Closed, zs) (reading quotes.Double cs) k.1 e)),
-    double_form cs)
+exactly_double inside cs (Ok (the_ends.Closed, zs)) e = (
+  inl (cs, (refl, refl), reading_leads quotes.Double the_ends.Closed cs zs e),
+  λ f ys h.
+      let k : (f ≡ elements.String) × (reading quotes.Double cs ≡ Ok (the_ends.Closed, ys)) = double_reads inside cs f ys h in
+      (k.0, ap (λ z. z.1) (ok_same (the_ends.Closed, ys) (the_ends.Closed, zs) (reading quotes.Double cs) k.1 e)),
+  double_form cs,
+)
 exactly_double inside cs (Ok (the_ends.Substitution, zs)) e = absurd ((reading_leads quotes.Double the_ends.Substitution cs zs e).2)
-exactly_double inside cs (Err stop) e =
-    (λ f ys h.
-    let k : (f ≡ elements.String) × (reading quotes.Double cs ≡ Ok (the_ends.Closed, ys)) = double_reads inside cs f ys h in
-    never_both (the_ends.Closed, ys) stop (reading quotes.Double cs) k.1 e,
-    double_form cs)
-
+exactly_double inside cs (Err stop) e = (
+  λ f ys h.
+      let k : (f ≡ elements.String) × (reading quotes.Double cs ≡ Ok (the_ends.Closed, ys)) = double_reads inside cs f ys h in
+      never_both (the_ends.Closed, ys) stop (reading quotes.Double cs) k.1 e,
+  double_form cs,
+)
 
 -- strings between 39 and 39
 single_reads : (inside : Bool) (cs : List ℕ) (e : Element) (ys : List ℕ) → Stands inside e (39 ∷ cs) ys → (e ≡ elements.String) × (reading quotes.Single cs ≡ Ok (the_ends.Closed, ys))
@@ -90,19 +88,20 @@ single_reads inside cs e ys h =
     read (inl l) = absurd (let e : false ≡ true = l.1.0 in cc)
 
 pub exactly_single : (inside : Bool) (cs : List ℕ) (r : Reading End) → reading quotes.Single cs ≡ r → Exactly inside (39 ∷ cs) (string_taken r)
-exactly_single inside cs (Ok (the_ends.Closed, zs)) e =
-    (inr (cs, (refl, refl), reading_leads quotes.Single the_ends.Closed cs zs e),
-    λ f ys h.
-    let k : (f ≡ elements.String) × (reading quotes.Single cs ≡ Ok (the_ends.Closed, ys)) = single_reads inside cs f ys h in
-    (k.0, ap (λ z. z.1) (ok_same (the_ends.Closed, ys) (the_ends.Closed, zs) (reading quotes.Single cs) k.1 e)),
-    single_form cs)
+exactly_single inside cs (Ok (the_ends.Closed, zs)) e = (
+  inr (cs, (refl, refl), reading_leads quotes.Single the_ends.Closed cs zs e),
+  λ f ys h.
+      let k : (f ≡ elements.String) × (reading quotes.Single cs ≡ Ok (the_ends.Closed, ys)) = single_reads inside cs f ys h in
+      (k.0, ap (λ z. z.1) (ok_same (the_ends.Closed, ys) (the_ends.Closed, zs) (reading quotes.Single cs) k.1 e)),
+  single_form cs,
+)
 exactly_single inside cs (Ok (the_ends.Substitution, zs)) e = absurd ((reading_leads quotes.Single the_ends.Substitution cs zs e).2)
-exactly_single inside cs (Err stop) e =
-    (λ f ys h.
-    let k : (f ≡ elements.String) × (reading quotes.Single cs ≡ Ok (the_ends.Closed, ys)) = single_reads inside cs f ys h in
-    never_both (the_ends.Closed, ys) stop (reading quotes.Single cs) k.1 e,
-    single_form cs)
-
+exactly_single inside cs (Err stop) e = (
+  λ f ys h.
+      let k : (f ≡ elements.String) × (reading quotes.Single cs ≡ Ok (the_ends.Closed, ys)) = single_reads inside cs f ys h in
+      never_both (the_ends.Closed, ys) stop (reading quotes.Single cs) k.1 e,
+  single_form cs,
+)
 
 -- templates from 96 on
 abbrev accent_end : End → TemplatePart
@@ -135,19 +134,20 @@ accent_part the_ends.Closed = refl
 accent_part the_ends.Substitution = refl
 
 pub exactly_accent : (inside : Bool) (cs : List ℕ) (r : Reading End) → reading quotes.Template cs ≡ r → Exactly inside (96 ∷ cs) (template_taken templates.Whole templates.Head r)
-exactly_accent inside cs (Ok (k, zs)) e =
-    (subst (λ z. Stands inside (elements.Template z) (96 ∷ cs) zs) (sym (accent_part k)) (accent_stands inside cs k zs e),
-    λ f ys h.
-    let r : (part : TemplatePart) × (f ≡ elements.Template part) × AccentRead part cs ys = accent_reads inside cs f ys h in
-    let s : (r.2.0, ys) ≡ (k, zs) = ok_same (r.2.0, ys) (k, zs) (reading quotes.Template cs) r.2.2 e in
-    (r.1 ∙ ap elements.Template (r.2.1 ∙ ap (λ z. accent_end z.0) s ∙ sym (accent_part k)), ap (λ z. z.1) s),
-    accent_form cs)
-exactly_accent inside cs (Err stop) e =
-    (λ f ys h.
-    let r : (part : TemplatePart) × (f ≡ elements.Template part) × AccentRead part cs ys = accent_reads inside cs f ys h in
-    never_both (r.2.0, ys) stop (reading quotes.Template cs) r.2.2 e,
-    accent_form cs)
-
+exactly_accent inside cs (Ok (k, zs)) e = (
+  subst (λ z. Stands inside (elements.Template z) (96 ∷ cs) zs) (sym (accent_part k)) (accent_stands inside cs k zs e),
+  λ f ys h.
+      let r : (part : TemplatePart) × (f ≡ elements.Template part) × AccentRead part cs ys = accent_reads inside cs f ys h in
+      let s : (r.2.0, ys) ≡ (k, zs) = ok_same (r.2.0, ys) (k, zs) (reading quotes.Template cs) r.2.2 e in
+      (r.1 ∙ ap elements.Template (r.2.1 ∙ ap (λ z. accent_end z.0) s ∙ sym (accent_part k)), ap (λ z. z.1) s),
+  accent_form cs,
+)
+exactly_accent inside cs (Err stop) e = (
+  λ f ys h.
+      let r : (part : TemplatePart) × (f ≡ elements.Template part) × AccentRead part cs ys = accent_reads inside cs f ys h in
+      never_both (r.2.0, ys) stop (reading quotes.Template cs) r.2.2 e,
+  accent_form cs,
+)
 
 -- templates from 125 on
 abbrev brace_end : End → TemplatePart
@@ -180,16 +180,17 @@ brace_part the_ends.Closed = refl
 brace_part the_ends.Substitution = refl
 
 pub exactly_brace : (cs : List ℕ) (r : Reading End) → reading quotes.Template cs ≡ r → Exactly true (125 ∷ cs) (template_taken templates.Tail templates.Middle r)
-exactly_brace cs (Ok (k, zs)) e =
-    (subst (λ z. Stands true (elements.Template z) (125 ∷ cs) zs) (sym (brace_part k)) (brace_stands cs k zs e),
-    λ f ys h.
-    let r : (part : TemplatePart) × (f ≡ elements.Template part) × BraceRead part cs ys = brace_reads cs f ys h in
-    let s : (r.2.0, ys) ≡ (k, zs) = ok_same (r.2.0, ys) (k, zs) (reading quotes.Template cs) r.2.2 e in
-    (r.1 ∙ ap elements.Template (r.2.1 ∙ ap (λ z. brace_end z.0) s ∙ sym (brace_part k)), ap (λ z. z.1) s),
-    brace_form cs)
-exactly_brace cs (Err stop) e =
-    (λ f ys h.
-    let r : (part : TemplatePart) × (f ≡ elements.Template part) × BraceRead part cs ys = brace_reads cs f ys h in
-    never_both (r.2.0, ys) stop (reading quotes.Template cs) r.2.2 e,
-    brace_form cs)
-
+exactly_brace cs (Ok (k, zs)) e = (
+  subst (λ z. Stands true (elements.Template z) (125 ∷ cs) zs) (sym (brace_part k)) (brace_stands cs k zs e),
+  λ f ys h.
+      let r : (part : TemplatePart) × (f ≡ elements.Template part) × BraceRead part cs ys = brace_reads cs f ys h in
+      let s : (r.2.0, ys) ≡ (k, zs) = ok_same (r.2.0, ys) (k, zs) (reading quotes.Template cs) r.2.2 e in
+      (r.1 ∙ ap elements.Template (r.2.1 ∙ ap (λ z. brace_end z.0) s ∙ sym (brace_part k)), ap (λ z. z.1) s),
+  brace_form cs,
+)
+exactly_brace cs (Err stop) e = (
+  λ f ys h.
+      let r : (part : TemplatePart) × (f ≡ elements.Template part) × BraceRead part cs ys = brace_reads cs f ys h in
+      never_both (r.2.0, ys) stop (reading quotes.Template cs) r.2.2 e,
+  brace_form cs,
+)

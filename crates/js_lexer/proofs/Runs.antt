@@ -1,21 +1,19 @@
 -- A source is divided into elements in one way.
-use Rattle.std.proofs.Common.{◌≡◌, ◌↔◌, ◌⊎◌, inl, inr, ℕ, Bool, true, false, List, [], ◌∷◌, ◌++◌, Option, Some, None, Result, Ok, Err, refl, sym, ap, subst, ◌∙◌}
+use Rattle.std.proofs.Common.{◌≡◌, ◌⊎◌, inl, inr, ℕ, Bool, List, [], ◌++◌, Some, Ok, Err, refl, sym, ap, subst, ◌∙◌}
 use Rattle.std.proofs.lemmas.List.{append_cancel_right}
 use Rattle.std.specs.Str.{encode_utf8_all}
 use Rattle.js_lexer.specs.declared.element.Element.{Element}
 use Rattle.js_lexer.specs.declared.element.Element.TheVariants as elements
 use Rattle.js_lexer.specs.declared.element.Form.{Form}
-use Rattle.js_lexer.specs.declared.element.NoElement.{NoElement}
 use Rattle.js_lexer.specs.declared.element.NoElement.TheVariants.{Stopped, LeftOut}
 use Rattle.js_lexer.specs.declared.keywords.Keyword.{Keyword}
 use Rattle.js_lexer.specs.declared.machine.Stop.{Stop}
 use Rattle.js_lexer.specs.declared.punctuators.Punctuator.{Punctuator}
 use Rattle.js_lexer.specs.declared.token.TemplatePart.{TemplatePart}
-use Rattle.js_lexer.specs.declared.token.Token.{Token}
 use Rattle.js_lexer.specs.declared.token.TokenKind.{TokenKind}
 use Rattle.js_lexer.specs.declared.token.TokenKind.TheVariants as kinds
-use Rattle.js_lexer.specs.Elements.{IsElement, Stands, Shows, StandsNone}
-use Rattle.js_lexer.specs.Keywords.{keyword_text, keyword_named}
+use Rattle.js_lexer.specs.Elements.{IsElement, Shows, StandsNone}
+use Rattle.js_lexer.specs.Keywords.{keyword_text}
 use Rattle.js_lexer.specs.Nestings.{inside}
 use Rattle.js_lexer.specs.Scanning.{Taking, element_of}
 use Rattle.js_lexer.specs.Sources.{State, IsKind, over_gap, over_token, Takes, gap, token, Run, start, further}

@@ -1,5 +1,5 @@
 -- The next element by its first character.
-use Rattle.std.proofs.Common.{◌≡◌, ℕ, Bool, true, false, List, [], ◌∷◌, Option, Some, None, Result, Ok, Err, refl, sym, subst}
+use Rattle.std.proofs.Common.{◌≡◌, ℕ, Bool, false, List, [], ◌∷◌, Some, Result, refl, sym, subst}
 use Rattle.js_lexer.specs.declared.element.Element.{Element}
 use Rattle.js_lexer.specs.declared.element.NoElement.{NoElement}
 use Rattle.js_lexer.specs.Characters.{first_of, is_name_start}

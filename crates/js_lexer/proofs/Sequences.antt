@@ -1,12 +1,13 @@
 -- What a character does to the first part of a sequence.
-use Rattle.std.proofs.Common.{◌≡◌, ◌↔◌, ◌⊎◌, inl, inr, ℕ, Bool, true, false, List, [], ◌∷◌, refl, sym, subst}
-use Rattle.js_lexer.specs.Rules.{Rule, NotBefore, Then, Or, Leads, begins_with}
+use Rattle.std.proofs.Common.{◌≡◌, ◌↔◌, ℕ, Bool, true, false, List, refl, sym, subst}
+use Rattle.js_lexer.specs.Rules.{Rule, NotBefore, Then, Leads, begins_with}
 
 -- a lookahead in front
 pub past_lookahead : (p : ℕ → Bool) (m e : Rule) (xs ys : List ℕ) → begins_with p xs ≡ false → Leads (Then (Then (NotBefore p) m) e) xs ys ↔ Leads (Then m e) xs ys
-past_lookahead p m e xs ys h =
-    (λ k. let same : xs ≡ k.1.0 = k.1.1.0 in (k.0, subst (λ z. Leads m z k.0) (sym same) k.1.2, k.2),
-    λ k. (k.0, (xs, (refl, h), k.1), k.2))
+past_lookahead p m e xs ys h = (
+  λ k. let same : xs ≡ k.1.0 = k.1.1.0 in (k.0, subst (λ z. Leads m z k.0) (sym same) k.1.2, k.2),
+  λ k. (k.0, (xs, (refl, h), k.1), k.2),
+)
 
 pub no_lookahead : (p : ℕ → Bool) (m e : Rule) (xs ys : List ℕ) → begins_with p xs ≡ true → Leads (Then (Then (NotBefore p) m) e) xs ys → ⊥
 no_lookahead p m e xs ys h k = differ (begins_with p xs) h (k.1.1.1)
@@ -21,9 +22,10 @@ first_goes a b m e xs zs ys h =
 
 -- the first part ends
 pub first_ends : (a m e : Rule) (xs zs ys : List ℕ) → ((ms : List ℕ) → Leads a xs ms ↔ (ms ≡ zs)) → Leads (Then (Then a m) e) xs ys ↔ Leads (Then m e) zs ys
-first_ends a m e xs zs ys h =
-    (λ k. let same : k.1.0 ≡ zs = (h k.1.0).0 k.1.1 in (k.0, subst (λ z. Leads m z k.0) same k.1.2, k.2),
-    λ k. (k.0, (zs, (h zs).1 refl, k.1), k.2))
+first_ends a m e xs zs ys h = (
+  λ k. let same : k.1.0 ≡ zs = (h k.1.0).0 k.1.1 in (k.0, subst (λ z. Leads m z k.0) same k.1.2, k.2),
+  λ k. (k.0, (zs, (h zs).1 refl, k.1), k.2),
+)
 
 -- the first part does not stand there
 pub first_stuck : (a m e : Rule) (xs ys : List ℕ) → ((ms : List ℕ) → Leads a xs ms → ⊥) → Leads (Then (Then a m) e) xs ys → ⊥

@@ -1,5 +1,5 @@
 -- What the next character does to what is left of a text.
-use Rattle.std.proofs.Common.{◌≡◌, ℕ, MatchOption, List, [], ◌∷◌, ◌++◌, length, Option, Some, None, refl, sym, ap, ◌∙◌, ◌+◌, ◌-◌, ◌≤◌, take, length-append, arith}
+use Rattle.std.proofs.Common.{◌≡◌, ℕ, MatchOption, List, [], ◌∷◌, ◌++◌, length, Option, Some, None, refl, sym, ap, ◌∙◌, ◌-◌, ◌≤◌, take, length-append, arith}
 use Rattle.std.proofs.Math.Seq.{take-append_seam}
 use Rattle.std.specs.Str.{IsUtf8, chars, encode_utf8_all}
 use Rattle.std.specs.Char.{encode_utf8}

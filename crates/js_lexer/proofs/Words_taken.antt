@@ -1,5 +1,5 @@
 -- Names are taken exactly, and the forms that are left out of them.
-use Rattle.std.proofs.Common.{◌≡◌, ◌<◌, ◌↔◌, ◌⊎◌, inl, inr, ℕ, ◌==◌, ◌||◌, ◌&&◌, Bool, true, false, cond, not, nat_lt, List, [], ◌∷◌, ◌++◌, Option, Some, None, is_some, Result, Ok, Err, refl, sym, ap, subst, ◌∙◌, arith}
+use Rattle.std.proofs.Common.{◌≡◌, inl, inr, ℕ, ◌==◌, ◌||◌, ◌&&◌, Bool, true, false, cond, not, nat_lt, List, [], ◌∷◌, Some, None, is_some, Ok, Err, refl, sym, ap, subst, ◌∙◌, arith}
 use Rattle.std.proofs.lemmas.Bool.Decides.{nat_tests}
 use Rattle.std.specs.Char.{is_ascii_alphabetic}
 use Rattle.js_lexer.specs.declared.element.Element.{Element}
@@ -12,21 +12,20 @@ use Rattle.js_lexer.specs.declared.punctuators.Punctuator.{Punctuator}
 use Rattle.js_lexer.specs.declared.token.TemplatePart.TheVariants as templates
 use Rattle.js_lexer.specs.Characters.{is_name_start, is_name_part, is_digit, is_white_space, is_line_terminator}
 use Rattle.js_lexer.specs.Elements.{Stands, Shows, StandsNone}
-use Rattle.js_lexer.specs.Escapes.{escape_step, escape_stop}
 use Rattle.js_lexer.specs.Grammar.{char, name, name_rest, unicode_escape}
-use Rattle.js_lexer.specs.Machines.{Reading, run}
+use Rattle.js_lexer.specs.Machines.{Reading}
 use Rattle.js_lexer.specs.Punctuators.{single, singles, named}
-use Rattle.js_lexer.specs.declared.element.NoElement.TheVariants.{Stopped, LeftOut}
+use Rattle.js_lexer.specs.declared.element.NoElement.TheVariants.{LeftOut}
 use Rattle.js_lexer.specs.declared.machine.Stop.TheVariants as stops
 use Rattle.unicode_ident.specs.Ident.{is_xid_continue}
 use Rattle.unicode_ident.proofs.IdentLemmas.{is_xid_continue-ascii}
-use Rattle.js_lexer.specs.Rules.{Rule, Or, One, Then, Many, Leads, Steps, stay, step, begins_with}
-use Rattle.js_lexer.specs.Scanning.{Taking, word_ending, word_unless, escape_reading, left_out, private_taken, refused}
+use Rattle.js_lexer.specs.Rules.{Or, One, Then, Many, Leads}
+use Rattle.js_lexer.specs.Scanning.{word_ending, word_unless, escape_reading, left_out, private_taken, refused}
 use Rattle.js_lexer.specs.Skipping.{skip}
-use Rattle.js_lexer.proofs.Beginnings.{may_begin, form_begins, is_comment_second, begins, form_begins_so}
+use Rattle.js_lexer.proofs.Beginnings.{form_begins, form_begins_so}
 use Rattle.js_lexer.proofs.Comments_laws.{skip_exact}
-use Rattle.js_lexer.proofs.Escapes_laws.{escape_exact, escape_rest}
-use Rattle.js_lexer.proofs.Exactly.{Exactly, Others, Family, gaps, words, numbers, strings, template_parts, marks, no_family, of_family, of_only, is_word, is_none, backslash_others, backslash_form, hash_others, hash_form, at_form}
+use Rattle.js_lexer.proofs.Escapes_laws.{escape_exact}
+use Rattle.js_lexer.proofs.Exactly.{Exactly, Others, words, no_family, of_only, is_word, is_none, backslash_others, backslash_form, hash_others, hash_form, at_form}
 use Rattle.js_lexer.proofs.Firsts.{other_no_start, space_no_start, digit_no_start}
 
 equal : (c n : ℕ) → (c == n) ≡ true → c ≡ n
@@ -68,7 +67,7 @@ named_none : (c : ℕ) (es : List (ℕ × Punctuator)) → is_name_start c ≡ t
 named_none c [] h k = refl
 named_none c (e ∷ es) h k =
     let p : (nat_lt e.0 128 ≡ true) × (not (is_ascii_alphabetic e.0 || e.0 == 36 || e.0 == 95) ≡ true) × (none_start es ≡ true)
-      = three (nat_lt e.0 128) (not (is_ascii_alphabetic e.0 || e.0 == 36 || e.0 == 95)) (none_start es) k in
+    = three (nat_lt e.0 128) (not (is_ascii_alphabetic e.0 || e.0 == 36 || e.0 == 95)) (none_start es) k in
     let d : (c == e.0) ≡ false = differs c e.0 h (other_no_start e.0 p.0 (not_false (is_ascii_alphabetic e.0 || e.0 == 36 || e.0 == 95) p.1)) in
     ap (λ b. cond b (Some e.1) (named c es)) d ∙ named_none c es h p.2
   where
@@ -180,10 +179,11 @@ word_only inside c cs s e ys h =
     (same, word_behind c cs ys (subst (λ z. Stands inside z (c ∷ cs) ys) same h))
 
 word_taken : (inside : Bool) (c : ℕ) (cs zs : List ℕ) → is_name_start c ≡ true → skip is_name_part cs ≡ zs → (Shows forms.Escape (c ∷ cs) → ⊥) → Exactly inside (c ∷ cs) (Ok (elements.Word, zs))
-word_taken inside c cs zs s e none =
-    ((cs, (s, refl), (skip_exact is_name_part cs zs).1 (sym e)),
-    λ f ys h. let k : (f ≡ elements.Word) × (ys ≡ skip is_name_part cs) = word_only inside c cs s f ys h in (k.0, k.1 ∙ e),
-    λ form h. none (subst (λ z. Shows z (c ∷ cs)) (word_forms c cs s form h) h))
+word_taken inside c cs zs s e none = (
+  (cs, (s, refl), (skip_exact is_name_part cs zs).1 (sym e)),
+  λ f ys h. let k : (f ≡ elements.Word) × (ys ≡ skip is_name_part cs) = word_only inside c cs s f ys h in (k.0, k.1 ∙ e),
+  λ form h. none (subst (λ z. Shows z (c ∷ cs)) (word_forms c cs s form h) h),
+)
 
 escape_taken : (inside : Bool) (c : ℕ) (cs ds : List ℕ) → is_name_start c ≡ true → skip is_name_part cs ≡ 92 ∷ ds → (r : Reading (Unit {0})) → escape_reading ds ≡ r → Exactly inside (c ∷ cs) (word_unless (92 ∷ ds) r)
 escape_taken inside c cs ds s e (Ok (u, ys)) f = (shows_escape c cs ds ys s e f, λ other h. word_forms c cs s other h)
@@ -237,11 +237,12 @@ no_element inside c cs others e ys h = is_none e (of_only inside no_family c cs 
 
 pub exactly_backslash : (inside : Bool) (cs : List ℕ) (r : Reading (Unit {0})) → escape_reading cs ≡ r → Exactly inside (92 ∷ cs) (left_out forms.Escape r)
 exactly_backslash inside cs (Ok (u, ys)) e = ((ys, (92 ∷ cs, inr refl, (cs, (refl, refl), from_read cs ys e))), backslash_form cs)
-exactly_backslash inside cs (Err stop) e =
-    (no_element inside 92 cs (backslash_others inside cs),
-    λ form h.
-    let k : (ys : List ℕ) × Read cs ys = backslash_reads cs (subst (λ z. Shows z (92 ∷ cs)) (backslash_form cs form h) h) in
-    never_both (tt, k.0) stop (escape_reading cs) k.1 e)
+exactly_backslash inside cs (Err stop) e = (
+  no_element inside 92 cs (backslash_others inside cs),
+  λ form h.
+      let k : (ys : List ℕ) × Read cs ys = backslash_reads cs (subst (λ z. Shows z (92 ∷ cs)) (backslash_form cs form h) h) in
+      never_both (tt, k.0) stop (escape_reading cs) k.1 e,
+)
 
 -- private names
 
@@ -252,11 +253,12 @@ private_behind : (cs : List ℕ) → Shows forms.Private (35 ∷ cs) → (ys : L
 private_behind cs (ys, (ms, h, k)) = (ys, subst (λ z. PrivateBehind z ys) (sym h.1) k)
 
 private_none : (inside : Bool) (cs : List ℕ) → ((ys : List ℕ) → PrivateBehind cs ys → ⊥) → StandsNone inside (35 ∷ cs)
-private_none inside cs none =
-    (no_element inside 35 cs (hash_others inside cs),
-    λ form h.
-    let k : (ys : List ℕ) × PrivateBehind cs ys = private_behind cs (subst (λ z. Shows z (35 ∷ cs)) (hash_form cs form h) h) in
-    none k.0 k.1)
+private_none inside cs none = (
+  no_element inside 35 cs (hash_others inside cs),
+  λ form h.
+      let k : (ys : List ℕ) × PrivateBehind cs ys = private_behind cs (subst (λ z. Shows z (35 ∷ cs)) (hash_form cs form h) h) in
+      none k.0 k.1,
+)
 
 private_there : (cs ys : List ℕ) → PrivateBehind cs ys → Shows forms.Private (35 ∷ cs)
 private_there cs ys h = (ys, (cs, (refl, refl), h))

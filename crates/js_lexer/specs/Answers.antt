@@ -8,7 +8,7 @@ use Rattle.js_tree.specs.declared.fault.SyntaxWhat.TheVariants as what
 use Rattle.js_lexer.specs.declared.element.Form.{Form}
 use Rattle.js_lexer.specs.declared.element.Form.TheVariants as forms
 use Rattle.js_lexer.specs.declared.token.Token.{Token}
-use Rattle.js_lexer.specs.Sources.{IsTokens, IsBadToken, IsUnsupported, IsNotUtf8}
+use Rattle.js_lexer.specs.Sources.{IsBadToken, IsUnsupported, IsNotUtf8}
 
 -- the name by which a form that is left out is told
 abbrev pub form_name : Form → List ℕ

@@ -1,7 +1,7 @@
 -- The machine of comments, one function a Rust function. `Grammar` says what they mean.
-use Rattle.std.specs.Prelude.{ℕ, ◌==◌, if◌then◌else◌, Result, Ok, Err}
+use Rattle.std.specs.Prelude.{ℕ, ◌==◌, if◌then◌else◌, Result, Err}
 use Rattle.js_lexer.specs.declared.machine.Step.{Step}
-use Rattle.js_lexer.specs.declared.machine.Step.TheVariants.{Go, With, Before, Bad}
+use Rattle.js_lexer.specs.declared.machine.Step.TheVariants.{Go, With}
 use Rattle.js_lexer.specs.declared.machine.Stop.{Stop}
 use Rattle.js_lexer.specs.declared.machine.Stop.TheVariants as stops
 use Rattle.js_lexer.specs.declared.comments.Comment.{Comment}

@@ -1,7 +1,7 @@
 -- The machine of `u` escapes, one function a Rust function. `Grammar` says what they mean.
-use Rattle.std.specs.Prelude.{ℕ, ◌+◌, ◌*◌, ◌==◌, ◌&&◌, nat_lt, if◌then◌else◌, Result, Ok, Err}
+use Rattle.std.specs.Prelude.{ℕ, ◌+◌, ◌*◌, ◌==◌, ◌&&◌, nat_lt, if◌then◌else◌, Result, Err}
 use Rattle.js_lexer.specs.declared.machine.Step.{Step}
-use Rattle.js_lexer.specs.declared.machine.Step.TheVariants.{Go, With, Before, Bad}
+use Rattle.js_lexer.specs.declared.machine.Step.TheVariants.{Go, With, Bad}
 use Rattle.js_lexer.specs.declared.machine.Stop.{Stop}
 use Rattle.js_lexer.specs.declared.machine.Stop.TheVariants as stops
 use Rattle.js_lexer.specs.declared.escapes.Escape.{Escape}

@@ -1,5 +1,5 @@
 -- The machine of strings and templates, one function a Rust function. `Grammar` says what they mean.
-use Rattle.std.specs.Prelude.{ℕ, ◌==◌, ◌||◌, if◌then◌else◌, Result, Ok, Err}
+use Rattle.std.specs.Prelude.{ℕ, ◌==◌, ◌||◌, if◌then◌else◌, Result, Err}
 use Rattle.js_lexer.specs.declared.machine.Step.{Step}
 use Rattle.js_lexer.specs.declared.machine.Step.TheVariants.{Go, With, Before, Bad}
 use Rattle.js_lexer.specs.declared.machine.Stop.{Stop}

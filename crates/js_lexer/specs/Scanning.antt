@@ -1,5 +1,5 @@
 -- What takes the next element, one function a Rust function. `Elements` says what they mean.
-use Rattle.std.specs.Prelude.{ℕ, ◌==◌, ◌||◌, ◌&&◌, Bool, true, false, if◌then◌else◌, List, [], ◌∷◌, drop, Option, Some, None, Result, Ok, Err}
+use Rattle.std.specs.Prelude.{ℕ, ◌==◌, ◌||◌, ◌&&◌, Bool, if◌then◌else◌, List, [], ◌∷◌, Option, Some, None, Result, Ok, Err}
 use Rattle.js_lexer.specs.declared.machine.Stop.{Stop}
 use Rattle.js_lexer.specs.declared.machine.Stop.TheVariants as stops
 use Rattle.js_lexer.specs.declared.comments.Comment.TheVariants as comments

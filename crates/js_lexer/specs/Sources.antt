@@ -1,11 +1,10 @@
 -- How a source is divided into tokens (ECMA-262, "ECMAScript Language: Lexical Grammar"): from its start, one element after the other.
-use Rattle.std.specs.Prelude.{◌≡◌, ℕ, ◌+◌, ◌==◌, ◌&&◌, Bool, true, false, if◌then◌else◌, List, [], ◌∷◌, ◌++◌, ◌⊎◌, length, take}
+use Rattle.std.specs.Prelude.{◌≡◌, ℕ, ◌==◌, ◌&&◌, Bool, true, false, if◌then◌else◌, List, [], ◌∷◌, ◌++◌, ◌⊎◌, take}
 use Rattle.std.specs.Str.{IsUtf8, IsValidUpTo, chars, encode_utf8_all}
 use Rattle.lava_base.specs.declared.place.Place.{Place}
 use Rattle.js_lexer.specs.declared.element.Element.{Element}
 use Rattle.js_lexer.specs.declared.element.Element.TheVariants as elements
 use Rattle.js_lexer.specs.declared.element.Form.{Form}
-use Rattle.js_lexer.specs.declared.element.Form.TheVariants as forms
 use Rattle.js_lexer.specs.declared.keywords.Keyword.{Keyword}
 use Rattle.js_lexer.specs.declared.nesting.Open.{Open}
 use Rattle.js_lexer.specs.declared.spot.Spot.{Spot}
@@ -64,7 +63,7 @@ over_token s e kind w left = pushed s e kind left (over_all s.spot w)
 pub data Takes : State → State → Type 0 where
   gap : (s : State) (w left : List ℕ) → s.rest ≡ w ++ left → IsElement (inside s.opens) elements.Gap s.rest left → Takes s (over_gap s w left)
   token : (s : State) (e : Element) (kind : TokenKind) (w left : List ℕ) → s.rest ≡ w ++ left → IsElement (inside s.opens) e s.rest left → IsKind e w kind →
-    Takes s (over_token s e kind w left)
+      Takes s (over_token s e kind w left)
 
 -- any number of elements, one after the other
 pub data Run : State → State → Type 0 where

@@ -235,7 +235,10 @@ fn of_length(length: usize) -> &'static [Keyword]
 fn among(keywords: &[Keyword], word: &[u8]) -> Option<Keyword>
     ensures { result ≡ find (is_text_of word.now) keywords.now }
 {
-    keywords.iter().copied().find(|k| k.text().as_bytes() == word)
+    keywords
+        .iter()
+        .copied()
+        .find(|k| k.text().as_bytes() == word)
 }
 
 /// The keyword whose text the bytes of a word are, if there is one.

@@ -7,7 +7,7 @@ ghost use Rattle.js_tree.specs.declared.fault.SyntaxFault.TheVariants as faults;
 ghost use Rattle.js_tree.specs.declared.fault.SyntaxWhat.{SyntaxWhat};
 ghost use Rattle.js_tree.specs.declared.fault.SyntaxWhat.TheVariants as what;
 ghost use Rattle.js_lexer.specs.Answers.{HasCause, GivesTokens, Refuses, IsFault, StandInOrder};
-ghost use Rattle.js_lexer.specs.Lexing.{AfterTake, AfterRun, IsFaultOf};
+ghost use Rattle.js_lexer.specs.Lexing.{AfterTake, AfterRun, IsFaultOf, IsBrokenFault};
 ghost use Rattle.js_lexer.specs.Sources.{State, IsKind, IsTokens, pushed, opening, behind_mark, begins_hashbang, behind_hashbang};
 ghost use Rattle.js_lexer.specs.Spots.{IsSound, over_all};
 ghost use Rattle.js_lexer.specs.declared.element.Element.{Element};
@@ -24,11 +24,11 @@ use crate::nesting::Nesting;
 use crate::passing::passed;
 use crate::spot::{MAX_SOURCE, Spot};
 use crate::token::{Token, TokenKind};
+use js_tree::fault::{SyntaxFault, SyntaxWhat};
 use lava_base::list::List;
 use lava_base::memory::OutOfMemory;
 use lava_base::name::Name;
 use lava_base::place::Place;
-use js_tree::fault::{SyntaxFault, SyntaxWhat};
 use std::alloc::Global;
 use std::marker::Model;
 
@@ -131,12 +131,18 @@ impl<'a> Lexer<'a> {
         ahead.bump() == Some('#') && ahead.bump() == Some('!')
     }
 
+    /// The place of what is left.
+    fn place(&self) -> Place
+        ensures { result ≡ self.now.spot.place }
+    {
+        self.spot.place
+    }
+
     /// The place behind all that is left.
     fn end(&self) -> Place
         ensures { result ≡ (over_all self.now.spot self.now.rest).place }
     {
-        let mut end = self.rest.copy();
-        while let Some(_) = end.bump() {}
+        let end = Cursor::new("");
         passed(self.spot, &self.rest, &end).place
     }
 
@@ -222,6 +228,7 @@ fn kind_of(element: Element, bytes: &[u8]) -> TokenKind
 ///
 /// It answers `NotUtf8`, `BadToken` or `Unsupported` (`bigint`, `separator`, `escape`, `private`, `decorator`) at the first byte or token that is so,
 /// and `OutOfMemory` also for a source of more than 4,294,967,280 bytes.
+#[tactic(auto, using(crate::proofs::Answers_laws::only_tokens, crate::proofs::Answers_laws::only_fault, crate::proofs::Orders::in_order))]
 pub fn tokens(alloc: Global, source: &[u8]) -> Result<List<Token>, SyntaxFault>
     ensures tokens { IfOk result (λ tokens. IsTokens source.now tokens) }
     ensures only { (tokens : Listed Token) → IsTokens source.now tokens → GivesTokens result tokens }
@@ -239,18 +246,21 @@ pub fn tokens(alloc: Global, source: &[u8]) -> Result<List<Token>, SyntaxFault>
 }
 
 /// The tokens of a source that is UTF-8.
+#[tactic(auto, using(crate::proofs::Answers_laws::whole_cause_at))]
 fn whole_tokens(alloc: Global, text: &str) -> Result<List<Token>, SyntaxFault>
     requires { length text.now ≤ MAX_SOURCE }
     ensures tokens { IfOk result (λ tokens. IsTokens text.now tokens) }
     ensures cause { IfErr result (HasCause text.now) }
 {
     let mut lexer = Lexer::new(alloc, text);
-    let Err(refusal) = lexer.run() else {
-        return Ok(lexer.tokens);
-    };
-    Err(fault_of(alloc, refusal, lexer.spot.place))
+    match lexer.run() {
+        Ok(()) => Ok(lexer.tokens),
+        Err(Refusal::NoElement(none)) => Err(fault_of(alloc, none, lexer.place())),
+        Err(Refusal::OutOfMemory) => Err(SyntaxFault::OutOfMemory),
+    }
 }
 
+#[tactic(auto, using(crate::proofs::Answers_laws::broken_cause_at, crate::proofs::Answers_laws::end_cause_at))]
 /// What is wrong with a source that is not UTF-8, of which the first `valid` bytes are the longest front that is.
 fn broken_fault(alloc: Global, source: &[u8], valid: usize) -> SyntaxFault
     requires front { IsValidUpTo source.now valid }
@@ -263,9 +273,20 @@ fn broken_fault(alloc: Global, source: &[u8], valid: usize) -> SyntaxFault
     };
     let mut lexer = Lexer::new(alloc, text);
     match lexer.run() {
-        Ok(()) => not_utf8(lexer.spot.place),
-        Err(Refusal::NoElement(NoElement::Stopped(Stop::Cut))) => not_utf8(lexer.end()),
-        Err(refusal) => fault_of(alloc, refusal, lexer.spot.place),
+        Ok(()) => not_utf8(lexer.place()),
+        Err(Refusal::NoElement(none)) => broken_fault_of(alloc, none, &lexer),
+        Err(Refusal::OutOfMemory) => SyntaxFault::OutOfMemory,
+    }
+}
+
+/// The fault that it is that no element is taken, where the source is no longer UTF-8 behind the text: an element that runs into that is no bad token.
+fn broken_fault_of(alloc: Global, none: NoElement, lexer: &Lexer) -> SyntaxFault
+    ensures { IsBrokenFault lexer.now none result }
+{
+    match none {
+        NoElement::Stopped(Stop::Cut) => not_utf8(lexer.end()),
+        NoElement::Stopped(Stop::Bad) => fault_of(alloc, none, lexer.place()),
+        NoElement::LeftOut(_) => fault_of(alloc, none, lexer.place()),
     }
 }
 
@@ -278,17 +299,16 @@ fn not_utf8(place: Place) -> SyntaxFault
     }
 }
 
-/// The fault of a refusal at a place, where it isn't that the text ends inside an element.
-fn fault_of(alloc: Global, refusal: Refusal, place: Place) -> SyntaxFault
-    ensures { IsFaultOf refusal place result }
+/// The fault that it is at a place that no element is taken.
+fn fault_of(alloc: Global, none: NoElement, place: Place) -> SyntaxFault
+    ensures { IsFaultOf none place result }
 {
-    let what = match refusal {
-        Refusal::NoElement(NoElement::Stopped(_)) => SyntaxWhat::BadToken,
-        Refusal::NoElement(NoElement::LeftOut(form)) => match Name::of(alloc, form.name()) {
+    let what = match none {
+        NoElement::Stopped(_) => SyntaxWhat::BadToken,
+        NoElement::LeftOut(form) => match Name::of(alloc, form.name()) {
             Ok(name) => SyntaxWhat::Unsupported(name),
             Err(OutOfMemory) => return SyntaxFault::OutOfMemory,
         },
-        Refusal::OutOfMemory => return SyntaxFault::OutOfMemory,
     };
     SyntaxFault::At { place, what }
 }

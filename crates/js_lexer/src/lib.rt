@@ -6,20 +6,20 @@ mod comments;
 mod cursor;
 mod element;
 mod escapes;
+#[cfg(test)]
+mod keyword_tests;
 pub mod keywords;
 pub mod lexer;
 mod machine;
 mod names;
 mod nesting;
-mod passing;
 mod numbers;
+#[cfg(test)]
+mod numbers_tests;
+mod passing;
+#[cfg(test)]
+mod punctuator_tests;
 pub mod punctuators;
 mod quoted;
 mod spot;
 pub mod token;
-#[cfg(test)]
-mod keyword_tests;
-#[cfg(test)]
-mod numbers_tests;
-#[cfg(test)]
-mod punctuator_tests;

@@ -1,4 +1,4 @@
-use Rattle.std.proofs.Common.{◌≡◌, ℕ, length}
+use Rattle.std.proofs.Common.{◌≡◌, length}
 use Rattle.js_lexer.specs.Grammar.{in_line}
 use Rattle.js_lexer.specs.Skipping.{skip}
 use Rattle.js_lexer.proofs.comments.skip_line.Given as goal

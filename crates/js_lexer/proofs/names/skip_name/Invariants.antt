@@ -1,4 +1,4 @@
-use Rattle.std.proofs.Common.{◌≡◌, ℕ, length}
+use Rattle.std.proofs.Common.{◌≡◌, length}
 use Rattle.js_lexer.specs.Characters.{is_name_part}
 use Rattle.js_lexer.specs.Skipping.{skip}
 use Rattle.js_lexer.proofs.names.skip_name.Given as goal

@@ -1,6 +1,6 @@
-use Rattle.std.proofs.Common.{◌≡◌, ◌+◌, ◌≤◌, ◌<◌, ℕ, ◌++◌, length, List, [], ◌∷◌, refl, sym, ap, subst, ◌∙◌, arith}
+use Rattle.std.proofs.Common.{◌≡◌, ◌+◌, ◌≤◌, ◌<◌, ℕ, ◌++◌, length, List, [], ◌∷◌, sym, ap, subst, ◌∙◌, arith}
 use Rattle.std.specs.Str.{encode_utf8_all}
-use Rattle.js_lexer.specs.Spots.{IsSound, over, over_all}
+use Rattle.js_lexer.specs.Spots.{over_all}
 use Rattle.js_lexer.proofs.Passing_laws.{one_more, none_more, one_front, bytes_behind}
 use Rattle.js_lexer.proofs.passing.passed.Goals as goal
 
@@ -16,9 +16,9 @@ pub loop-rest-preserved : goal.loop-rest-preserved
 loop-rest-preserved c =
     let taken : c.loop-rest.rest ≡ c.in-Some.c ∷ c.bump.new.self = c.in-Some.ensures in
     let more : length (encode_utf8_all c.args.to.now) < length (encode_utf8_all (c.in-Some.c ∷ c.bump.new.self))
-      = omega (arith, c.loop-rest-test.true, c.left-end.ensures, c.left.ensures, ap (λ z. length (encode_utf8_all z)) taken) in
+    = omega (arith, c.loop-rest-test.true, c.left-end.ensures, c.left.ensures, ap (λ z. length (encode_utf8_all z)) taken) in
     let next : (v : List ℕ) × (c.bump.new.self ≡ v ++ c.args.to.now) × (c.loop-rest.invariant.behind.0 ≡ c.in-Some.c ∷ v)
-      = one_more c.in-Some.c c.bump.new.self c.args.to.now c.loop-rest.invariant.behind.0 (sym taken ∙ c.loop-rest.invariant.behind.1) more in
+    = one_more c.in-Some.c c.bump.new.self c.args.to.now c.loop-rest.invariant.behind.0 (sym taken ∙ c.loop-rest.invariant.behind.1) more in
     record {
       behind = (next.0, next.1);
       over = λ v w a b.

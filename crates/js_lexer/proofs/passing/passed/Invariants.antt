@@ -1,4 +1,4 @@
-use Rattle.std.proofs.Common.{◌≡◌, ◌+◌, ◌≤◌, ℕ, List, ◌++◌, length}
+use Rattle.std.proofs.Common.{◌≡◌, ◌+◌, ℕ, List, ◌++◌, length}
 use Rattle.std.specs.Str.{encode_utf8_all}
 use Rattle.js_lexer.specs.Spots.{IsSound, over_all}
 use Rattle.js_lexer.proofs.passing.passed.Given as goal

@@ -1,4 +1,4 @@
-use Rattle.std.proofs.Common.{◌≡◌, sym, ap, ◌∙◌, ◌++◌}
+use Rattle.std.proofs.Common.{sym, ap, ◌∙◌, ◌++◌}
 use Rattle.js_lexer.specs.Grammar.{in_line}
 use Rattle.js_lexer.specs.Skipping.{skip, keep}
 use Rattle.js_lexer.proofs.Lexer_laws.{keep_skip}

@@ -1,4 +1,4 @@
-use Rattle.std.proofs.Common.{ℕ, length}
+use Rattle.std.proofs.Common.{length}
 use Rattle.js_lexer.specs.Sources.{Run}
 use Rattle.js_lexer.proofs.lexer.Lexer.run.Given as goal
 
