@@ -2,5 +2,8 @@ pub mod Begun
 pub mod Decimals
 pub mod Encoded
 pub mod Moves
+pub mod NativeNames
+pub mod Paths
 pub mod Places
+pub mod Rising
 pub mod Units

@@ -1,6 +1,8 @@
+pub mod CommonPaths
 pub mod Indices
 pub mod Maps
 pub mod Names
+pub mod Natives
 pub mod Search
 pub mod Texts
 pub mod Utf8

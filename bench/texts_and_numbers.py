@@ -1,0 +1,46 @@
+#!/usr/bin/env python3
+"""How many operations a second texts and numbers do, each kind at counts that grow by 4, until a run takes half a second.
+
+    bench/texts_and_numbers.py [PROGRAM]
+
+PROGRAM is the built program, crates/lava_bench/out/lava_bench unless given. Each figure is the best of five runs, less the best of a run of no rounds.
+"""
+import os
+import subprocess
+import sys
+import time
+
+TOP = os.path.dirname(os.path.dirname(os.path.abspath(__file__)))
+
+KINDS = ('concat', 'slice', 'find', 'compare', 'utf8', 'add', 'mul', 'pow', 'number', 'to_text')
+
+
+def seconds(program, kind, count):
+    best = None
+    line = '%s %d' % (kind, count)
+    for _ in range(5):
+        begin = time.perf_counter()
+        done = subprocess.run([program], input=line + '\n', capture_output=True, text=True)
+        took = time.perf_counter() - begin
+        answer = done.stdout.split()
+        if done.returncode != 0 or answer[:2] != line.split() or not answer[2].isdigit():
+            sys.exit('status %d: %s' % (done.returncode, done.stdout))
+        best = took if best is None else min(best, took)
+    return best
+
+
+def main():
+    program = os.path.abspath(sys.argv[1]) if len(sys.argv) > 1 else os.path.join(TOP, 'crates/lava_bench/out/lava_bench')
+    print('%-10s %12s %10s %14s %14s' % ('kind', 'count', 'ms', 'ns a round', 'rounds a second'))
+    for kind in KINDS:
+        start = seconds(program, kind, 0)
+        count = 1024
+        while True:
+            took = max(seconds(program, kind, count) - start, 1e-9)
+            print('%-10s %12d %10.1f %14.1f %14.0f' % (kind, count, took * 1e3, took * 1e9 / count, count / took))
+            if took > 0.5:
+                break
+            count *= 4
+
+
+main()

@@ -1,0 +1,52 @@
+// What is measured.
+
+/// What one round does.
+#[derive(Clone, Copy, Debug)]
+pub enum Kind {
+    /// Appends one unit to a text that starts as the empty one.
+    Concat,
+    /// Takes 100 units out of a text of 1,000.
+    Slice,
+    /// Finds a part that stands at the end of a text of 100,000 units, from one of its first 1,000 places on.
+    Find,
+    /// Compares two texts of 1,000 units that differ in the last.
+    Compare,
+    /// Reads 1,000 characters from UTF-8, and writes them again.
+    Utf8,
+    /// Adds a number of 13 digits, and starts again from 0 past the limit.
+    Add,
+    /// Multiplies by 3, and starts again from 1 past the limit.
+    Mul,
+    /// A power of 3, from 3 ** 0 to 3 ** 33.
+    Pow,
+    /// The number of a text of 10 digits.
+    Number,
+    /// The text of a number of 10 digits.
+    ToText,
+    /// Reads the tokens of three lines of source. The lines of all rounds are one source.
+    Tokens,
+}
+
+static KINDS: [(&str, Kind); 11] = [
+    ("concat", Kind::Concat),
+    ("slice", Kind::Slice),
+    ("find", Kind::Find),
+    ("compare", Kind::Compare),
+    ("utf8", Kind::Utf8),
+    ("add", Kind::Add),
+    ("mul", Kind::Mul),
+    ("pow", Kind::Pow),
+    ("number", Kind::Number),
+    ("to_text", Kind::ToText),
+    ("tokens", Kind::Tokens),
+];
+
+/// The kind of that name.
+pub fn kind_of(name: &str) -> Option<Kind> {
+    for (word, kind) in &KINDS {
+        if *word == name {
+            return Some(*kind);
+        }
+    }
+    None
+}
