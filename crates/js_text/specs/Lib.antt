@@ -1,6 +1,8 @@
 pub mod Indices
 pub mod Maps
 pub mod Names
+pub mod Nodes
+pub mod NodesFall
 pub mod Search
 pub mod Texts
 pub mod Utf8

@@ -1,9 +1,12 @@
 // Texts, symbols, keys and values, over any type of references.
 #![tactic(auto)]
 
+mod characters;
 pub mod copy;
 pub mod fault;
 pub mod index;
+mod rope;
+mod runs;
 pub mod same;
 #[cfg(test)]
 mod tests;
