@@ -257,7 +257,7 @@ impl Text {
         at
     }
 
-    /// The text of the units from one place up to another. It shares the units where they are many and not few of those that are kept for it.
+    /// The text of the units from one place up to another. Where they are many, it shares them and copies few.
     pub fn slice(&self, alloc: Global, from: u32, to: u32) -> Result<Text, OutOfMemory>
         requires { (from ≤ to) × (to ≤ length self.now) }
         ensures units { IfOk result (λ text. text ≡ substring self.now from to) }
@@ -272,6 +272,7 @@ impl Text {
                 from: start,
                 to: end,
             } => {
+                // The end is read so that its 32 bits are known: no place here is past it.
                 let (start, _end) = (*start, *end);
                 shared(alloc, units, start + from, start + to)
             }
