@@ -52,5 +52,5 @@ one_more units i v within digit all is =
     let d = digit_value_digit (get_or units i 0) digit in
     (digits_more 10 units i within all (omega arith), omega (arith, digits_value_more 10 units i within))
 
-pub no_index : (units text : List ℕ) → units ≡ text → (IsShort units → ⊥) → WritesNoIndex text
-no_index units text same fails n writes = fails (subst IsShort (sym same) (short_index text n writes))
+pub no_index : (units : List ℕ) → (IsShort units → ⊥) → WritesNoIndex units
+no_index units fails n writes = fails (short_index units n writes)

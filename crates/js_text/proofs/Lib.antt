@@ -3,7 +3,9 @@ pub mod Decimals
 pub mod Encoded
 pub mod Moves
 pub mod NativeNames
+pub mod Orders
 pub mod Paths
+pub mod Pieces
 pub mod Places
 pub mod Rising
 pub mod Units

@@ -1,41 +1,54 @@
--- The test of a place says whether a part stands there.
-use Rattle.std.proofs.Common.{◌≡◌, ℕ, ◌+◌, ◌-◌, ◌<◌, ◌≤◌, true, false, nat_eq, List, length, take, drop, ap, sym, subst, ◌∙◌, arith}
-use Rattle.std.proofs.lemmas.Bool.{true≢false}
+-- Where a part stands.
+use Rattle.std.proofs.Common.{◌≡◌, ℕ, ◌+◌, ◌-◌, ◌<◌, ◌≤◌, List, [], ◌∷◌, length, get_or, take, drop, ap, sym, subst, ◌∙◌, arith}
 use Rattle.std.proofs.Math.Logic.{⊎_elim}
 use Rattle.std.proofs.str.Laws.{order}
-use Rattle.std.proofs.lemmas.List.{length-drop}
-use Rattle.std.proofs.Math.Seq.{take-length}
-use Rattle.std.proofs.lemmas.Slice.Eq.{bytes_eq-Decides}
-use Rattle.std.specs.List.{starts_with}
+use Rattle.std.proofs.lemmas.List.{get_or-take, get_or-drop}
 use Rattle.js_text.specs.Search.{substring, StandsAt}
 
-module _ (units part : List ℕ) (at : ℕ) where
-  part_at : substring units at (at + length part) ≡ take (length part) (drop at units)
-  part_at = ap (λ n. take n (drop at units)) (let e : at + length part - at ≡ length part = omega arith in e)
+module _ (units part : List ℕ) where
+  pub part_at : (at : ℕ) → substring units at (at + length part) ≡ take (length part) (drop at units)
+  part_at at = ap (λ n. take n (drop at units)) (let e : at + length part - at ≡ length part = omega arith in e)
 
-  abbrev tail : List ℕ
-  tail = take (length units - at) (drop at units)
+  -- where it stands, its first unit does
+  first_stands : (k : ℕ) → 0 < length part → StandsAt units part k → get_or units k 0 ≡ get_or part 0 0
+  first_stands k some stands =
+      let none : k ≡ k + 0 = omega arith in
+      ap (λ i. get_or units i 0) none
+      ∙ sym (get_or-drop k units 0 0)
+      ∙ sym (get_or-take (length part) (drop k units) 0 0 some)
+      ∙ ap (λ l. get_or l 0 0) (sym (part_at k) ∙ stands.1)
 
-  tail_is : tail ≡ drop at units
-  tail_is = ap (λ n. take n (drop at units)) (sym (length-drop at units)) ∙ take-length (drop at units)
+  -- so it stands at no place where its first unit does not
+  pub apart_by_first : (low high first : ℕ) → 0 < length part → first ≡ get_or part 0 0 → ((k : ℕ) → low ≤ k → k < high → get_or units k 0 ≡ first → ⊥)
+      → (k : ℕ) → low ≤ k → k < high → ¬ (StandsAt units part k)
+  apart_by_first low high first some is apart k above below stands = apart k above below (first_stands k some stands ∙ sym is)
 
-  part_in_tail : substring units at (at + length part) ≡ take (length part) tail
-  part_in_tail = part_at ∙ ap (take (length part)) (sym tail_is)
+  -- it stands at no place before the next one
+  pub none_before_next : (from at next : ℕ) → ((k : ℕ) → from ≤ k → k < at → ¬ (StandsAt units part k)) → ¬ (StandsAt units part at) → ((k : ℕ) → at + 1 ≤ k → k < next → ¬ (StandsAt units part k))
+      → (k : ℕ) → from ≤ k → k < next → ¬ (StandsAt units part k)
+  none_before_next from at next before here after k low high stands =
+      ⊎_elim
+      (λ l. before k low l stands)
+      (λ l. ⊎_elim (λ e. here (subst (StandsAt units part) (let same : k ≡ at = omega arith in same) stands)) (λ m. after k m high stands) (order k (at + 1)))
+      (order k at)
 
-  pub stands_by_test : at + length part ≤ length units → starts_with nat_eq tail part ≡ true → StandsAt units part at
-  stands_by_test within test = (within, part_in_tail ∙ sym ((bytes_eq-Decides part (take (length part) tail)).0 test))
+  -- nor at a place that leaves too few units
+  pub none_at_all : (from at : ℕ) → length units < at + length part → ((k : ℕ) → from ≤ k → k < at → ¬ (StandsAt units part k)) → (k : ℕ) → from ≤ k → ¬ (StandsAt units part k)
+  none_at_all from at last before k low stands = ⊎_elim (λ l. before k low l stands) (λ l. omega (arith, stands.0)) (order k at)
 
-  pub fails_by_test : starts_with nat_eq tail part ≡ false → StandsAt units part at → ⊥
-  fails_by_test test stands =
-      true≢false (sym ((bytes_eq-Decides part (take (length part) tail)).1 (sym (sym part_in_tail ∙ stands.1))) ∙ test)
+-- a part without units stands at every place up to the length
+pub empty_stands : (units part : List ℕ) (at : ℕ) → length part ≡ 0 → at ≤ length units → StandsAt units part at
+empty_stands units [] at none within = (omega arith, part_at units [] at)
+empty_stands units (x ∷ xs) at none within = absurd (omega arith)
 
--- it stands at no place up to this one
-pub none_through : (units part : List ℕ) (from at : ℕ) → ((k : ℕ) → from ≤ k → k < at → ¬ (StandsAt units part k)) → ¬ (StandsAt units part at)
-    → (k : ℕ) → from ≤ k → k < at + 1 → ¬ (StandsAt units part k)
-none_through units part from at before here k low high stands =
-    ⊎_elim (λ l. before k low l stands) (λ e. here (subst (StandsAt units part) (let same : k ≡ at = omega arith in same) stands)) (order k at)
-
--- nor at a place past the last
-pub none_at_all : (units part : List ℕ) (from at : ℕ) → length units ≤ at + length part → ((k : ℕ) → from ≤ k → k < at + 1 → ¬ (StandsAt units part k))
-    → (k : ℕ) → from ≤ k → ¬ (StandsAt units part k)
-none_at_all units part from at last through k low stands = through k low (omega (arith, stands.0)) stands
+-- a unit that stands neither before a place nor in a piece from there on
+pub not_in_piece : (xs run : List ℕ) (from at count unit : ℕ) → run ≡ take (length run) (drop at xs) → count ≤ length run → ((k : ℕ) → from ≤ k → k < at → get_or xs k 0 ≡ unit → ⊥)
+    → ((k : ℕ) → k < count → get_or run k 0 ≡ unit → ⊥) → (k : ℕ) → from ≤ k → k < at + count → get_or xs k 0 ≡ unit → ⊥
+not_in_piece xs run from at count unit piece within before here k low high stands =
+    ⊎_elim
+    (λ l. before k low l stands)
+    (λ l.
+    let place : k ≡ at + (k - at) = omega arith in
+    here (k - at) (omega arith)
+    (ap (λ r. get_or r (k - at) 0) piece ∙ get_or-take (length run) (drop at xs) (k - at) 0 (omega arith) ∙ get_or-drop at xs (k - at) 0 ∙ ap (λ i. get_or xs i 0) (sym place) ∙ stands))
+    (order k at)

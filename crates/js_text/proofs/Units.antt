@@ -1,7 +1,8 @@
 -- The characters that a text's units spell, from a place on.
-use Rattle.std.proofs.Common.{◌≡◌, ℕ, ◌+◌, ◌<◌, ◌≤◌, true, false, ◌&&◌, List, [], ◌∷◌, length, drop, get_or, Result, Ok, Err, ap, arith}
-use Rattle.std.proofs.lemmas.Bool.{ltb-true, leb-true}
+use Rattle.std.proofs.Common.{◌≡◌, ℕ, ◌+◌, ◌<◌, ◌≤◌, true, false, ◌&&◌, List, [], ◌∷◌, length, drop, get_or, Result, Ok, Err, ap, sym, ◌∙◌, arith}
+use Rattle.std.proofs.lemmas.Bool.{ltb-true, leb-true, true≢false}
 use Rattle.std.proofs.lemmas.Bool.Decides.{nat_tests}
+use Rattle.std.proofs.Math.ListN.{get_or-eq_default}
 use Rattle.std.proofs.str.Laws.{both}
 use Rattle.std.proofs.str.Utf16.{IsPair, utf16_chars-drop_lone, utf16_chars-drop_pair, utf16_chars-drop_all}
 use Rattle.std.specs.Char.Utf16.{is_high_surrogate, is_low_surrogate, surrogate_pair_char, lone_unit_char, utf16_lossy_chars}
@@ -35,9 +36,15 @@ module _ (units : List ℕ) (at : ℕ) where
   pub lossy-drop_all : length units ≤ at → utf16_lossy_chars (drop at units) ≡ []
   lossy-drop_all past = ap (map (λ o. unwrap_or o 0xFFFD)) (utf16_chars-drop_all units at past)
 
-  -- the test is false
-  pub apart_by_test : (is_high_surrogate (get_or units at 0) && is_low_surrogate (get_or units (at + 1) 0)) ≡ false → IsPair (get_or units at 0) (get_or units (at + 1) 0) → ⊥
-  apart_by_test test pair = let is = pair_is _ _ pair in cc
+  -- what shows that no pair begins here
+  pub apart_by_lead : is_high_surrogate (get_or units at 0) ≡ false → IsPair (get_or units at 0) (get_or units (at + 1) 0) → ⊥
+  apart_by_lead test pair = true≢false (sym (both _ _ (pair_is _ _ pair)).0 ∙ test)
+
+  pub apart_by_trail : is_low_surrogate (get_or units (at + 1) 0) ≡ false → IsPair (get_or units at 0) (get_or units (at + 1) 0) → ⊥
+  apart_by_trail test pair = true≢false (sym (both _ _ (pair_is _ _ pair)).1 ∙ test)
+
+  pub apart_by_end : length units ≤ at + 1 → IsPair (get_or units at 0) (get_or units (at + 1) 0) → ⊥
+  apart_by_end past pair = omega (arith, get_or-eq_default units 0 {n = at + 1} past, pair.2)
 
 -- what holds anyway holds after an error
 pub on_err : {T E P : Type 0} (r : Result T E) → P → OnErr r P

@@ -3,6 +3,8 @@ pub mod Indices
 pub mod Maps
 pub mod Names
 pub mod Natives
+pub mod Nodes
+pub mod NodesFall
 pub mod Search
 pub mod Texts
 pub mod Utf8

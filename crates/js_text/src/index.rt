@@ -15,11 +15,10 @@ pub fn index_of_text(text: &Text) -> Option<u32>
     ensures index { IfSome result (λ n. WritesIndex text.now n) }
     ensures none { IfNone result (WritesNoIndex text.now) }
 {
-    let units = text.as_units();
-    if units.is_empty() || units.len() > 10 || has_leading_zero(units) {
+    if text.len() == 0 || text.len() > 10 || has_leading_zero(text) {
         return None;
     }
-    match value_of_digits(units) {
+    match value_of_digits(text) {
         Some(value) if value <= MAX_INDEX as u64 => Some(value as u32),
         _ => None,
     }
@@ -36,23 +35,24 @@ pub fn key_of_text(text: Text) -> Key
 }
 
 /// Whether there are several units and the first is the digit 0.
-fn has_leading_zero(units: &[u16]) -> bool
-    ensures { IsTrue result ↔ ((1 < length units.now) × (slice_index units.now 0 ≡ 48)) }
+fn has_leading_zero(text: &Text) -> bool
+    ensures { IsTrue result ↔ ((1 < length text.now) × (slice_index text.now 0 ≡ 48)) }
 {
-    units.len() > 1 && units[0] == 0x30
+    text.len() > 1 && text.unit(0) == 0x30
 }
 
 /// The number that at most ten decimal digits write, and none where a unit is no digit.
-fn value_of_digits(units: &[u16]) -> Option<u64>
-    requires { length units.now ≤ 10 }
-    ensures { MatchOption result (¬ (AllDigits 10 units.now)) (λ value. AllDigits 10 units.now × (value ≡ digits_value 10 units.now)) }
+fn value_of_digits(text: &Text) -> Option<u64>
+    requires { length text.now ≤ 10 }
+    ensures { MatchOption result (¬ (AllDigits 10 text.now)) (λ value. AllDigits 10 text.now × (value ≡ digits_value 10 text.now)) }
 {
     let mut value = 0;
-    for unit in units {
-        if *unit < 0x30 || *unit > 0x39 {
+    for at in 0..text.len() {
+        let unit = text.unit(at);
+        if unit < 0x30 || unit > 0x39 {
             return None;
         }
-        value = value * 10 + (*unit - 0x30) as u64;
+        value = value * 10 + (unit - 0x30) as u64;
     }
     Some(value)
 }

@@ -4,11 +4,12 @@ use crate::copy::{copy_key, copy_value};
 use crate::fault::TextFault;
 use crate::index::{MAX_INDEX, index_of_text, key_of_text};
 use crate::same::{is_same_key, is_same_value};
-use crate::text::{MAX_UNITS, from_units};
+use crate::text::{MAX_UNITS, Text, from_units};
 use crate::utf8::from_utf8;
 use crate::value::{Key, Symbol, Value};
 use lava_base::ids::{ObjId, PartyId, Ref};
 use lava_base::list::List;
+use std::alloc::Global;
 use std::cmp::Ordering;
 use std::test::Fail;
 
@@ -103,7 +104,9 @@ fn texts_are_read_searched_and_cut(rt: HostRuntime) -> Result<(), Fail> {
         );
     }
     assert_eq!(rt;
-        from_utf8(alloc, b"\xF0\x9F\x98\x80")?.as_units(),
+        from_utf8(alloc, b"\xF0\x9F\x98\x80")?
+            .to_units(alloc)?
+            .as_slice(),
         [0xD83D, 0xDE00].as_slice()
     );
     let indices: [(&[u8], Option<u32>); 6] = [
@@ -144,5 +147,72 @@ fn texts_are_read_searched_and_cut(rt: HostRuntime) -> Result<(), Fail> {
         .slice(alloc, 0, 2)?
         .concat(alloc, &banana.slice(alloc, 4, 6)?)?;
     assert!(rt; joined.is_same(&from_utf8(alloc, b"bana")?));
+    Ok(())
+}
+
+/// The units from 0 to 2,999, added one at a time at the end, or from the last one on at the front.
+fn grown(alloc: Global, at_front: bool) -> Result<Text, TextFault> {
+    let mut text = from_units(alloc, &[])?;
+    for count in 0..3000u16 {
+        if at_front {
+            text = from_units(alloc, &[2999 - count])?.concat(alloc, &text)?;
+        } else {
+            text = text.concat(alloc, &from_units(alloc, &[count])?)?;
+        }
+    }
+    Ok(text)
+}
+
+#[test]
+fn texts_grow_at_both_ends(rt: HostRuntime) -> Result<(), Fail> {
+    for at_front in [false, true] {
+        let units = grown(rt.alloc(), at_front)?.to_units(rt.alloc())?;
+        assert_eq!(rt; units.len(), 3000);
+        let places = units.as_slice();
+        assert_eq!(rt; (places[0], places[1499], places[2999]), (0, 1499, 2999));
+    }
+    Ok(())
+}
+
+/// 300 letters a, the two halves of U+1F600 and 300 letters b, joined between the halves.
+fn halves(alloc: Global) -> Result<Text, TextFault> {
+    let mut front = vec![in alloc; 0x61u16; 301]?;
+    let mut back = vec![in alloc; 0x62u16; 301]?;
+    front[300] = 0xD83D;
+    back[0] = 0xDE00;
+    from_units(alloc, &front)?.concat(alloc, &from_units(alloc, &back)?)
+}
+
+#[test]
+fn parts_stand_over_a_seam(rt: HostRuntime) -> Result<(), Fail> {
+    let text = halves(rt.alloc())?;
+    let part = from_units(rt.alloc(), &[0x61, 0xD83D, 0xDE00, 0x62])?;
+    assert_eq!(rt; text.find(&part, 0), Some(299));
+    assert_eq!(rt; text.find(&part, 300), None);
+    assert_eq!(rt; text.len(), 602);
+    assert!(rt; text.slice(rt.alloc(), 299, 303)?.is_same(&part));
+    Ok(())
+}
+
+#[test]
+fn pieces_are_compared_with_one_piece(rt: HostRuntime) -> Result<(), Fail> {
+    let text = halves(rt.alloc())?;
+    let mut units = text.to_units(rt.alloc())?;
+    let piece = from_units(rt.alloc(), units.as_slice())?;
+    assert_eq!(rt; text.compare(&piece), Ordering::Equal);
+    units.push(0x62)?;
+    let longer = from_units(rt.alloc(), units.as_slice())?;
+    assert_eq!(rt; text.compare(&longer), Ordering::Less);
+    Ok(())
+}
+
+#[test]
+fn a_pair_over_a_seam_is_written(rt: HostRuntime) -> Result<(), Fail> {
+    let text = halves(rt.alloc())?;
+    let mut out = List::new(rt.alloc());
+    text.write_utf8(&mut out)?;
+    let bytes = out.as_slice();
+    assert_eq!(rt; bytes.len(), 604);
+    assert_eq!(rt; &bytes[299..305], b"a\xF0\x9F\x98\x80b".as_slice());
     Ok(())
 }

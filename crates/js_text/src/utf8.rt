@@ -7,7 +7,7 @@ ghost use Rattle.js_text.specs.declared.fault.TextFault.TheVariants as fault;
 ghost use Rattle.js_text.specs.declared.text.TheConstants.{MAX_UNITS};
 
 use crate::fault::TextFault;
-use crate::text::{MAX_UNITS, Text, from_units};
+use crate::text::{MAX_UNITS, Text, text_of_vec};
 use std::alloc::Global;
 
 /// The text whose UTF-8 these bytes are, in UTF-16 (ECMA-262, CodePointsToString).
@@ -42,7 +42,7 @@ fn text_of_str(alloc: Global, text: &str) -> Result<Text, TextFault>
         let mut buffer = [0; 2];
         units.extend_from_slice(character.encode_utf16(&mut buffer))?;
     }
-    from_units(alloc, &units)
+    Ok(text_of_vec(alloc, units)?)
 }
 
 /// How many units the text takes in UTF-16, or `MAX_UNITS + 1` where that is less.

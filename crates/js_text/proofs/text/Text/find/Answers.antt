@@ -1,24 +1,19 @@
--- The test says whether the part stands at the place of the loop.
-use Rattle.std.proofs.Common.{arith, sym, ◌∙◌}
-use Rattle.js_text.proofs.Places.{stands_by_test, fails_by_test, none_through, none_at_all}
+-- Between two places where its first unit stands, the part stands at none.
+use Rattle.std.proofs.Common.{◌+◌, ◌<◌, ◌∙◌, sym, length, arith}
+use Rattle.std.proofs.lemmas.Bool.{true≢false}
+use Rattle.js_text.proofs.Places.{apart_by_first, none_before_next}
 use Rattle.js_text.proofs.text.Text.find.Goals as goal
 
-pub returns-then-starts_with : goal.returns-then-starts_with
-returns-then-starts_with c =
-    let units = c.as_units-units.result.now in
-    let wanted = c.as_units-wanted.result.now in
-    let stands = stands_by_test units wanted c.loop-at.at (omega arith) (sym c.starts_with.ensures.value ∙ c.if-starts_with.true) in
-    record { first = rw (← c.as_units-units.ensures.units, ← c.as_units-wanted.ensures.units) (omega arith, stands, c.loop-at.invariant) }
+pub loop-at-init : goal.loop-at-init
+loop-at-init c =
+    let some : 0 < length c.args.part.now = omega arith in
+    let next = c.next_place-at in
+    (next.ensures.bound.0, next.ensures.bound.1, apart_by_first c.args.self.now c.args.part.now c.args.from next.result c.unit-first.result some c.unit-first.ensures next.ensures.before)
 
 pub loop-at-preserved : goal.loop-at-preserved
 loop-at-preserved c =
-    let units = c.as_units-units.result.now in
-    let wanted = c.as_units-wanted.result.now in
-    none_through units wanted c.args.from c.loop-at.at c.loop-at.invariant (fails_by_test units wanted c.loop-at.at (sym c.starts_with.ensures.value ∙ c.if-starts_with.false))
-
-pub returns-else-starts_with : goal.returns-else-starts_with
-returns-else-starts_with c =
-    let units = c.as_units-units.result.now in
-    let wanted = c.as_units-wanted.result.now in
-    let through = none_through units wanted c.args.from c.loop-at.at c.loop-at.invariant (fails_by_test units wanted c.loop-at.at (sym c.starts_with.ensures.value ∙ c.if-starts_with.false)) in
-    record { first = rw (← c.as_units-units.ensures.units, ← c.as_units-wanted.ensures.units) (none_at_all units wanted c.args.from c.loop-at.at (omega arith) through) }
+    let some : 0 < length c.args.part.now = omega arith in
+    let at = c.loop-at.at in
+    let next = c.next_place-at-in-loop-at in
+    let after = apart_by_first c.args.self.now c.args.part.now (at + 1) next.result c.unit-first.result some c.unit-first.ensures next.ensures.before in
+    (omega arith, next.ensures.bound.1, none_before_next c.args.self.now c.args.part.now c.args.from at next.result c.loop-at.invariant.2 (λ stands. true≢false (sym (c.has_at.ensures.1 stands) ∙ c.if-has_at.false)) after)

@@ -6,7 +6,7 @@ use Rattle.js_text.specs.Texts.{utf8_of}
 use Rattle.js_text.proofs.text.Text.write_utf8.Given as goal
 
 abbrev pub invariant-loop-at : goal.invariant-loop-at
-invariant-loop-at l = (done : List ℕ) × (l.out ≡ l.fn.out ++ done) × (utf8_of l.units ≡ done ++ encode_utf8_all (utf16_lossy_chars (drop l.at l.units)))
+invariant-loop-at l = (done : List ℕ) × (l.out ≡ l.fn.out ++ done) × (utf8_of l.self ≡ done ++ encode_utf8_all (utf16_lossy_chars (drop l.at l.self)))
 
 abbrev pub decreases-loop-at : goal.decreases-loop-at
-decreases-loop-at l = length l.units - l.at
+decreases-loop-at l = length l.self - l.at

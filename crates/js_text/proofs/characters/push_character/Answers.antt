@@ -1,7 +1,7 @@
 -- After a refusal the bytes before the index are written, and the others are the rest.
 use Rattle.std.proofs.Common.{◌∙◌, sym, take, drop, take-append-drop}
 use Rattle.js_text.proofs.Units.{on_err}
-use Rattle.js_text.proofs.text.push_character.Goals as goal
+use Rattle.js_text.proofs.characters.push_character.Goals as goal
 
 pub returns-in_err-push-clause-err : goal.returns-in_err-push-clause-err
 returns-in_err-push-clause-err c =
