@@ -21,9 +21,5 @@ mod passing;
 mod punctuator_tests;
 pub mod punctuators;
 mod quoted;
-#[cfg(test)]
-mod refusal_tests;
 mod spot;
 pub mod token;
-#[cfg(test)]
-mod token_tests;

@@ -3,8 +3,8 @@
 // A token is written as a letter with the bytes from and to which it goes: N a name, K a keyword, P a punctuator, D a number,
 // S a string, W a whole template, H the head of one, M a middle and T a tail. `^` stands before one behind a line terminator.
 
-use crate::lexer::tokens;
-use crate::token::{TemplatePart, Token, TokenKind};
+use js_lexer::lexer::tokens;
+use js_lexer::token::{TemplatePart, Token, TokenKind};
 use lava_base::place::Place;
 use std::alloc::Global;
 use std::fmt::Write;

@@ -1,6 +1,6 @@
 // What ECMA-262's lexical grammar, in the profile of the language, has no token for: the place (line and unit) and the cause.
 
-use crate::lexer::tokens;
+use js_lexer::lexer::tokens;
 use js_tree::fault::{SyntaxFault, SyntaxWhat};
 use lava_base::place::Place;
 use std::alloc::Global;
