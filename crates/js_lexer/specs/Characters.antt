@@ -22,7 +22,7 @@ is_white_space c =
 unfoldable pub is_name_start : ℕ → Bool
 is_name_start c = c == 36 || c == 95 || is_xid_start c
 
--- `$`, or a character that Unicode lets go on with an identifier, of which `_` is one (of ECMA-262's IdentifierPartChar, without ZWNJ and ZWJ)
+-- `$`, or a character that Unicode lets go on with an identifier, of which `_`, ZWNJ and ZWJ are some (ECMA-262, IdentifierPartChar)
 unfoldable pub is_name_part : ℕ → Bool
 is_name_part c = c == 36 || is_xid_continue c
 
