@@ -74,11 +74,7 @@ fn take_next(
 
 /// The program that ends with these bytes, or none where they are more than gaps.
 #[tactic(auto, unfolding(crate::specs::Reading::ended))]
-fn end(
-    alloc: Global,
-    parser: Parser,
-    rest: &[u8],
-) -> Result<Option<List<Statement>>, OutOfMemory>
+fn end(alloc: Global, parser: Parser, rest: &[u8]) -> Result<Option<List<Statement>>, OutOfMemory>
     ensures { IfOk result (λ program. program ≡ ended parser rest.now) }
 {
     if are_gaps(rest) {
