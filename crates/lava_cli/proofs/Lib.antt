@@ -9,10 +9,9 @@ pub mod Executes
 pub mod Goes
 pub mod Growth
 pub mod Hoisting
+pub mod In_order
 pub mod Known
 pub mod Lawful
-pub mod LexComplete
-pub mod LexSound
 pub mod Lines_text
 pub mod Named
 pub mod Options
@@ -20,11 +19,11 @@ pub mod ParseComplete
 pub mod ParseSound
 pub mod Printing
 pub mod Rename
-pub mod Room
 pub mod Ruled
 pub mod Sample
 pub mod Sound
 pub mod Sources
+pub mod Spelled
 pub mod States
 pub mod Steps
 pub mod Swap

@@ -30,7 +30,7 @@ use Rattle.lava_cli.specs.Tokens.{mark_byte}
 use Rattle.lava_cli.specs.Reserved.{is_reserved}
 use Rattle.lava_cli.specs.Syntax.{each_after_comma, parted, name_tokens, operand_token, operand_tokens, expression_tokens, statement_tokens, program_tokens, Each, IsName, HasNameInOperand, HasNamesInExpression, HasNames, EndsWithSemicolon, LastEndsWithSemicolon, IsProgram}
 use Rattle.lava_cli.specs.declared.parser.Parser.{Parser}
-use Rattle.lava_cli.specs.Lexing.{mark_of}
+use Rattle.lava_cli.specs.Spelling.{mark_of}
 use Rattle.lava_cli.specs.Reading.{parser, fed_by, fed, whole_by, finished_by, finished}
 use Rattle.lava_cli.specs.Parsing.{is_mark, is_word, name_of, operand_of, after_mark, after_word, after_expression, whole_of, taken_by, after_nothing, after_let, after_function, after_first_argument, after_argument, after_arguments, after_log, after_part}
 

@@ -1,126 +1,131 @@
--- The reader is the lexer and then the parser.
-use Rattle.std.proofs.Common.{◌≡◌, ℕ, refl, sym, ap, ◌∙◌, List, [], ◌∷◌, ◌++◌, Option, Some, None, option_map, option_and_then}
+-- The reader reads what the tokens of a source write.
+use Rattle.std.proofs.Common.{◌≡◌, ℕ, refl, sym, ap, ◌∙◌, subst, true, List, [], ◌∷◌, drop, slice_range, Option, Some, None, IfSome, IfNone, option_and_then}
+use Rattle.std.specs.List.{list_all}
 use Rattle.std.proofs.lemmas.Option.{same_Some, none-some}
+use Rattle.js_lexer.specs.declared.token.Token.{Token as SourceToken}
+use Rattle.js_lexer.specs.Sources.{IsTokens}
 use Rattle.lava_cli.specs.declared.token.Token.{Token}
 use Rattle.lava_cli.specs.declared.program.Statement.{Statement}
-use Rattle.lava_cli.specs.declared.lexer.Pending.{Pending}
-use Rattle.lava_cli.specs.declared.lexer.Pending.TheVariants as pendings
-use Rattle.lava_cli.specs.declared.lexer.Step.{Step}
 use Rattle.lava_cli.specs.declared.parser.Parser.{Parser}
-use Rattle.lava_cli.specs.declared.partial.Open.TheVariants as opens
-use Rattle.lava_cli.specs.declared.reader.Reader.{Reader}
-use Rattle.lava_cli.specs.Lexing.{step, after_byte, tokens_of, lexed}
-use Rattle.lava_cli.specs.Reading.{parser, fed, fed_option, finished, reader, after_step, taken, read_from, start}
+use Rattle.lava_cli.specs.Tokens.{is_gap, text_of_token, AreGaps, IsSpelling, IsWritten}
+use Rattle.lava_cli.specs.Spelling.{first_token}
+use Rattle.lava_cli.specs.Reading.{fed, finished, behind_gap, taken, next_taken, ended, read_from, start}
 use Rattle.lava_cli.specs.Syntax.{IsProgram, IsFirstFormText}
-use Rattle.lava_cli.proofs.LexSound.{sound}
-use Rattle.lava_cli.proofs.LexComplete.{complete}
+use Rattle.lava_cli.proofs.Options.{split, and_then_some}
+use Rattle.lava_cli.proofs.Spelled.{spells, spelled}
 use Rattle.lava_cli.proofs.ParseSound.{feeds, parse_sound}
 use Rattle.lava_cli.proofs.ParseComplete.{parse_complete}
-
-pub feeds_append : (p : Parser) (ts us : List Token) → feeds p (ts ++ us) ≡ option_and_then (λ q. feeds q us) (feeds p ts)
-feeds_append p [] us = refl
-feeds_append p (t ∷ ts) us = by_fed (fed p t) (λ q. feeds_append q ts us)
-  where
-    by_fed : (o : Option Parser) → ((q : Parser) → feeds q (ts ++ us) ≡ option_and_then (λ r. feeds r us) (feeds q ts)) →
-        option_and_then (λ q. feeds q (ts ++ us)) o ≡ option_and_then (λ r. feeds r us) (option_and_then (λ q. feeds q ts) o)
-    by_fed None h = refl
-    by_fed (Some q) h = h q
-
-abbrev with_pending : Pending → Option Parser → Option Reader
-with_pending pending o = option_map (λ q. record { pending = pending; parser = q }) o
-
-abbrev handed : Pending → Option Token → Option Parser → Option Reader
-handed pending whole o = option_and_then (λ q. option_and_then (λ r. reader r (step None whole pending)) (fed_option q whole)) o
-
-one_token : (pending : Pending) (o : Option Parser) → option_and_then (λ r. reader r (step None None pending)) o ≡ with_pending pending (option_and_then (λ q. Some q) o)
-one_token pending None = refl
-one_token pending (Some q) = refl
-
-two_tokens : (pending : Pending) (t : Token) (o : Option Parser) → handed pending (Some t) o ≡ with_pending pending (option_and_then (λ q. feeds q (t ∷ [])) o)
-two_tokens pending t None = refl
-two_tokens pending t (Some q) = one_token pending (fed q t)
-
-no_token : (pending : Pending) (o : Option Parser) → handed pending None o ≡ with_pending pending (option_and_then (λ q. Some q) o)
-no_token pending None = refl
-no_token pending (Some q) = refl
-
--- the parser takes the tokens of a step
-step_fed : (p : Parser) (ended whole : Option Token) (pending : Pending) → after_step p (step ended whole pending) ≡ with_pending pending (feeds p (tokens_of (step ended whole pending)))
-step_fed p None None pending = refl
-step_fed p None (Some t) pending = one_token pending (fed p t)
-step_fed p (Some t) None pending = no_token pending (fed p t)
-step_fed p (Some t) (Some u) pending = two_tokens pending u (fed p t)
 
 -- the program of the tokens
 abbrev parsed : Parser → List Token → Option (List Statement)
 parsed p ts = option_and_then finished (feeds p ts)
 
-abbrev Joined : Pending → Parser → List ℕ → Type 0
-Joined pending p bs = read_from (record { pending = pending; parser = p }) bs ≡ option_and_then (parsed p) (lexed pending bs)
+-- what is read is written so
 
-ends_so : (pending : Pending) (o : Option Parser) → option_and_then (λ (q : Reader). finished q.parser) (with_pending pending o) ≡ option_and_then finished o
-ends_so pending None = refl
-ends_so pending (Some q) = refl
+abbrev Writes : List ℕ → ℕ → List SourceToken → Parser → List Statement → Type 0
+Writes bytes from ss p program = (ts : List Token) × IsWritten bytes from ss ts × (parsed p ts ≡ Some program)
 
-at_end : (p : Parser) (o : Option Step) → option_and_then (λ (q : Reader). finished q.parser) (option_and_then (after_step p) o) ≡ option_and_then (parsed p) (option_map tokens_of o)
-at_end p None = refl
-at_end p (Some s) = ap (option_and_then (λ (q : Reader). finished q.parser)) (step_fed p s.ended s.whole s.pending) ∙ ends_so s.pending (feeds p (tokens_of s))
+behind_sound : (gap text : List ℕ) (t : Token) → behind_gap gap text ≡ Some t → AreGaps gap × IsSpelling t text
+unfolding behind_gap
+behind_sound gap text t e = split (list_all is_gap gap) _ _ t e (λ h g. (h, spells text t g)) (λ _ g. absurd (none-some t g))
 
--- new tokens in front
-in_front : (p : Parser) (new : List Token) (o : Option (List Token)) →
-    option_and_then (parsed p) (option_map (λ ts. new ++ ts) o) ≡ option_and_then (λ q. option_and_then (parsed q) o) (feeds p new)
-in_front p new None = nothing (feeds p new)
-  where
-    nothing : (o : Option Parser) → None ≡ option_and_then (λ q. option_and_then (parsed q) (let n : Option (List Token) = None in n)) o
-    nothing None = refl
-    nothing (Some q) = refl
-in_front p new (Some ts) = ap (option_and_then finished) (feeds_append p new ts) ∙ regroup (feeds p new)
-  where
-    regroup : (o : Option Parser) → option_and_then finished (option_and_then (λ q. feeds q ts) o) ≡ option_and_then (λ q. option_and_then finished (feeds q ts)) o
-    regroup None = refl
-    regroup (Some q) = refl
-
-goes_on : (pending : Pending) (bs : List ℕ) (o : Option Parser) → ((q : Parser) → Joined pending q bs) →
-    option_and_then (λ (r : Reader). read_from r bs) (with_pending pending o) ≡ option_and_then (λ q. option_and_then (parsed q) (lexed pending bs)) o
-goes_on pending bs None h = refl
-goes_on pending bs (Some q) h = h q
-
-at_byte : (p : Parser) (bs : List ℕ) (o : Option Step) → ((pending : Pending) (q : Parser) → Joined pending q bs) →
-    option_and_then (λ (r : Reader). read_from r bs) (option_and_then (after_step p) o)
-    ≡ option_and_then (parsed p) (option_and_then (λ s. option_map (λ ts. tokens_of s ++ ts) (lexed s.pending bs)) o)
-at_byte p bs None h = refl
-at_byte p bs (Some s) h =
-    ap (option_and_then (λ (r : Reader). read_from r bs)) (step_fed p s.ended s.whole s.pending)
-    ∙ goes_on s.pending bs (feeds p (tokens_of s)) (h s.pending)
-    ∙ sym (in_front p (tokens_of s) (lexed s.pending bs))
-
-pub joined : (pending : Pending) (p : Parser) (bs : List ℕ) → Joined pending p bs
+taken_sound : (p q : Parser) (gap text : List ℕ) → taken p gap text ≡ Some q → AreGaps gap × ((t : Token) × IsSpelling t text × (fed p t ≡ Some q))
 unfolding taken
-joined pending p [] = at_end p (after_byte pending 10)
-joined pending p (b ∷ bs) = at_byte p bs (after_byte pending b) (λ r q. joined r q bs)
-
--- the reader is exact
-
-abbrev begin : Parser
-begin = parser [] opens.Nothing
-
-some_tokens : (bs : List ℕ) (program : List Statement) (o : Option (List Token)) → lexed pendings.Nothing bs ≡ o → option_and_then (parsed begin) o ≡ Some program → IsFirstFormText bs program
-some_tokens bs program None h e = absurd (none-some program e)
-some_tokens bs program (Some ts) h e = (ts, sound pendings.Nothing [] bs ts refl h, some_parser (feeds begin ts) refl e)
+taken_sound p q gap text e = of_token (and_then_some (fed p) (behind_gap gap text) q e)
   where
-    some_parser : (o : Option Parser) → feeds begin ts ≡ o → option_and_then finished o ≡ Some program → IsProgram ts program
-    some_parser None k e = absurd (none-some program e)
-    some_parser (Some q) k e = parse_sound ts q program k e
+    of_token : (t : Token) × (behind_gap gap text ≡ Some t) × (fed p t ≡ Some q) → AreGaps gap × ((t : Token) × IsSpelling t text × (fed p t ≡ Some q))
+    of_token (t, e, f) =
+        let k : AreGaps gap × IsSpelling t text = behind_sound gap text t e in
+        (k.0, (t, k.1, f))
 
-pub read_sound : (bs : List ℕ) (program : List Statement) → read_from start bs ≡ Some program → IsFirstFormText bs program
-read_sound bs program e = some_tokens bs program (lexed pendings.Nothing bs) refl (sym (joined pendings.Nothing begin bs) ∙ e)
+next_sound : (bytes : List ℕ) (from : ℕ) (p q : Parser) (s : SourceToken) → next_taken bytes from p s ≡ Some q →
+    AreGaps (slice_range bytes from s.from) × ((t : Token) × IsSpelling t (text_of_token bytes s) × (fed p t ≡ Some q))
+unfolding next_taken
+next_sound bytes from p q s e = taken_sound p q (slice_range bytes from s.from) (text_of_token bytes s) e
 
-pub read_complete : (bs : List ℕ) (program : List Statement) → IsFirstFormText bs program → read_from start bs ≡ Some program
-read_complete bs program (ts, s, p) =
-    joined pendings.Nothing begin bs ∙ ap (option_and_then (parsed begin)) (complete bs ts s) ∙ parse_complete ts program p
+ended_sound : (p : Parser) (rest : List ℕ) (program : List Statement) → ended p rest ≡ Some program → AreGaps rest × (finished p ≡ Some program)
+unfolding ended
+ended_sound p rest program e = split (list_all is_gap rest) _ _ program e (λ h g. (h, g)) (λ _ g. absurd (none-some program g))
 
-pub read_none : (bs : List ℕ) → read_from start bs ≡ None → (program : List Statement) → IsFirstFormText bs program → ⊥
-read_none bs e program h = none-some program (sym e ∙ read_complete bs program h)
+written : (bytes : List ℕ) (from : ℕ) (ss : List SourceToken) (p : Parser) (program : List Statement) → read_from bytes from ss p ≡ Some program → Writes bytes from ss p program
+written bytes from [] p program e =
+    let k : AreGaps (drop from bytes) × (finished p ≡ Some program) = ended_sound p (drop from bytes) program e in
+    ([], k.0, k.1)
+written bytes from (s ∷ ss) p program e =
+    of_taken (λ q k. written bytes s.to ss q program k) (and_then_some (λ q. read_from bytes s.to ss q) (next_taken bytes from p s) program e)
+  where
+    of_parts : (q : Parser) → AreGaps (slice_range bytes from s.from) × ((t : Token) × IsSpelling t (text_of_token bytes s) × (fed p t ≡ Some q)) → Writes bytes s.to ss q program →
+        Writes bytes from (s ∷ ss) p program
+    of_parts q (h, (t, k, f)) (ts, w, e) =
+        (t ∷ ts, (h, k, w), subst (λ o. option_and_then finished (option_and_then (λ r. feeds r ts) o) ≡ Some program) (sym f) e)
 
-pub read_unique : (bs : List ℕ) (p q : List Statement) → IsFirstFormText bs p → IsFirstFormText bs q → p ≡ q
-read_unique bs p q h k = same_Some p q (sym (read_complete bs p h) ∙ read_complete bs q k)
+    of_taken : ((q : Parser) → read_from bytes s.to ss q ≡ Some program → Writes bytes s.to ss q program) → (q : Parser) × (next_taken bytes from p s ≡ Some q) × (read_from bytes s.to ss q ≡ Some program) → Writes bytes from (s ∷ ss) p program
+    of_taken again (q, k, e) = of_parts q (next_sound bytes from p q s k) (again q e)
+
+pub read_sound : (bytes : List ℕ) (ss : List SourceToken) (program : List Statement) → IsTokens bytes ss → read_from bytes 0 ss start ≡ Some program → IsFirstFormText bytes program
+read_sound bytes ss program is e = of_written (written bytes 0 ss start program e)
+  where
+    of_parser : (ts : List Token) → (q : Parser) × (feeds start ts ≡ Some q) × (finished q ≡ Some program) → IsProgram ts program
+    of_parser ts (q, k, e) = parse_sound ts q program k e
+
+    of_written : Writes bytes 0 ss start program → IsFirstFormText bytes program
+    of_written (ts, w, e) = (ss, is, (ts, w, of_parser ts (and_then_some finished (feeds start ts) program e)))
+
+-- what is written so is read
+
+stands : (gap text : List ℕ) (t : Token) → AreGaps gap → IsSpelling t text → behind_gap gap text ≡ Some t
+unfolding behind_gap
+stands gap text t h k = rw (h, spelled text t k) refl
+
+takes : (p : Parser) (gap text : List ℕ) (t : Token) → AreGaps gap → IsSpelling t text → taken p gap text ≡ fed p t
+unfolding taken
+takes p gap text t h k = ap (option_and_then (fed p)) (stands gap text t h k)
+
+takes_next : (bytes : List ℕ) (from : ℕ) (p : Parser) (s : SourceToken) (t : Token) → AreGaps (slice_range bytes from s.from) → IsSpelling t (text_of_token bytes s) → next_taken bytes from p s ≡ fed p t
+unfolding next_taken
+takes_next bytes from p s t h k = takes p (slice_range bytes from s.from) (text_of_token bytes s) t h k
+
+ends_so : (p : Parser) (rest : List ℕ) → AreGaps rest → ended p rest ≡ finished p
+unfolding ended
+ends_so p rest h = rw h refl
+
+read_written : (bytes : List ℕ) (from : ℕ) (ss : List SourceToken) (ts : List Token) (p : Parser) → IsWritten bytes from ss ts → read_from bytes from ss p ≡ parsed p ts
+read_written bytes from [] [] p h = ends_so p (drop from bytes) h
+read_written bytes from [] (t ∷ ts) p h = absurd h
+read_written bytes from (s ∷ ss) [] p h = absurd h
+read_written bytes from (s ∷ ss) (t ∷ ts) p (h, k, w) =
+    ap (option_and_then (λ q. read_from bytes s.to ss q)) (takes_next bytes from p s t h k) ∙ by_fed (fed p t) (λ q. read_written bytes s.to ss ts q w)
+  where
+    by_fed : (o : Option Parser) → ((q : Parser) → read_from bytes s.to ss q ≡ parsed q ts) → option_and_then (λ q. read_from bytes s.to ss q) o ≡ option_and_then finished (option_and_then (λ q. feeds q ts) o)
+    by_fed None again = refl
+    by_fed (Some q) again = again q
+
+-- the source is divided into these tokens at most
+abbrev pub AreAll : List ℕ → List SourceToken → Type 0
+AreAll bytes ss = (others : List SourceToken) → IsTokens bytes others → ss ≡ others
+
+pub read_complete : (bytes : List ℕ) (ss : List SourceToken) (program : List Statement) → AreAll bytes ss → IsFirstFormText bytes program → read_from bytes 0 ss start ≡ Some program
+read_complete bytes ss program all (others, is, (ts, w, p)) =
+    ap (λ x. read_from bytes 0 x start) (all others is) ∙ read_written bytes 0 others ts start w ∙ parse_complete ts program p
+
+pub read_none : (bytes : List ℕ) (ss : List SourceToken) → AreAll bytes ss → read_from bytes 0 ss start ≡ None → (program : List Statement) → IsFirstFormText bytes program → ⊥
+read_none bytes ss all e program h = none-some program (sym e ∙ read_complete bytes ss program all h)
+
+pub read_unique : (bytes : List ℕ) (ss : List SourceToken) (p q : List Statement) → AreAll bytes ss → read_from bytes 0 ss start ≡ Some q → IsFirstFormText bytes p → p ≡ q
+read_unique bytes ss p q all e h = same_Some p q (sym (read_complete bytes ss p all h) ∙ e)
+
+-- what the answer to the tokens says of the source
+
+pub answer_read : (bytes : List ℕ) (ss us : List SourceToken) → us ≡ ss → IsTokens bytes ss → (r : Option (List Statement)) → r ≡ read_from bytes 0 us start → IfSome r (λ program. IsFirstFormText bytes program)
+answer_read bytes ss us same is None e = tt
+answer_read bytes ss us same is (Some p) e = read_sound bytes ss p is (ap (λ x. read_from bytes 0 x start) (sym same) ∙ sym e)
+
+pub answer_only : (bytes : List ℕ) (ss us : List SourceToken) → us ≡ ss → AreAll bytes ss → (r : Option (List Statement)) → r ≡ read_from bytes 0 us start →
+    IfSome r (λ program. (other : List Statement) → IsFirstFormText bytes other → other ≡ program)
+answer_only bytes ss us same all None e = tt
+answer_only bytes ss us same all (Some p) e = λ other h. read_unique bytes ss other p all (ap (λ x. read_from bytes 0 x start) (sym same) ∙ sym e) h
+
+pub answer_refused : (bytes : List ℕ) (ss us : List SourceToken) → us ≡ ss → AreAll bytes ss → (r : Option (List Statement)) → r ≡ read_from bytes 0 us start →
+    IfNone r ((program : List Statement) → IsFirstFormText bytes program → ⊥)
+answer_refused bytes ss us same all None e = read_none bytes ss all (ap (λ x. read_from bytes 0 x start) (sym same) ∙ sym e)
+answer_refused bytes ss us same all (Some p) e = tt

@@ -20,6 +20,7 @@ pub mod Lines
 pub mod Bindings
 pub mod Runs
 pub mod Tokens
+pub mod Spelling
 pub mod Reserved
 pub mod Syntax
 pub mod Answers
@@ -29,7 +30,6 @@ pub mod Chain
 pub mod Two_runs
 pub mod Compose
 pub mod View
-pub mod Lexing
 pub mod Parsing
 pub mod Reading
 pub mod Outside

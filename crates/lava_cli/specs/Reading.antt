@@ -1,5 +1,7 @@
 -- The parser's and the reader's functions, one a Rust function.
-use Rattle.std.specs.Prelude.{ℕ, List, [], ◌∷◌, ◌++◌, Option, Some, None, option_and_then}
+use Rattle.std.specs.Prelude.{ℕ, ◌≤◌, List, [], ◌∷◌, ◌++◌, drop, slice_range, Option, Some, None, option_and_then, if◌then◌else◌}
+use Rattle.std.specs.List.{list_all}
+use Rattle.js_lexer.specs.declared.token.Token.{Token as SourceToken}
 use Rattle.lava_cli.specs.declared.token.Mark.TheVariants as marks
 use Rattle.lava_cli.specs.declared.token.Token.{Token}
 use Rattle.lava_cli.specs.declared.token.Token.TheVariants as tokens
@@ -9,11 +11,9 @@ use Rattle.lava_cli.specs.declared.partial.Open.TheVariants as opens
 use Rattle.lava_cli.specs.declared.partial.Taken.{Taken}
 use Rattle.lava_cli.specs.declared.partial.Taken.TheVariants as takens
 use Rattle.lava_cli.specs.declared.parser.Parser.{Parser}
-use Rattle.lava_cli.specs.declared.lexer.Pending.TheVariants as pendings
-use Rattle.lava_cli.specs.declared.lexer.Step.{Step}
-use Rattle.lava_cli.specs.declared.reader.Reader.{Reader}
 use Rattle.lava_cli.specs.Parsing.{after_part}
-use Rattle.lava_cli.specs.Lexing.{after_byte}
+use Rattle.lava_cli.specs.Tokens.{is_gap, text_of_token}
+use Rattle.lava_cli.specs.Spelling.{first_token}
 
 abbrev pub parser : List Statement → Open → Parser
 parser done part = record { done = done; part = part }
@@ -25,10 +25,6 @@ fed_by done (takens.Whole statement) = Some (parser (done ++ statement ∷ []) o
 
 abbrev pub fed : Parser → Token → Option Parser
 fed p t = fed_by p.done (after_part p.part t)
-
-abbrev pub fed_option : Parser → Option Token → Option Parser
-fed_option p None = Some p
-fed_option p (Some t) = fed p t
 
 abbrev pub whole_by : List Statement → Taken → Option (List Statement)
 whole_by done takens.Refused = None
@@ -47,20 +43,31 @@ finished_by done (opens.Log part) = whole_statement done (opens.Log part)
 abbrev pub finished : Parser → Option (List Statement)
 finished p = finished_by p.done p.part
 
-abbrev pub reader : Parser → Step → Option Reader
-reader p s = Some (record { pending = s.pending; parser = p })
+abbrev pub start : Parser
+start = parser [] opens.Nothing
 
--- the tokens that a byte ended go to the parser
-abbrev pub after_step : Parser → Step → Option Reader
-after_step p s = option_and_then (λ q. option_and_then (λ r. reader r s) (fed_option q s.whole)) (fed_option p s.ended)
+-- the token that this text spells, behind these gaps
+unfoldable pub behind_gap : List ℕ → List ℕ → Option Token
+behind_gap gap text = if list_all is_gap gap then first_token text else None
 
-unfoldable pub taken : Reader → ℕ → Option Reader
-taken r b = option_and_then (after_step r.parser) (after_byte r.pending b)
+-- the parser takes the token that this text spells, behind these gaps
+unfoldable pub taken : Parser → List ℕ → List ℕ → Option Parser
+taken p gap text = option_and_then (fed p) (behind_gap gap text)
 
--- the program from a byte on. A line feed at the end ends the last token
-abbrev pub read_from : Reader → List ℕ → Option (List Statement)
-read_from r [] = option_and_then (λ q. finished q.parser) (taken r 10)
-read_from r (b ∷ bs) = option_and_then (λ q. read_from q bs) (taken r b)
+-- the same of the next token of a source, behind the bytes up to `from`
+unfoldable pub next_taken : List ℕ → ℕ → Parser → SourceToken → Option Parser
+next_taken bytes from p s = taken p (slice_range bytes from s.from) (text_of_token bytes s)
 
-abbrev pub start : Reader
-start = record { pending = pendings.Nothing; parser = parser [] opens.Nothing }
+-- the program that ends with these gaps
+unfoldable pub ended : Parser → List ℕ → Option (List Statement)
+ended p rest = if list_all is_gap rest then finished p else None
+
+-- the program of a source's tokens, from a byte on
+abbrev pub read_from : List ℕ → ℕ → List SourceToken → Parser → Option (List Statement)
+read_from bytes from [] p = ended p (drop from bytes)
+read_from bytes from (s ∷ ss) p = option_and_then (λ q. read_from bytes s.to ss q) (next_taken bytes from p s)
+
+-- the tokens stand one after the other, from one byte on, and each ends within the source
+abbrev pub AreWithin : ℕ → List SourceToken → ℕ → Type 0
+AreWithin from [] len = from ≤ len
+AreWithin from (s ∷ ss) len = (from ≤ s.from) × (s.from ≤ s.to) × (s.to ≤ len) × AreWithin s.to ss len

@@ -1,5 +1,7 @@
 -- Programs of the first form: the tokens that a tree is written with, and the names in it.
 use Rattle.std.specs.Prelude.{◌≡◌, ℕ, false, List, [], ◌∷◌, ◌++◌, ◌⊎◌, codes}
+use Rattle.js_lexer.specs.declared.token.Token.{Token as SourceToken}
+use Rattle.js_lexer.specs.Sources.{IsTokens}
 use Rattle.lava_cli.specs.declared.token.Mark.TheVariants as marks
 use Rattle.lava_cli.specs.declared.token.Token.{Token}
 use Rattle.lava_cli.specs.declared.token.Token.TheVariants as tokens
@@ -11,7 +13,7 @@ use Rattle.lava_cli.specs.declared.program.Expression.TheVariants as expressions
 use Rattle.lava_cli.specs.declared.program.Statement.{Statement}
 use Rattle.lava_cli.specs.declared.program.Statement.TheVariants as statements
 use Rattle.lava_cli.specs.Reserved.{is_reserved}
-use Rattle.lava_cli.specs.Tokens.{Spells}
+use Rattle.lava_cli.specs.Tokens.{IsWritten}
 
 -- items with a comma before each
 abbrev pub each_after_comma : {X : Type 0} → (X → List Token) → List X → List Token
@@ -101,6 +103,7 @@ IsProgram ts program =
     × ((ts ≡ program_tokens program)
     ⊎ (LastEndsWithSemicolon program × (ts ++ tokens.Mark marks.Semicolon ∷ [] ≡ program_tokens program)))
 
--- a text of the first form: some tokens of the program spell the bytes
+-- a text of the first form: its tokens, by ECMA-262's lexical grammar, write some tokens of the program
 abbrev pub IsFirstFormText : List ℕ → List Statement → Type 0
-IsFirstFormText bytes program = (ts : List Token) × Spells bytes ts × IsProgram ts program
+IsFirstFormText bytes program =
+    (ss : List SourceToken) × IsTokens bytes ss × ((ts : List Token) × IsWritten bytes 0 ss ts × IsProgram ts program)

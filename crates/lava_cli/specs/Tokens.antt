@@ -1,7 +1,8 @@
 -- The tokens of the first form, and how bytes spell them: a part of ECMA-262, "ECMAScript Language: Lexical Grammar".
-use Rattle.std.specs.Prelude.{◌≡◌, ◌≤◌, ◌+◌, ◌-◌, ◌*◌, ◌==◌, ◌&&◌, ◌||◌, ℕ, pos, Bool, true, false, nat_le, if◌then◌else◌, List, [], ◌∷◌, ◌++◌}
+use Rattle.std.specs.Prelude.{◌≡◌, ◌≤◌, ◌+◌, ◌-◌, ◌*◌, ◌==◌, ◌&&◌, ◌||◌, ℕ, pos, Bool, true, false, nat_le, if◌then◌else◌, List, [], ◌∷◌, ◌++◌, drop, slice_range}
 use Rattle.std.specs.List.{list_all}
 use Rattle.std.specs.Char.{is_ascii_alphabetic, is_ascii_digit, is_ascii_alphanumeric}
+use Rattle.js_lexer.specs.declared.token.Token.{Token as SourceToken}
 use Rattle.lava_cli.specs.declared.token.Mark.{Mark}
 use Rattle.lava_cli.specs.declared.token.Mark.TheVariants as marks
 use Rattle.lava_cli.specs.declared.token.Token.{Token}
@@ -54,20 +55,19 @@ IsSpelling (tokens.Number value) bs =
     IsDecimal bs × (value ≡ pos (decimal_from 0 bs)) × (decimal_from 0 bs ≤ 9007199254740991)
 IsSpelling (tokens.Mark mark) bs = bs ≡ mark_byte mark ∷ []
 
--- neither a letter nor a digit follows at once
-abbrev pub IsApart : List ℕ → Type 0
-IsApart [] = Unit {0}
-IsApart (b ∷ bs) = is_ascii_alphanumeric b ≡ false
+-- the text of a token of a source
+abbrev pub text_of_token : List ℕ → SourceToken → List ℕ
+text_of_token bytes s = slice_range bytes s.from s.to
 
--- a word and a number end before a byte that is neither a letter nor a digit
-abbrev pub EndsBefore : Token → List ℕ → Type 0
-EndsBefore (tokens.Word name) bs = IsApart bs
-EndsBefore (tokens.Text units) bs = Unit {0}
-EndsBefore (tokens.Number value) bs = IsApart bs
-EndsBefore (tokens.Mark mark) bs = Unit {0}
+-- gaps alone
+abbrev pub AreGaps : List ℕ → Type 0
+AreGaps bs = list_all is_gap bs ≡ true
 
--- the bytes are these tokens, one after the other, with gaps round them
-pub data Spells : List ℕ → List Token → Type 0 where
-  ends : Spells [] []
-  gap : (b : ℕ) (bs : List ℕ) (ts : List Token) → is_gap b ≡ true → Spells bs ts → Spells (b ∷ bs) ts
-  token : (t : Token) (w bs : List ℕ) (ts : List Token) → IsSpelling t w → EndsBefore t bs → Spells bs ts → Spells (w ++ bs) (t ∷ ts)
+-- the tokens of a source, from a byte on, write these tokens of the first form. It is ECMA-262's division of a source into tokens, narrowed to
+-- the first form: each token's text spells one of the first form, and gaps alone stand in front of each and behind the last, so no comment
+abbrev pub IsWritten : List ℕ → ℕ → List SourceToken → List Token → Type 0
+IsWritten bytes from [] [] = AreGaps (drop from bytes)
+IsWritten bytes from (s ∷ ss) (t ∷ ts) =
+    AreGaps (slice_range bytes from s.from) × IsSpelling t (text_of_token bytes s) × IsWritten bytes s.to ss ts
+IsWritten bytes from [] (t ∷ ts) = ⊥
+IsWritten bytes from (s ∷ ss) [] = ⊥

@@ -1,7 +1,7 @@
 // The parser, a token at a time.
 
 ghost use Rattle.std.specs.Prelude.{◌≡◌, [], IfOk};
-ghost use Rattle.lava_cli.specs.Reading.{fed, fed_option, finished, whole_statement};
+ghost use Rattle.lava_cli.specs.Reading.{fed, finished, whole_statement};
 ghost use Rattle.lava_cli.specs.declared.partial.Open.TheVariants as opens;
 
 use crate::partial::{Open, Taken};
@@ -45,20 +45,6 @@ impl Parser {
                 let part = Open::Nothing;
                 Ok(Some(Parser { done, part }))
             }
-        }
-    }
-
-    /// Takes the token, if there is one.
-    pub fn take_option(
-        self,
-        alloc: Global,
-        token: Option<Token>,
-    ) -> Result<Option<Parser>, OutOfMemory>
-        ensures { IfOk result (λ next. next ≡ fed_option self token) }
-    {
-        match token {
-            Some(token) => self.take(alloc, token),
-            None => Ok(Some(self)),
         }
     }
 

@@ -1,28 +1,20 @@
-use Rattle.std.proofs.Common.{◌≡◌, List, Option, Some, None, IfSome, IfNone, sym}
 use Rattle.std.proofs.lemmas.Result.{IfOk-weaker}
-use Rattle.lava_cli.specs.declared.program.Statement.{Statement}
-use Rattle.lava_cli.specs.Reading.{start, read_from}
-use Rattle.lava_cli.specs.Syntax.{IsFirstFormText}
-use Rattle.lava_cli.proofs.Whole.{read_sound, read_none, read_unique}
+use Rattle.lava_cli.proofs.Whole.{answer_read, answer_only, answer_refused}
+use Rattle.lava_cli.proofs.In_order.{all_within}
 use Rattle.lava_cli.proofs.reader.read.Goals as goal
 
-pub returns-clause-read : goal.returns-clause-read
-returns-clause-read c = IfOk-weaker c.read_bytes.result _ _ (λ r e. by r e) c.read_bytes.ensures
-  where
-    by : (r : Option (List Statement)) → r ≡ read_from start c.args.bytes.now → IfSome r (λ program. IsFirstFormText c.args.bytes.now program)
-    by None e = tt
-    by (Some p) e = read_sound c.args.bytes.now p (sym e)
+pub read_tokens-requires-clause-in_order : goal.read_tokens-requires-clause-in_order
+read_tokens-requires-clause-in_order c = all_within _ _ _ c.as_slice.ensures c.in-Ok.ensures.in_order
 
-pub returns-clause-only : goal.returns-clause-only
-returns-clause-only c = IfOk-weaker c.read_bytes.result _ _ (λ r e. by r e) c.read_bytes.ensures
-  where
-    by : (r : Option (List Statement)) → r ≡ read_from start c.args.bytes.now → IfSome r (λ program. (other : List Statement) → IsFirstFormText c.args.bytes.now other → other ≡ program)
-    by None e = tt
-    by (Some p) e = λ other h. read_unique c.args.bytes.now other p h (read_sound c.args.bytes.now p (sym e))
+pub returns-in-Ok-clause-read : goal.returns-in-Ok-clause-read
+returns-in-Ok-clause-read c = IfOk-weaker c.read_tokens.result _ _ (answer_read _ _ _ c.as_slice.ensures c.in-Ok.ensures.tokens) c.read_tokens.ensures
 
-pub returns-clause-refused : goal.returns-clause-refused
-returns-clause-refused c = IfOk-weaker c.read_bytes.result _ _ (λ r e. by r e) c.read_bytes.ensures
-  where
-    by : (r : Option (List Statement)) → r ≡ read_from start c.args.bytes.now → IfNone r ((program : List Statement) → IsFirstFormText c.args.bytes.now program → ⊥)
-    by None e = read_none c.args.bytes.now (sym e)
-    by (Some p) e = tt
+pub returns-in-Ok-clause-only : goal.returns-in-Ok-clause-only
+returns-in-Ok-clause-only c = IfOk-weaker c.read_tokens.result _ _ (answer_only _ _ _ c.as_slice.ensures c.in-Ok.ensures.only) c.read_tokens.ensures
+
+pub returns-in-Ok-clause-refused : goal.returns-in-Ok-clause-refused
+returns-in-Ok-clause-refused c = IfOk-weaker c.read_tokens.result _ _ (answer_refused _ _ _ c.as_slice.ensures c.in-Ok.ensures.only) c.read_tokens.ensures
+
+-- a source that is refused has no tokens
+pub returns-in-Err-At-clause-refused : goal.returns-in-Err-At-clause-refused
+returns-in-Err-At-clause-refused c = λ program h. cc (c.in-Err-At.ensures.only h.0 h.1)
