@@ -103,10 +103,11 @@ fn repeated(alloc: Global, count: usize, last: u16) -> Result<Text, Fault> {
 
 /// The last unit, or 0.
 fn last_of(text: &Text) -> u32 {
-    match text.as_units().last() {
-        Some(unit) => u32::from(*unit) + text.len(),
-        None => 0,
+    let len = text.len();
+    if len == 0 {
+        return 0;
     }
+    u32::from(text.unit(len - 1)) + len
 }
 
 /// How many bytes there are.
