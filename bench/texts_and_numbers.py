@@ -1,5 +1,5 @@
 #!/usr/bin/env python3
-"""How many operations a second texts and numbers do, each kind at counts that grow by 4, until a run takes half a second.
+"""How many operations a second texts, numbers and the lexer do, each kind at counts that grow by 4, until a run takes half a second.
 
     bench/texts_and_numbers.py [PROGRAM]
 
@@ -12,7 +12,10 @@ import time
 
 TOP = os.path.dirname(os.path.dirname(os.path.abspath(__file__)))
 
-KINDS = ('concat', 'slice', 'find', 'compare', 'utf8', 'add', 'mul', 'pow', 'number', 'to_text')
+KINDS = ('concat', 'slice', 'find', 'compare', 'utf8', 'add', 'mul', 'pow', 'number', 'to_text', 'tokens')
+
+# A round of `tokens` is three lines of one source, of so many bytes.
+LINES = 211
 
 
 def seconds(program, kind, count):
@@ -37,7 +40,8 @@ def main():
         count = 1024
         while True:
             took = max(seconds(program, kind, count) - start, 1e-9)
-            print('%-10s %12d %10.1f %14.1f %14.0f' % (kind, count, took * 1e3, took * 1e9 / count, count / took))
+            rate = '%.1f MB a second' % (LINES * count / took / 1e6) if kind == 'tokens' else ''
+            print('%-10s %12d %10.1f %14.1f %14.0f %s' % (kind, count, took * 1e3, took * 1e9 / count, count / took, rate))
             if took > 0.5:
                 break
             count *= 4
