@@ -61,6 +61,16 @@ module _ (xs part : List ℕ) (at done n : ℕ) where
       ∙ ap (take n) (sym (drop-take done k (drop at xs)) ∙ ap (λ m. drop done (take m (drop at xs))) (sym all))
       ∙ ap (λ l. take n (drop done l)) (sym (part_at xs part at) ∙ stands.1)
 
+-- what stands from a place up to another is the front of a piece that begins there, and then the rest
+pub front_and_rest : (xs run : List ℕ) (at n to : ℕ) → run ≡ take (length run) (drop at xs) → n ≤ length run → at + n ≤ to → substring xs at to ≡ take n run ++ substring xs (at + n) to
+front_and_rest xs run at n to is within before =
+    let k = to - (at + n) in
+    let all : to - at ≡ n + k = omega arith in
+    ap (λ m. take m (drop at xs)) all
+    ∙ take-add n k (drop at xs)
+    ∙ ap (λ l. take n (drop at xs) ++ take k l) (drop-drop n at xs)
+    ∙ ap (λ l. l ++ substring xs (at + n) to) (sym (take-take n (length run) (drop at xs) within) ∙ ap (take n) (sym is))
+
 -- ---- what stands from one place up to another
 
 part_length : (xs now : List ℕ) (start end : ℕ) → take (end - start) (drop start xs) ≡ now → end ≤ length xs → length now ≡ end - start

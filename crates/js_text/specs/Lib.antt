@@ -1,10 +1,12 @@
 pub mod CommonPaths
+pub mod Hashes
 pub mod Indices
 pub mod Maps
 pub mod Names
 pub mod Natives
 pub mod Nodes
 pub mod NodesFall
+pub mod SameKeys
 pub mod Search
 pub mod Texts
 pub mod Utf8

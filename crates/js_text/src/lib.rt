@@ -5,6 +5,7 @@ mod characters;
 pub mod common;
 pub mod copy;
 pub mod fault;
+mod hash;
 pub mod index;
 pub mod native;
 mod rope;

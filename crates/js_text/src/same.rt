@@ -1,9 +1,14 @@
 // Whether two values are the same.
 
 ghost use Rattle.std.specs.Prelude.{◌≡◌, ◌↔◌, IsTrue};
+ghost use Rattle.std.specs.Cmp.{partial_equiv_from_equiv};
 ghost use Rattle.lava_base.specs.Ids.{same_ref};
+ghost use Rattle.lava_base.specs.SameRefs.{same_ref_decides};
+ghost use Rattle.js_text.specs.SameKeys.{same_units_equiv, same_symbol_equiv, same_key_equiv};
+ghost use Rattle.js_text.specs.Texts.{same_units};
 ghost use Rattle.js_text.specs.Values.{same_symbol, same_key, same_value};
 
+use crate::text::Text;
 use crate::value::{Key, Symbol, Value};
 
 /// Whether two symbols are the same.
@@ -47,4 +52,46 @@ pub fn is_same_value(a: &Value, b: &Value) -> bool
         (Value::Ref(a), Value::Ref(b)) => a.is_same(*b),
         _ => false,
     }
+}
+
+impl PartialEq for Text {
+    ghost eq = { same_units };
+
+    ghost laws = { partial_equiv_from_equiv same_units_equiv };
+
+    fn eq(&self, other: &Text) -> bool {
+        self.is_same(other)
+    }
+}
+
+impl Eq for Text {
+    ghost laws = { same_units_equiv };
+}
+
+impl PartialEq for Symbol {
+    ghost eq = { same_symbol same_ref };
+
+    ghost laws = { partial_equiv_from_equiv (same_symbol_equiv same_ref_decides) };
+
+    fn eq(&self, other: &Symbol) -> bool {
+        is_same_symbol(self, other)
+    }
+}
+
+impl Eq for Symbol {
+    ghost laws = { same_symbol_equiv same_ref_decides };
+}
+
+impl PartialEq for Key {
+    ghost eq = { same_key same_ref };
+
+    ghost laws = { partial_equiv_from_equiv (same_key_equiv same_ref_decides) };
+
+    fn eq(&self, other: &Key) -> bool {
+        is_same_key(self, other)
+    }
+}
+
+impl Eq for Key {
+    ghost laws = { same_key_equiv same_ref_decides };
 }

@@ -7,10 +7,11 @@ use crate::same::{is_same_key, is_same_value};
 use crate::text::{MAX_UNITS, Text, from_units};
 use crate::utf8::from_utf8;
 use crate::value::{Key, Symbol, Value};
-use lava_base::ids::{ObjId, PartyId, Ref};
+use lava_base::ids::{CommonId, ObjId, PartyId, Ref};
 use lava_base::list::List;
 use std::alloc::Global;
 use std::cmp::Ordering;
+use std::hash::{DefaultHasher, Hash, Hasher};
 use std::test::Fail;
 
 #[test]
@@ -203,6 +204,46 @@ fn pieces_are_compared_with_one_piece(rt: HostRuntime) -> Result<(), Fail> {
     units.push(0x62)?;
     let longer = from_units(rt.alloc(), units.as_slice())?;
     assert_eq!(rt; text.compare(&longer), Ordering::Less);
+    Ok(())
+}
+
+fn hash_of<T: Hash>(value: &T) -> u64 {
+    let mut state = DefaultHasher::new();
+    value.hash(&mut state);
+    state.finish()
+}
+
+#[test]
+fn equal_keys_hash_alike(rt: HostRuntime) -> Result<(), Fail> {
+    let alloc = rt.alloc();
+    let pieces = grown(alloc, true)?;
+    let whole = from_units(alloc, pieces.to_units(alloc)?.as_slice())?;
+    assert!(rt; whole == pieces);
+    assert_eq!(rt; hash_of(&whole), hash_of(&pieces));
+    let few = from_units(alloc, &[0x61])?.concat(alloc, &from_units(alloc, &[0x62])?)?;
+    let made = Ref::Own {
+        party: PartyId(1),
+        id: ObjId(2),
+    };
+    let keys = [
+        Key::Index(7),
+        Key::Index(8),
+        Key::Text(pieces),
+        Key::Text(few),
+        Key::Symbol(Symbol::Iterator),
+        Key::Symbol(Symbol::Registered(whole)),
+        Key::Symbol(Symbol::Made(made)),
+        Key::Symbol(Symbol::Made(Ref::Common(CommonId(2)))),
+    ];
+    for (at, key) in keys.iter().enumerate() {
+        for (place, other) in keys.iter().enumerate() {
+            assert_eq!(rt; *key == *other, at == place);
+            assert_eq!(rt; hash_of(key) == hash_of(other), at == place);
+        }
+        let copy = copy_key(key)?;
+        assert!(rt; copy == *key);
+        assert_eq!(rt; hash_of(&copy), hash_of(key));
+    }
     Ok(())
 }
 

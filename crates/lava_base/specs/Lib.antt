@@ -1,3 +1,4 @@
 pub mod Ids
+pub mod SameRefs
 pub mod Spending
 pub mod Steps

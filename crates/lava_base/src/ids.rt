@@ -1,18 +1,22 @@
 // Names of parties and objects.
 
 ghost use Rattle.std.specs.Prelude.{◌≡◌};
-ghost use Rattle.lava_base.specs.Ids.{same_ref};
+ghost use Rattle.std.specs.Cmp.{partial_equiv_from_equiv};
+ghost use Rattle.lava_base.specs.Ids.{same_ref, ref_writes};
+ghost use Rattle.lava_base.specs.SameRefs.{same_ref_equiv, same_refs_write_alike};
+
+use std::hash::{Hash, Hasher};
 
 /// A party: 0 is the host, 1 the application's own package, then the other packages and the compartments that were made.
-#[derive(Clone, Copy, Debug, PartialEq, Eq)]
+#[derive(Clone, Copy, Debug, PartialEq, Eq, Hash)]
 pub struct PartyId(pub u32);
 
 /// An object or a made symbol of one party, counted from 0 in that party. An id is never used again.
-#[derive(Clone, Copy, Debug, PartialEq, Eq)]
+#[derive(Clone, Copy, Debug, PartialEq, Eq, Hash)]
 pub struct ObjId(pub u32);
 
 /// An object of the common part, by its place there.
-#[derive(Clone, Copy, Debug, PartialEq, Eq)]
+#[derive(Clone, Copy, Debug, PartialEq, Eq, Hash)]
 pub struct CommonId(pub u32);
 
 /// What names an object or a made symbol, wherever it stands.
@@ -35,6 +39,40 @@ impl Ref {
                 p.0 == q.0 && a.0 == b.0
             }
             _ => false,
+        }
+    }
+}
+
+impl PartialEq for Ref {
+    ghost eq = { same_ref };
+
+    ghost laws = { partial_equiv_from_equiv same_ref_equiv };
+
+    fn eq(&self, other: &Ref) -> bool {
+        self.is_same(*other)
+    }
+}
+
+impl Eq for Ref {
+    ghost laws = { same_ref_equiv };
+}
+
+impl Hash for Ref {
+    ghost hash_input = { ref_writes };
+
+    ghost respects_eq = { same_refs_write_alike };
+
+    fn hash<H: Hasher>(&self, state: &mut H) {
+        match *self {
+            Ref::Common(id) => {
+                state.write_u8(0);
+                state.write_u32(id.0);
+            }
+            Ref::Own { party, id } => {
+                state.write_u8(1);
+                state.write_u32(party.0);
+                state.write_u32(id.0);
+            }
         }
     }
 }
