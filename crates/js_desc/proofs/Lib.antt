@@ -1,0 +1,4 @@
+pub mod Equal
+pub mod Moves
+pub mod Renamed
+pub mod Wholes

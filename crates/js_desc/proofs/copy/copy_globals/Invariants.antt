@@ -1,0 +1,6 @@
+-- The items before the place are copied.
+use Rattle.std.proofs.Common.{◌≡◌, take}
+use Rattle.js_desc.proofs.copy.copy_globals.Given as goal
+
+abbrev pub invariant-loop-key : goal.invariant-loop-key
+invariant-loop-key l = l.copies ≡ take l.key-index l.globals

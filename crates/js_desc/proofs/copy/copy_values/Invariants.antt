@@ -1,0 +1,6 @@
+-- The items before the place are copied.
+use Rattle.std.proofs.Common.{◌≡◌, take}
+use Rattle.js_desc.proofs.copy.copy_values.Given as goal
+
+abbrev pub invariant-loop-value : goal.invariant-loop-value
+invariant-loop-value l = l.copies ≡ take l.value-index l.values

@@ -1,0 +1,5 @@
+use Rattle.js_desc.proofs.Wholes as wholes
+use Rattle.js_desc.proofs.laws.whole_definitions_are_taken.Goals as goal
+
+pub returns : goal.returns
+returns c = wholes.whole_definitions_are_taken

@@ -1,0 +1,173 @@
+// What a definition of a property makes of the property that is there (ECMA-262, ValidateAndApplyPropertyDescriptor).
+
+ghost use Rattle.std.specs.Prelude.{◌≡◌, IfOk, option_map};
+ghost use Rattle.std.specs.Bool.{beq};
+ghost use Rattle.lava_base.specs.Ids.{same_ref};
+ghost use Rattle.js_text.specs.Values.{same_value};
+ghost use Rattle.js_desc.specs.Descriptors.{same_option, data_with, accessor_with};
+ghost use Rattle.js_desc.specs.Validate.{applied, keeps, keeps_data, keeps_kind, allows, changed, change_of};
+
+use crate::complete::{complete, function_or, truth_or, value_or};
+use crate::descriptor::{Change, Descriptor, PartialDescriptor};
+use crate::same::{is_same_descriptor, is_same_function};
+use js_text::same::is_same_value;
+use js_text::value::Value;
+use lava_base::ids::Ref;
+use lava_base::memory::OutOfMemory;
+
+/// What the definition `new` makes of the property `old` of an object (ECMA-262, ValidateAndApplyPropertyDescriptor). None comes exactly where the rule refuses; `Change::Nothing` exactly where it accepts and the property stays as it is.
+pub fn validate_apply(
+    old: Option<&Descriptor>,
+    extensible: bool,
+    new: &PartialDescriptor,
+) -> Result<Option<Change>, OutOfMemory>
+    ensures { IfOk result (λ change. change ≡ applied same_ref (option_map (λ d. d.now) old.entry) extensible new.now) }
+{
+    match old {
+        None if extensible => Ok(Some(Change::Write(complete(new)?))),
+        Some(old) if allow(old, new) => Ok(Some(change_from(old, change(old, new)?))),
+        _ => Ok(None),
+    }
+}
+
+/// The change from one property to another.
+fn change_from(old: &Descriptor, new: Descriptor) -> Change
+    ensures { result ≡ change_of same_ref old.now new }
+{
+    if is_same_descriptor(old, &new) {
+        Change::Nothing
+    } else {
+        Change::Write(new)
+    }
+}
+
+/// Whether a definition may change a property (ECMA-262, ValidateAndApplyPropertyDescriptor, step 5).
+fn allow(old: &Descriptor, new: &PartialDescriptor) -> bool
+    ensures { result ≡ allows same_ref old.now new.now }
+{
+    old.configurable()
+        || keep_truth(new.configurable, false)
+            && keep_truth(new.enumerable, old.enumerable())
+            && keep_kind(old, new)
+}
+
+/// Whether a definition keeps the kind of a property, and what else a property of its kind has to keep that is not configurable (ECMA-262, ValidateAndApplyPropertyDescriptor, steps 5.c to 5.e).
+fn keep_kind(old: &Descriptor, new: &PartialDescriptor) -> bool
+    ensures { result ≡ keeps_kind same_ref old.now new.now }
+{
+    match old {
+        Descriptor::Data {
+            value,
+            writable,
+            ..
+        } => !new.is_accessor() && keep_data(value, *writable, new),
+        Descriptor::Accessor { get, set, .. } => {
+            !new.is_data() && keep_function(new.get, *get) && keep_function(new.set, *set)
+        }
+    }
+}
+
+/// Whether a definition keeps a value that is not writable.
+fn keep_data(value: &Value, writable: bool, new: &PartialDescriptor) -> bool
+    ensures { result ≡ keeps_data same_ref value.now writable new.now }
+{
+    writable || keep_truth(new.writable, false) && keep_value(&new.value, value)
+}
+
+/// Whether a field is not given, or is this truth value.
+fn keep_truth(field: Option<bool>, there: bool) -> bool
+    ensures { result ≡ keeps beq field there }
+{
+    match field {
+        None => true,
+        Some(truth) => truth == there,
+    }
+}
+
+/// Whether a field is not given, or is this value (ECMA-262, SameValue).
+fn keep_value(field: &Option<Value>, there: &Value) -> bool
+    ensures { result ≡ keeps (same_value same_ref) field.now there.now }
+{
+    match field {
+        None => true,
+        Some(value) => is_same_value(value, there),
+    }
+}
+
+/// Whether a field is not given, or is this function.
+fn keep_function(field: Option<Option<Ref>>, there: Option<Ref>) -> bool
+    ensures { result ≡ keeps (same_option same_ref) field there }
+{
+    match field {
+        None => true,
+        Some(function) => is_same_function(function, there),
+    }
+}
+
+/// The property with the fields that a definition gives (ECMA-262, ValidateAndApplyPropertyDescriptor, step 6).
+fn change(old: &Descriptor, new: &PartialDescriptor) -> Result<Descriptor, OutOfMemory>
+    ensures { IfOk result (λ d. d ≡ changed old.now new.now) }
+{
+    match old {
+        Descriptor::Data {
+            value,
+            writable,
+            enumerable,
+            configurable,
+        } => {
+            if new.is_accessor() {
+                Ok(accessor(new, None, None, *enumerable, *configurable))
+            } else {
+                data(new, value, *writable, *enumerable, *configurable)
+            }
+        }
+        Descriptor::Accessor {
+            get,
+            set,
+            enumerable,
+            configurable,
+        } => {
+            if new.is_data() {
+                data(new, &Value::Undefined, false, *enumerable, *configurable)
+            } else {
+                Ok(accessor(new, *get, *set, *enumerable, *configurable))
+            }
+        }
+    }
+}
+
+/// The data property with the fields that are given, and else with these.
+fn data(
+    new: &PartialDescriptor,
+    value: &Value,
+    writable: bool,
+    enumerable: bool,
+    configurable: bool,
+) -> Result<Descriptor, OutOfMemory>
+    ensures { IfOk result (λ d. d ≡ data_with new.now value.now writable enumerable configurable) }
+{
+    Ok(Descriptor::Data {
+        value: value_or(&new.value, value)?,
+        writable: truth_or(new.writable, writable),
+        enumerable: truth_or(new.enumerable, enumerable),
+        configurable: truth_or(new.configurable, configurable),
+    })
+}
+
+/// The accessor with the fields that are given, and else with these.
+fn accessor(
+    new: &PartialDescriptor,
+    get: Option<Ref>,
+    set: Option<Ref>,
+    enumerable: bool,
+    configurable: bool,
+) -> Descriptor
+    ensures { result ≡ accessor_with new.now get set enumerable configurable }
+{
+    Descriptor::Accessor {
+        get: function_or(new.get, get),
+        set: function_or(new.set, set),
+        enumerable: truth_or(new.enumerable, enumerable),
+        configurable: truth_or(new.configurable, configurable),
+    }
+}
