@@ -1,0 +1,10 @@
+pub mod Bare_laws
+pub mod Dense_laws
+pub mod Halves_laws
+pub mod Ids_laws
+pub mod Keys_laws
+pub mod Marks_laws
+pub mod Moves
+pub mod Order_laws
+pub mod Own_laws
+pub mod Renamed

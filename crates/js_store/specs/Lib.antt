@@ -1,0 +1,9 @@
+pub mod Dense
+pub mod Foreign
+pub mod Frozen
+pub mod Halves
+pub mod Laws
+pub mod Maps
+pub mod Objects
+pub mod Order
+pub mod References

@@ -1,0 +1,131 @@
+// A store that keeps each object with a list of its properties.
+
+ghost use Rattle.std.specs.Prelude.{◌≡◌, ◌++◌, ◌∷◌, [], OnOk};
+ghost use Rattle.js_store.specs.Frozen.{bare};
+
+use crate::object::FlatObject;
+use crate::slot::Slot;
+use crate::store::Store;
+use js_desc::descriptor::{Change, Descriptor};
+use js_text::value::Key;
+use lava_base::ids::{ObjId, PartyId, Ref};
+use lava_base::list::List;
+use lava_base::marks::{Class, Marks};
+use lava_base::memory::OutOfMemory;
+use std::alloc::Global;
+use std::marker::Model;
+
+/// A party's objects, one after the other, each with its properties. `make` takes amortised constant time; so do `own` and `apply`, but for array indices far apart, which take time logarithmic in their count; `remove` takes time linear in the properties after the one that goes.
+#[derive(Drop)]
+pub struct FlatStore {
+    alloc: Global,
+    party: PartyId,
+    objects: Vec<FlatObject>,
+}
+
+impl Model for FlatStore {
+    ghost use Rattle.std.specs.Prelude.{◌<◌, ◌^◌, length};
+    ghost use Rattle.js_store.specs.Objects.{Owned};
+
+    ghost Value = { Owned };
+
+    ghost view = { λ s. record { party = s.party; objects = s.objects.items } };
+
+    ghost invariant = { λ s. length s.objects.items < 2 ^ 32 };
+}
+
+impl FlatStore {
+    /// Makes an empty frozen object without a prototype.
+    pub(crate) fn push_bare(&mut self) -> Result<(), OutOfMemory>
+        ensures ok { OnOk result (self.new.objects ≡ self.old.objects ++ bare ∷ []) }
+    {
+        if self.objects.len() >= u32::MAX as usize {
+            return Err(OutOfMemory);
+        }
+        let marks = Marks {
+            class: Class::Object,
+            callable: false,
+            constructor: false,
+        };
+        let mut object = FlatObject::new(self.alloc, None, marks, Slot::Plain);
+        object.prevent();
+        self.objects.push(object)?;
+        Ok(())
+    }
+}
+
+impl Store for FlatStore {
+    ghost objects = { λ s. s.objects };
+
+    ghost owner = { λ s. s.party };
+
+    fn empty(alloc: Global, party: PartyId) -> FlatStore {
+        FlatStore {
+            alloc,
+            party,
+            objects: Vec::new(alloc),
+        }
+    }
+
+    fn party(&self) -> PartyId {
+        self.party
+    }
+
+    fn make(&mut self, proto: Option<Ref>, marks: Marks, slot: Slot) -> Result<ObjId, OutOfMemory> {
+        let id = self.objects.len();
+        if id >= u32::MAX as usize {
+            return Err(OutOfMemory);
+        }
+        let object = FlatObject::new(self.alloc, proto, marks, slot);
+        self.objects.push(object)?;
+        Ok(ObjId(id as u32))
+    }
+
+    fn count(&self) -> u32 {
+        self.objects.len() as u32
+    }
+
+    fn marks(&self, id: ObjId) -> Marks {
+        self.objects[id.0 as usize].marks()
+    }
+
+    fn proto(&self, id: ObjId) -> Option<Ref> {
+        self.objects[id.0 as usize].prototype()
+    }
+
+    fn set_proto(&mut self, id: ObjId, proto: Option<Ref>) {
+        self.objects[id.0 as usize].set_prototype(proto);
+    }
+
+    fn own(&self, id: ObjId, key: &Key) -> Option<&Descriptor> {
+        self.objects[id.0 as usize].own(key)
+    }
+
+    fn apply(&mut self, id: ObjId, key: Key, change: Change) -> Result<(), OutOfMemory> {
+        self.objects[id.0 as usize].apply(key, change)
+    }
+
+    fn remove(&mut self, id: ObjId, key: &Key) {
+        self.objects[id.0 as usize].remove(key);
+    }
+
+    fn keys(&self, alloc: Global, id: ObjId) -> Result<List<Key>, OutOfMemory> {
+        self.objects[id.0 as usize].keys(alloc)
+    }
+
+    fn extensible(&self, id: ObjId) -> bool {
+        self.objects[id.0 as usize].extensible()
+    }
+
+    fn prevent(&mut self, id: ObjId) {
+        self.objects[id.0 as usize].prevent();
+    }
+
+    fn slot(&self, id: ObjId) -> &Slot {
+        self.objects[id.0 as usize].slot()
+    }
+
+    fn swap_slot(&mut self, id: ObjId, slot: Slot) -> Slot {
+        self.objects[id.0 as usize].swap_slot(slot)
+    }
+}

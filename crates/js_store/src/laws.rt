@@ -1,0 +1,45 @@
+// Laws of the definitions.
+
+ghost use Rattle.js_store.specs.Laws.{Written_is_own, Writing_leaves_others, Removed_is_gone, Removing_leaves_others, Writing_keeps_the_order, Removing_keeps_the_order, Old_keys_keep_their_places, New_names_go_last, Keys_are_the_own_ones, References_do_not_matter, Changes_are_of_one, New_objects_have_new_ids};
+
+/// A change of a property is what is found at its key, and no other key is touched.
+#[tactic(none)]
+pub fn own_after_a_change<R>()
+    ensures written { Written_is_own R }
+    ensures others_than_written { Writing_leaves_others R }
+    ensures removed { Removed_is_gone R }
+    ensures others_than_removed { Removing_leaves_others R }
+{}
+
+/// After a change the properties still stand in the normal order.
+#[tactic(none)]
+pub fn changes_keep_the_order<R>()
+    ensures writing { Writing_keeps_the_order R }
+    ensures removing { Removing_keeps_the_order R }
+{}
+
+/// The own keys are those that have a property.
+#[tactic(none)]
+pub fn keys_are_the_own_ones<R>()
+    ensures { Keys_are_the_own_ones R }
+{}
+
+/// Objects do not depend on what references are, as long as the same ones are the same.
+#[tactic(none)]
+pub fn references_do_not_matter<A, B>()
+    ensures { References_do_not_matter A B }
+{}
+
+/// A key that is written keeps its place, and a new one that is no array index goes last.
+#[tactic(none)]
+pub fn written_keeps_places<R>()
+    ensures old { Old_keys_keep_their_places R }
+    ensures new { New_names_go_last R }
+{}
+
+/// Each call of a store changes one object or adds one: no id is used again, and each means what it meant.
+#[tactic(none)]
+pub fn ids_keep_their_meaning<R>()
+    ensures changes { Changes_are_of_one R }
+    ensures makes { New_objects_have_new_ids R }
+{}

@@ -1,0 +1,111 @@
+// What a store is: a list of objects, however it keeps them.
+
+ghost use Rattle.std.specs.Prelude.{◌≡◌, ◌+◌, ◌<◌, ◌++◌, ◌∷◌, [], List, length, IfOk, OnOk, OnErr, option_map};
+ghost use Rattle.lava_base.specs.Ids.{same_ref};
+ghost use Rattle.lava_base.specs.declared.ids.Ref.{Ref};
+ghost use Rattle.lava_base.specs.declared.ids.PartyId.{PartyId};
+ghost use Rattle.js_store.specs.Objects.{Object, fresh, object_at, at_place, own_of, own_keys, with_prototype, with_change, without_property, not_extensible, with_slot};
+ghost use Rattle.js_store.specs.Order.{IsInOrder};
+
+use crate::slot::Slot;
+use js_desc::descriptor::{Change, Descriptor};
+use js_text::value::Key;
+use lava_base::ids::{ObjId, PartyId, Ref};
+use lava_base::list::List;
+use lava_base::marks::Marks;
+use lava_base::memory::OutOfMemory;
+use std::alloc::Global;
+
+/// A party's objects: a list, in which an object is found by its id, counted from 0. No object leaves the list, so an id is never used again.
+///
+/// An object has a prototype, a truth value that says whether it is extensible, own properties, a slot and marks. Its properties stand in one normal order, which all calls keep: array indices ascending, then the other keys in order of creation.
+pub trait Store {
+    /// The objects, however they are kept.
+    ghost objects: { Self → List (Object Ref) };
+
+    /// The party whose objects they are.
+    ghost owner: { Self → PartyId };
+
+    /// A store without objects. It takes no memory.
+    fn empty(alloc: Global, party: PartyId) -> Self
+        ensures none { objects result ≡ [] }
+        ensures party { owner result ≡ party };
+
+    /// The party whose objects they are.
+    fn party(&self) -> PartyId
+        ensures { result ≡ owner self.now };
+
+    /// Makes an extensible object without properties, at the end of the list. Want of memory is answered too where the count would pass 4,294,967,295; the store is then as before.
+    fn make(&mut self, proto: Option<Ref>, marks: Marks, slot: Slot) -> Result<ObjId, OutOfMemory>
+        ensures id { IfOk result (λ id. id.0 ≡ length (objects self.old)) }
+        ensures ok { OnOk result (objects self.new ≡ objects self.old ++ fresh proto marks slot ∷ []) }
+        ensures err { OnErr result (objects self.new ≡ objects self.old) }
+        ensures party { owner self.new ≡ owner self.old };
+
+    /// How many objects there are.
+    fn count(&self) -> u32
+        ensures { result ≡ length (objects self.now) };
+
+    /// What everyone may know of an object.
+    fn marks(&self, id: ObjId) -> Marks
+        requires { id.0 < length (objects self.now) }
+        ensures { result ≡ (object_at (objects self.now) id.0).marks };
+
+    /// The prototype; None is null (ECMA-262, OrdinaryGetPrototypeOf).
+    fn proto(&self, id: ObjId) -> Option<Ref>
+        requires { id.0 < length (objects self.now) }
+        ensures { result ≡ (object_at (objects self.now) id.0).prototype };
+
+    /// Puts another prototype in place, whatever the object is.
+    fn set_proto(&mut self, id: ObjId, proto: Option<Ref>)
+        requires { id.0 < length (objects self.old) }
+        ensures objects { objects self.new ≡ at_place (objects self.old) id.0 (with_prototype proto) }
+        ensures party { owner self.new ≡ owner self.old };
+
+    /// The own property of a key (ECMA-262, OrdinaryGetOwnProperty).
+    fn own(&self, id: ObjId, key: &Key) -> Option<&Descriptor>
+        requires { id.0 < length (objects self.now) }
+        ensures { option_map (λ d. d.now) result ≡ own_of same_ref key.now (object_at (objects self.now) id.0).properties };
+
+    /// Writes a property as a change says. A key that is there keeps its place, and a new one goes to its place in the normal order.
+    fn apply(&mut self, id: ObjId, key: Key, change: Change) -> Result<(), OutOfMemory>
+        requires { id.0 < length (objects self.old) }
+        ensures ok { OnOk result (objects self.new ≡ at_place (objects self.old) id.0 (with_change same_ref key change)) }
+        ensures err { OnErr result (objects self.new ≡ objects self.old) }
+        ensures party { owner self.new ≡ owner self.old };
+
+    /// Takes the property of a key out, if there is one.
+    fn remove(&mut self, id: ObjId, key: &Key)
+        requires { id.0 < length (objects self.old) }
+        ensures objects { objects self.new ≡ at_place (objects self.old) id.0 (without_property same_ref key.now) }
+        ensures party { owner self.new ≡ owner self.old };
+
+    /// The own keys: array indices ascending, then other texts in order of creation, then symbols in order of creation (ECMA-262, OrdinaryOwnPropertyKeys).
+    fn keys(&self, alloc: Global, id: ObjId) -> Result<List<Key>, OutOfMemory>
+        requires { id.0 < length (objects self.now) }
+        ensures keys { IfOk result (λ keys. keys ≡ own_keys (object_at (objects self.now) id.0).properties) }
+        ensures order { IsInOrder same_ref (object_at (objects self.now) id.0).properties };
+
+    /// Whether new properties may be made (ECMA-262, OrdinaryIsExtensible).
+    fn extensible(&self, id: ObjId) -> bool
+        requires { id.0 < length (objects self.now) }
+        ensures { result ≡ (object_at (objects self.now) id.0).extensible };
+
+    /// From now on no new properties may be made (ECMA-262, OrdinaryPreventExtensions).
+    fn prevent(&mut self, id: ObjId)
+        requires { id.0 < length (objects self.old) }
+        ensures objects { objects self.new ≡ at_place (objects self.old) id.0 not_extensible }
+        ensures party { owner self.new ≡ owner self.old };
+
+    /// What the object keeps besides its properties.
+    fn slot(&self, id: ObjId) -> &Slot
+        requires { id.0 < length (objects self.now) }
+        ensures { result.now ≡ (object_at (objects self.now) id.0).slot };
+
+    /// Puts another slot in place, and gives the old one. It takes no memory.
+    fn swap_slot(&mut self, id: ObjId, slot: Slot) -> Slot
+        requires { id.0 < length (objects self.old) }
+        ensures given { result ≡ (object_at (objects self.old) id.0).slot }
+        ensures objects { objects self.new ≡ at_place (objects self.old) id.0 (with_slot slot) }
+        ensures party { owner self.new ≡ owner self.old };
+}
