@@ -11,11 +11,17 @@ use Rattle.js_text.specs.declared.value.Symbol.{Symbol}
 use Rattle.js_text.specs.declared.value.Symbol.TheVariants.{Iterator, Registered, Made}
 use Rattle.js_text.specs.declared.value.Value as v
 use Rattle.js_text.specs.declared.value.Value.TheVariants as value
-use Rattle.lava_cli.specs.Objects.{Descriptor, Data, Accessor, Property, Slot, Plain, Closure, Object, map_descriptor, map_property, map_slot, map_object}
+use Rattle.js_desc.specs.Maps.{map_descriptor}
+use Rattle.js_desc.specs.References.{all_refs, option_refs, itself, descriptor_refs}
+use Rattle.js_desc.specs.declared.descriptor.Descriptor.{Descriptor}
+use Rattle.js_desc.specs.declared.descriptor.Descriptor.TheVariants.{Data, Accessor}
+use Rattle.js_store.specs.Maps.{map_property}
+use Rattle.js_store.specs.References.{property_refs}
+use Rattle.lava_cli.specs.Objects.{Slot, Plain, Closure, Object, map_slot, map_object}
 use Rattle.lava_cli.specs.Asks.{Ask, HasProperty, Get, Call, Import, Reply, Value, Flag, Throw, CrossBody, Asks, Answers}
 use Rattle.lava_cli.specs.Party.{Party, Scope}
 use Rattle.lava_cli.specs.Local.{local}
-use Rattle.lava_cli.specs.References.{map_ask, map_reply, map_body, map_scope, map_party, Seen, all_refs, option_refs, itself, descriptor_refs, property_refs, object_refs, scope_refs, party_refs, ask_refs, reply_refs, body_refs, history_refs, IsAmong}
+use Rattle.lava_cli.specs.References.{map_ask, map_reply, map_body, map_scope, map_party, Seen, object_refs, scope_refs, party_refs, ask_refs, reply_refs, body_refs, history_refs, IsAmong}
 use Rattle.lava_cli.proofs.Rename.{names_do_not_matter}
 use Rattle.lava_cli.proofs.Swap.{number_of, ref_tells, swapped, swap_first, swap_other, swap_iso, swap_is_alike, hosts_place}
 
@@ -98,8 +104,8 @@ module _ {A : Type 0} (f : A → A) where
   descriptor_left (Data v w e c) h = λ j. Data (value_left v h j) w e c
   descriptor_left (Accessor g s e c) h = λ j. Accessor (ref_left g (first_left (option_refs itself g) (option_refs itself s) h) j) (ref_left s (second_left (option_refs itself g) (option_refs itself s) h) j) e c
 
-  property_left : (q : Property A) → Leaves (property_refs q) → map_property f q ≡ q
-  property_left q h = λ j. record { key = key_left q.key (first_left (key_refs q.key) (descriptor_refs q.descriptor) h) j; descriptor = descriptor_left q.descriptor (second_left (key_refs q.key) (descriptor_refs q.descriptor) h) j }
+  property_left : (q : Key A × Descriptor A) → Leaves (property_refs q) → map_property f q ≡ q
+  property_left q h = λ j. (key_left q.0 (first_left (key_refs q.0) (descriptor_refs q.1) h) j, descriptor_left q.1 (second_left (key_refs q.0) (descriptor_refs q.1) h) j)
 
   slot_left : (s : Slot A) → map_slot f s ≡ s
   slot_left Plain = refl

@@ -1,5 +1,5 @@
 -- The reader reads what the tokens of a source write.
-use Rattle.std.proofs.Common.{◌≡◌, ℕ, refl, sym, ap, ◌∙◌, subst, true, List, [], ◌∷◌, drop, slice_range, Option, Some, None, IfSome, IfNone, option_and_then}
+use Rattle.std.proofs.Common.{◌≡◌, ℕ, refl, sym, ap, ◌∙◌, subst, List, [], ◌∷◌, drop, slice_range, Option, Some, None, IfSome, IfNone, option_and_then}
 use Rattle.std.specs.List.{list_all}
 use Rattle.std.proofs.lemmas.Option.{same_Some, none-some}
 use Rattle.js_lexer.specs.declared.token.Token.{Token as SourceToken}
@@ -8,7 +8,6 @@ use Rattle.lava_cli.specs.declared.token.Token.{Token}
 use Rattle.lava_cli.specs.declared.program.Statement.{Statement}
 use Rattle.lava_cli.specs.declared.parser.Parser.{Parser}
 use Rattle.lava_cli.specs.Tokens.{is_gap, text_of_token, AreGaps, IsSpelling, IsWritten}
-use Rattle.lava_cli.specs.Spelling.{first_token}
 use Rattle.lava_cli.specs.Reading.{fed, finished, behind_gap, taken, next_taken, ended, read_from, start}
 use Rattle.lava_cli.specs.Syntax.{IsProgram, IsFirstFormText}
 use Rattle.lava_cli.proofs.Options.{split, and_then_some}

@@ -7,8 +7,10 @@ use Rattle.js_text.specs.declared.value.Value as v
 use Rattle.js_text.specs.declared.value.Value.TheVariants as value
 use Rattle.js_text.specs.declared.value.Key.{Key}
 use Rattle.js_text.specs.declared.value.Key.TheVariants as key
+use Rattle.js_desc.specs.declared.descriptor.Descriptor.{Descriptor}
+use Rattle.js_desc.specs.declared.descriptor.Descriptor.TheVariants.{Data}
 use Rattle.lava_cli.specs.Terms.{Term, Terms, Lit, Local, Global, Init, Call, CallOn, Func, Seq, Return, No_more, And_then, Template}
-use Rattle.lava_cli.specs.Objects.{Object, Data, Property, Closure, ordinary, function_marks}
+use Rattle.lava_cli.specs.Objects.{Object, Closure, ordinary, function_marks}
 use Rattle.lava_cli.specs.Asks as ask
 use Rattle.lava_cli.specs.Asks.{Reply, Value, Flag, Throw, Completion, Replied, Returned, EndKind}
 use Rattle.lava_cli.specs.Decide as decision
@@ -112,11 +114,11 @@ abbrev pub module_ending : {R : Type 0} → Names R → ℕ → Next R
 module_ending names m = Then (module_ends names m)
 
 -- a property that may be written, listed and configured
-abbrev pub open_property : {R : Type 0} → Key R → v.Value R → Property R
-open_property k v = record { key = k; descriptor = Data v true true true }
+abbrev pub open_property : {R : Type 0} → Key R → v.Value R → Key R × Descriptor R
+open_property k v = (k, Data v true true true)
 
 -- an ordinary object with the prototype `Object.prototype`
-abbrev pub object_with : {R : Type 0} → Names R → Party R → List (Property R) → Object R
+abbrev pub object_with : {R : Type 0} → Names R → Party R → List (Key R × Descriptor R) → Object R
 object_with names p properties = ordinary (Some (names.common p.common.object_prototype)) properties
 
 -- the objects of a module: its `exports`, and the module object that has it

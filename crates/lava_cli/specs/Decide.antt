@@ -6,7 +6,10 @@ use Rattle.js_text.specs.declared.value.Value as v
 use Rattle.js_text.specs.declared.value.Value.TheVariants as value
 use Rattle.js_text.specs.declared.value.Key.{Key}
 use Rattle.lava_cli.specs.Terms.{Template}
-use Rattle.lava_cli.specs.Objects.{Object, Descriptor, Data, Accessor, Slot, Plain, Closure, own_of, object_at, map_object}
+use Rattle.js_desc.specs.declared.descriptor.Descriptor.{Descriptor}
+use Rattle.js_desc.specs.declared.descriptor.Descriptor.TheVariants.{Data, Accessor}
+use Rattle.js_store.specs.Objects.{own_of}
+use Rattle.lava_cli.specs.Objects.{Object, Slot, Plain, Closure, object_at, map_object}
 use Rattle.lava_cli.specs.Asks as a
 use Rattle.lava_cli.specs.Asks.{Reply, HasProperty, Get, Call, Import, Value, Flag}
 use Rattle.lava_cli.specs.Party.{Party}
@@ -44,8 +47,8 @@ called this arguments Plain = Fault
 called this arguments (Closure t s) = Run t s this arguments
 
 abbrev pub decision_of : {R : Type 0} → (R → R → Bool) → Object R → a.Ask R → Decision R
-decision_of same o (HasProperty key) = has_own key o.prototype (own_of same o.properties key)
-decision_of same o (Get key receiver) = get_own key receiver o.prototype (own_of same o.properties key)
+decision_of same o (HasProperty key) = has_own key o.prototype (own_of same key o.properties)
+decision_of same o (Get key receiver) = get_own key receiver o.prototype (own_of same key o.properties)
 decision_of same o (Call this arguments) = called this arguments o.slot
 decision_of same o (Import link path) = Fault
 

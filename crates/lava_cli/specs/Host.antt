@@ -4,8 +4,11 @@ use Rattle.lava_base.specs.Ids.{same_ref}
 use Rattle.lava_base.specs.declared.ids.Ref.{Ref}
 use Rattle.lava_base.specs.declared.ids.Ref.TheVariants as ref
 use Rattle.js_text.specs.declared.value.Value.TheVariants as value
+use Rattle.js_text.specs.declared.value.Key.{Key}
 use Rattle.js_text.specs.declared.value.Key.TheVariants as key
-use Rattle.lava_cli.specs.Objects.{Object, Property, Data, ordinary, object_at}
+use Rattle.js_desc.specs.declared.descriptor.Descriptor.{Descriptor}
+use Rattle.js_desc.specs.declared.descriptor.Descriptor.TheVariants.{Data}
+use Rattle.lava_cli.specs.Objects.{Object, ordinary, object_at}
 use Rattle.lava_cli.specs.Asks as ask
 use Rattle.lava_cli.specs.Asks.{Reply, Value, Throw, CrossBody, Asks, Answers}
 use Rattle.lava_cli.specs.Decide as decision
@@ -16,8 +19,8 @@ abbrev pub host_ref : ℕ → Ref
 host_ref k = ref.Own (record { 0 = 0 }) (record { 0 = k })
 
 -- a member of a frozen object
-abbrev pub member : List ℕ → ℕ → Property Ref
-member name k = record { key = key.Text name; descriptor = Data (value.Ref (host_ref k)) false true false }
+abbrev pub member : List ℕ → ℕ → Key Ref × Descriptor Ref
+member name k = (key.Text name, Data (value.Ref (host_ref k)) false true false)
 
 abbrev pub host_objects : List (Object Ref)
 host_objects =

@@ -1,10 +1,12 @@
 -- The references in what a party has, sends and is sent, and the same things with other references. What a made symbol is named by counts as one.
-use Rattle.std.specs.Prelude.{◌≡◌, ℕ, List, [], ◌∷◌, ◌++◌, map, Option, Some, None, ◌⊎◌}
+use Rattle.std.specs.Prelude.{◌≡◌, ℕ, List, [], ◌∷◌, ◌++◌, map, ◌⊎◌}
 use Rattle.std.specs.Option.{option_map}
 use mathlib.Core.Equiv.{◌≃◌}
 use Rattle.js_text.specs.Names.{Names}
 use Rattle.js_text.specs.Maps.{map_key, map_value, key_refs, value_refs}
-use Rattle.lava_cli.specs.Objects.{Descriptor, Data, Accessor, Property, Object, map_object}
+use Rattle.js_desc.specs.References.{all_refs, option_refs, itself}
+use Rattle.js_store.specs.References.{property_refs}
+use Rattle.lava_cli.specs.Objects.{Object, map_object}
 use Rattle.lava_cli.specs.Asks.{Ask, HasProperty, Get, Call, Import, Reply, Value, Flag, Throw, CrossBody, Asks, Answers, EndKind}
 use Rattle.lava_cli.specs.Party.{Party, Scope}
 use Rattle.lava_cli.specs.Local.{Standing, Waits, Is_short, Has_ended, Local, local}
@@ -80,29 +82,6 @@ Names_do_not_matter A B =
     → seen (local b (map_party e.0 start) n (map (map_body e.0) ins)) ≡ map_seen e.0 (seen (local a start n ins))
 
 -- THE REFERENCES IN A THING
-
--- those in all things of a list
-abbrev pub all_refs : {A R : Type 0} → (A → List R) → List A → List R
-all_refs refs [] = []
-all_refs refs (x ∷ xs) = refs x ++ all_refs refs xs
-
--- those in a thing, if there is one
-abbrev pub option_refs : {A R : Type 0} → (A → List R) → Option A → List R
-option_refs refs None = []
-option_refs refs (Some x) = refs x
-
--- a reference has itself
-abbrev pub itself : {R : Type 0} → R → List R
-itself r = r ∷ []
-
--- those in a property's descriptor
-abbrev pub descriptor_refs : {R : Type 0} → Descriptor R → List R
-descriptor_refs (Data v w e c) = value_refs v
-descriptor_refs (Accessor g s e c) = option_refs itself g ++ option_refs itself s
-
--- those in a property
-abbrev pub property_refs : {R : Type 0} → Property R → List R
-property_refs p = key_refs p.key ++ descriptor_refs p.descriptor
 
 -- those in an object
 abbrev pub object_refs : {R : Type 0} → Object R → List R
