@@ -1,5 +1,7 @@
 // What is measured.
 
+use crate::keys::KeyKind;
+
 /// What one round does.
 #[derive(Clone, Copy, Debug)]
 pub enum Kind {
@@ -25,9 +27,17 @@ pub enum Kind {
     ToText,
     /// Reads the tokens of three lines of source. The lines of all rounds are one source.
     Tokens,
+    /// Reads one of so many properties of an object.
+    Own(KeyKind, u32),
+    /// Makes an object with so many properties.
+    Insert(KeyKind, u32),
+    /// Lists the keys of an object with so many properties.
+    Keys(u32),
+    /// Takes the first of so many properties out, and writes it again, which puts it behind the others.
+    Remove(u32),
 }
 
-static KINDS: [(&str, Kind); 11] = [
+static KINDS: [(&str, Kind); 28] = [
     ("concat", Kind::Concat),
     ("slice", Kind::Slice),
     ("find", Kind::Find),
@@ -39,6 +49,23 @@ static KINDS: [(&str, Kind); 11] = [
     ("number", Kind::Number),
     ("to_text", Kind::ToText),
     ("tokens", Kind::Tokens),
+    ("own_names_4", Kind::Own(KeyKind::Name, 4)),
+    ("own_names_64", Kind::Own(KeyKind::Name, 64)),
+    ("own_names_4096", Kind::Own(KeyKind::Name, 4_096)),
+    ("own_indices_4", Kind::Own(KeyKind::Index, 4)),
+    ("own_indices_64", Kind::Own(KeyKind::Index, 64)),
+    ("own_indices_4096", Kind::Own(KeyKind::Index, 4_096)),
+    ("own_far_4096", Kind::Own(KeyKind::FarIndex, 4_096)),
+    ("insert_names_4", Kind::Insert(KeyKind::Name, 4)),
+    ("insert_names_64", Kind::Insert(KeyKind::Name, 64)),
+    ("insert_names_4096", Kind::Insert(KeyKind::Name, 4_096)),
+    ("insert_indices_4", Kind::Insert(KeyKind::Index, 4)),
+    ("insert_indices_64", Kind::Insert(KeyKind::Index, 64)),
+    ("insert_indices_4096", Kind::Insert(KeyKind::Index, 4_096)),
+    ("insert_far_4096", Kind::Insert(KeyKind::FarIndex, 4_096)),
+    ("keys_64", Kind::Keys(64)),
+    ("remove_64", Kind::Remove(64)),
+    ("remove_4096", Kind::Remove(4_096)),
 ];
 
 /// The kind of that name.

@@ -1,9 +1,12 @@
-// Measures texts, numbers and tokens: for each line `KIND COUNT` it does that many rounds of the kind, and prints `KIND COUNT CHECKSUM`.
+// Measures texts, numbers, tokens and objects: for each line `KIND COUNT` it does that many rounds of the kind, and prints `KIND COUNT CHECKSUM`.
 #![tactic(auto)]
 
 mod fault;
+mod keys;
 mod kind;
+mod lone;
 mod numbers;
+mod objects;
 mod texts;
 mod tokens;
 
@@ -51,6 +54,10 @@ fn rounds(alloc: Global, kind: Kind, count: u32) -> Result<u32, Fault> {
         Kind::Number => numbers::number(count),
         Kind::ToText => numbers::to_text(alloc, count),
         Kind::Tokens => tokens::tokens_of_lines(alloc, count),
+        Kind::Own(keys, size) => objects::own(alloc, keys, size, count),
+        Kind::Insert(keys, size) => objects::insert(alloc, keys, size, count),
+        Kind::Keys(size) => objects::keys(alloc, size, count),
+        Kind::Remove(size) => objects::remove(alloc, size, count),
     }
 }
 

@@ -101,8 +101,8 @@ fn repeated(alloc: Global, count: usize, last: u16) -> Result<Text, Fault> {
     Ok(from_units(alloc, &units)?)
 }
 
-/// The last unit, or 0.
-fn last_of(text: &Text) -> u32 {
+/// The last unit and the length, or 0.
+pub fn last_of(text: &Text) -> u32 {
     let len = text.len();
     if len == 0 {
         return 0;
