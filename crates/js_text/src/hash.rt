@@ -13,7 +13,7 @@ use crate::value::{Key, Symbol};
 use std::hash::{Hash, Hasher};
 
 /// How many units at each end of a long text its hash looks at.
-const END_UNITS: u32 = 16;
+const END_UNITS: u32 = 512;
 
 /// The prime of the hash FNV-1a with 64 bits.
 const FNV_PRIME: u64 = 1_099_511_628_211;
