@@ -15,7 +15,7 @@ TABLE = os.path.join(TOP, 'crates/js_object_rows/src/table.rt')
 # A value of the language is its type with what tells it from others of that type.
 UNDEFINED = ('undefined',)
 NULL = ('null',)
-V, W = ('number', 1), ('number', 2)
+V, X = ('number', 1), ('number', 2)
 F, G, H = ('object', 'F'), ('object', 'G'), ('object', 'H')
 
 # Default attribute values.
@@ -124,7 +124,7 @@ ACCESSORS = {
     'd': (F, UNDEFINED), 'e': (F, G), 'f': (F, H),
     'g': (H, UNDEFINED), 'h': (H, G), 'i': (H, H),
 }
-DATA = {'V': V, 'W': W, 'U': UNDEFINED}
+DATA = {'V': V, 'X': X, 'U': UNDEFINED}
 
 
 def property_of(cell):
@@ -164,7 +164,7 @@ def outcome(old, extensible, desc):
 
 
 ABSENT = None
-VALUES = (ABSENT, V, W)
+VALUES = (ABSENT, V, X)
 TRUTHS = (ABSENT, True, False)
 GETS = (ABSENT, UNDEFINED, F, H)
 SETS = (ABSENT, UNDEFINED, G, H)
@@ -225,7 +225,7 @@ HEAD = '''\
 //
 //   --        the definition is refused
 //   ==        it is accepted, and the property stays as it is
-//   V0 to V7  a data property with the value V; so W with the value W, U with undefined
+//   V0 to V7  a data property with the value V; so X with the value X, U with undefined
 //   a0 to i3  an accessor property, with the functions
 //
 //                         set undefined  G   H
@@ -237,7 +237,7 @@ HEAD = '''\
 
 // The property that is there, whether the object is extensible, and a cell for each definition.
 //
-// The first three lines are of definitions of a data property or of no kind: one a value (absent, V, W), with a word for each writable
+// The first three lines are of definitions of a data property or of no kind: one a value (absent, V, X), with a word for each writable
 // (absent, true, false). The last four are of definitions of an accessor: one a get (absent, undefined, F, H), with a word for each set
 // (absent, undefined, G, H), where get and set are not both absent. The nine cells of a word are enumerable (absent, true, false), and
 // under each configurable (absent, true, false).

@@ -95,7 +95,7 @@ fn letter_of_value(value: &Value) -> char {
     match value {
         Value::Undefined => 'U',
         Value::Int(1) => 'V',
-        Value::Int(2) => 'W',
+        Value::Int(2) => 'X',
         _ => '?',
     }
 }

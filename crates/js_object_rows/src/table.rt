@@ -4,7 +4,7 @@
 //
 //   --        the definition is refused
 //   ==        it is accepted, and the property stays as it is
-//   V0 to V7  a data property with the value V; so W with the value W, U with undefined
+//   V0 to V7  a data property with the value V; so X with the value X, U with undefined
 //   a0 to i3  an accessor property, with the functions
 //
 //                         set undefined  G   H
@@ -16,7 +16,7 @@
 
 // The property that is there, whether the object is extensible, and a cell for each definition.
 //
-// The first three lines are of definitions of a data property or of no kind: one a value (absent, V, W), with a word for each writable
+// The first three lines are of definitions of a data property or of no kind: one a value (absent, V, X), with a word for each writable
 // (absent, true, false). The last four are of definitions of an accessor: one a get (absent, undefined, F, H), with a word for each set
 // (absent, undefined, G, H), where get and set are not both absent. The nine cells of a word are enumerable (absent, true, false), and
 // under each configurable (absent, true, false).
@@ -27,7 +27,7 @@ pub static ROWS: [(&str, bool, [&str; 7]); 30] = [
         [
             "U0U1U0U2U3U2U0U1U0 U4U5U4U6U7U6U4U5U4 U0U1U0U2U3U2U0U1U0",
             "V0V1V0V2V3V2V0V1V0 V4V5V4V6V7V6V4V5V4 V0V1V0V2V3V2V0V1V0",
-            "W0W1W0W2W3W2W0W1W0 W4W5W4W6W7W6W4W5W4 W0W1W0W2W3W2W0W1W0",
+            "X0X1X0X2X3X2X0X1X0 X4X5X4X6X7X6X4X5X4 X0X1X0X2X3X2X0X1X0",
             "a0a1a0a2a3a2a0a1a0 b0b1b0b2b3b2b0b1b0 c0c1c0c2c3c2c0c1c0",
             "a0a1a0a2a3a2a0a1a0 a0a1a0a2a3a2a0a1a0 b0b1b0b2b3b2b0b1b0 c0c1c0c2c3c2c0c1c0",
             "d0d1d0d2d3d2d0d1d0 d0d1d0d2d3d2d0d1d0 e0e1e0e2e3e2e0e1e0 f0f1f0f2f3f2f0f1f0",
@@ -66,7 +66,7 @@ pub static ROWS: [(&str, bool, [&str; 7]); 30] = [
         [
             "====V0V3V3V2====V0 V5V5V4V7V7V6V5V5V4 ====V0V3V3V2====V0",
             "====V0V3V3V2====V0 V5V5V4V7V7V6V5V5V4 ====V0V3V3V2====V0",
-            "W1W1W0W3W3W2W1W1W0 W5W5W4W7W7W6W5W5W4 W1W1W0W3W3W2W1W1W0",
+            "X1X1X0X3X3X2X1X1X0 X5X5X4X7X7X6X5X5X4 X1X1X0X3X3X2X1X1X0",
             "a1a1a0a3a3a2a1a1a0 b1b1b0b3b3b2b1b1b0 c1c1c0c3c3c2c1c1c0",
             "a1a1a0a3a3a2a1a1a0 a1a1a0a3a3a2a1a1a0 b1b1b0b3b3b2b1b1b0 c1c1c0c3c3c2c1c1c0",
             "d1d1d0d3d3d2d1d1d0 d1d1d0d3d3d2d1d1d0 e1e1e0e3e3e2e1e1e0 f1f1f0f3f3f2f1f1f0",
@@ -92,7 +92,7 @@ pub static ROWS: [(&str, bool, [&str; 7]); 30] = [
         [
             "====V2====V2V1V1V0 V7V7V6V7V7V6V5V5V4 ====V2====V2V1V1V0",
             "====V2====V2V1V1V0 V7V7V6V7V7V6V5V5V4 ====V2====V2V1V1V0",
-            "W3W3W2W3W3W2W1W1W0 W7W7W6W7W7W6W5W5W4 W3W3W2W3W3W2W1W1W0",
+            "X3X3X2X3X3X2X1X1X0 X7X7X6X7X7X6X5X5X4 X3X3X2X3X3X2X1X1X0",
             "a3a3a2a3a3a2a1a1a0 b3b3b2b3b3b2b1b1b0 c3c3c2c3c3c2c1c1c0",
             "a3a3a2a3a3a2a1a1a0 a3a3a2a3a3a2a1a1a0 b3b3b2b3b3b2b1b1b0 c3c3c2c3c3c2c1c1c0",
             "d3d3d2d3d3d2d1d1d0 d3d3d2d3d3d2d1d1d0 e3e3e2e3e3e2e1e1e0 f3f3f2f3f3f2f1f1f0",
@@ -105,7 +105,7 @@ pub static ROWS: [(&str, bool, [&str; 7]); 30] = [
         [
             "==--==------==--== ==--==------==--== V0--V0------V0--V0",
             "==--==------==--== ==--==------==--== V0--V0------V0--V0",
-            "W4--W4------W4--W4 W4--W4------W4--W4 W0--W0------W0--W0",
+            "X4--X4------X4--X4 X4--X4------X4--X4 X0--X0------X0--X0",
             "------------------ ------------------ ------------------",
             "------------------ ------------------ ------------------ ------------------",
             "------------------ ------------------ ------------------ ------------------",
@@ -118,7 +118,7 @@ pub static ROWS: [(&str, bool, [&str; 7]); 30] = [
         [
             "====V4V7V7V6====V4 ====V4V7V7V6====V4 V1V1V0V3V3V2V1V1V0",
             "====V4V7V7V6====V4 ====V4V7V7V6====V4 V1V1V0V3V3V2V1V1V0",
-            "W5W5W4W7W7W6W5W5W4 W5W5W4W7W7W6W5W5W4 W1W1W0W3W3W2W1W1W0",
+            "X5X5X4X7X7X6X5X5X4 X5X5X4X7X7X6X5X5X4 X1X1X0X3X3X2X1X1X0",
             "a1a1a0a3a3a2a1a1a0 b1b1b0b3b3b2b1b1b0 c1c1c0c3c3c2c1c1c0",
             "a1a1a0a3a3a2a1a1a0 a1a1a0a3a3a2a1a1a0 b1b1b0b3b3b2b1b1b0 c1c1c0c3c3c2c1c1c0",
             "d1d1d0d3d3d2d1d1d0 d1d1d0d3d3d2d1d1d0 e1e1e0e3e3e2e1e1e0 f1f1f0f3f3f2f1f1f0",
@@ -131,7 +131,7 @@ pub static ROWS: [(&str, bool, [&str; 7]); 30] = [
         [
             "==--====--==------ ==--====--==------ V2--V2V2--V2------",
             "==--====--==------ ==--====--==------ V2--V2V2--V2------",
-            "W6--W6W6--W6------ W6--W6W6--W6------ W2--W2W2--W2------",
+            "X6--X6X6--X6------ X6--X6X6--X6------ X2--X2X2--X2------",
             "------------------ ------------------ ------------------",
             "------------------ ------------------ ------------------ ------------------",
             "------------------ ------------------ ------------------ ------------------",
@@ -144,7 +144,7 @@ pub static ROWS: [(&str, bool, [&str; 7]); 30] = [
         [
             "====V6====V6V5V5V4 ====V6====V6V5V5V4 V3V3V2V3V3V2V1V1V0",
             "====V6====V6V5V5V4 ====V6====V6V5V5V4 V3V3V2V3V3V2V1V1V0",
-            "W7W7W6W7W7W6W5W5W4 W7W7W6W7W7W6W5W5W4 W3W3W2W3W3W2W1W1W0",
+            "X7X7X6X7X7X6X5X5X4 X7X7X6X7X7X6X5X5X4 X3X3X2X3X3X2X1X1X0",
             "a3a3a2a3a3a2a1a1a0 b3b3b2b3b3b2b1b1b0 c3c3c2c3c3c2c1c1c0",
             "a3a3a2a3a3a2a1a1a0 a3a3a2a3a3a2a1a1a0 b3b3b2b3b3b2b1b1b0 c3c3c2c3c3c2c1c1c0",
             "d3d3d2d3d3d2d1d1d0 d3d3d2d3d3d2d1d1d0 e3e3e2e3e3e2e1e1e0 f3f3f2f3f3f2f1f1f0",
@@ -170,7 +170,7 @@ pub static ROWS: [(&str, bool, [&str; 7]); 30] = [
         [
             "====a0a3a3a2====a0 U5U5U4U7U7U6U5U5U4 U1U1U0U3U3U2U1U1U0",
             "V1V1V0V3V3V2V1V1V0 V5V5V4V7V7V6V5V5V4 V1V1V0V3V3V2V1V1V0",
-            "W1W1W0W3W3W2W1W1W0 W5W5W4W7W7W6W5W5W4 W1W1W0W3W3W2W1W1W0",
+            "X1X1X0X3X3X2X1X1X0 X5X5X4X7X7X6X5X5X4 X1X1X0X3X3X2X1X1X0",
             "====a0a3a3a2====a0 b1b1b0b3b3b2b1b1b0 c1c1c0c3c3c2c1c1c0",
             "====a0a3a3a2====a0 ====a0a3a3a2====a0 b1b1b0b3b3b2b1b1b0 c1c1c0c3c3c2c1c1c0",
             "d1d1d0d3d3d2d1d1d0 d1d1d0d3d3d2d1d1d0 e1e1e0e3e3e2e1e1e0 f1f1f0f3f3f2f1f1f0",
@@ -196,7 +196,7 @@ pub static ROWS: [(&str, bool, [&str; 7]); 30] = [
         [
             "====a2====a2a1a1a0 U7U7U6U7U7U6U5U5U4 U3U3U2U3U3U2U1U1U0",
             "V3V3V2V3V3V2V1V1V0 V7V7V6V7V7V6V5V5V4 V3V3V2V3V3V2V1V1V0",
-            "W3W3W2W3W3W2W1W1W0 W7W7W6W7W7W6W5W5W4 W3W3W2W3W3W2W1W1W0",
+            "X3X3X2X3X3X2X1X1X0 X7X7X6X7X7X6X5X5X4 X3X3X2X3X3X2X1X1X0",
             "====a2====a2a1a1a0 b3b3b2b3b3b2b1b1b0 c3c3c2c3c3c2c1c1c0",
             "====a2====a2a1a1a0 ====a2====a2a1a1a0 b3b3b2b3b3b2b1b1b0 c3c3c2c3c3c2c1c1c0",
             "d3d3d2d3d3d2d1d1d0 d3d3d2d3d3d2d1d1d0 e3e3e2e3e3e2e1e1e0 f3f3f2f3f3f2f1f1f0",
@@ -222,7 +222,7 @@ pub static ROWS: [(&str, bool, [&str; 7]); 30] = [
         [
             "====b0b3b3b2====b0 U5U5U4U7U7U6U5U5U4 U1U1U0U3U3U2U1U1U0",
             "V1V1V0V3V3V2V1V1V0 V5V5V4V7V7V6V5V5V4 V1V1V0V3V3V2V1V1V0",
-            "W1W1W0W3W3W2W1W1W0 W5W5W4W7W7W6W5W5W4 W1W1W0W3W3W2W1W1W0",
+            "X1X1X0X3X3X2X1X1X0 X5X5X4X7X7X6X5X5X4 X1X1X0X3X3X2X1X1X0",
             "a1a1a0a3a3a2a1a1a0 ====b0b3b3b2====b0 c1c1c0c3c3c2c1c1c0",
             "====b0b3b3b2====b0 a1a1a0a3a3a2a1a1a0 ====b0b3b3b2====b0 c1c1c0c3c3c2c1c1c0",
             "e1e1e0e3e3e2e1e1e0 d1d1d0d3d3d2d1d1d0 e1e1e0e3e3e2e1e1e0 f1f1f0f3f3f2f1f1f0",
@@ -248,7 +248,7 @@ pub static ROWS: [(&str, bool, [&str; 7]); 30] = [
         [
             "====b2====b2b1b1b0 U7U7U6U7U7U6U5U5U4 U3U3U2U3U3U2U1U1U0",
             "V3V3V2V3V3V2V1V1V0 V7V7V6V7V7V6V5V5V4 V3V3V2V3V3V2V1V1V0",
-            "W3W3W2W3W3W2W1W1W0 W7W7W6W7W7W6W5W5W4 W3W3W2W3W3W2W1W1W0",
+            "X3X3X2X3X3X2X1X1X0 X7X7X6X7X7X6X5X5X4 X3X3X2X3X3X2X1X1X0",
             "a3a3a2a3a3a2a1a1a0 ====b2====b2b1b1b0 c3c3c2c3c3c2c1c1c0",
             "====b2====b2b1b1b0 a3a3a2a3a3a2a1a1a0 ====b2====b2b1b1b0 c3c3c2c3c3c2c1c1c0",
             "e3e3e2e3e3e2e1e1e0 d3d3d2d3d3d2d1d1d0 e3e3e2e3e3e2e1e1e0 f3f3f2f3f3f2f1f1f0",
@@ -274,7 +274,7 @@ pub static ROWS: [(&str, bool, [&str; 7]); 30] = [
         [
             "====d0d3d3d2====d0 U5U5U4U7U7U6U5U5U4 U1U1U0U3U3U2U1U1U0",
             "V1V1V0V3V3V2V1V1V0 V5V5V4V7V7V6V5V5V4 V1V1V0V3V3V2V1V1V0",
-            "W1W1W0W3W3W2W1W1W0 W5W5W4W7W7W6W5W5W4 W1W1W0W3W3W2W1W1W0",
+            "X1X1X0X3X3X2X1X1X0 X5X5X4X7X7X6X5X5X4 X1X1X0X3X3X2X1X1X0",
             "====d0d3d3d2====d0 e1e1e0e3e3e2e1e1e0 f1f1f0f3f3f2f1f1f0",
             "a1a1a0a3a3a2a1a1a0 a1a1a0a3a3a2a1a1a0 b1b1b0b3b3b2b1b1b0 c1c1c0c3c3c2c1c1c0",
             "====d0d3d3d2====d0 ====d0d3d3d2====d0 e1e1e0e3e3e2e1e1e0 f1f1f0f3f3f2f1f1f0",
@@ -300,7 +300,7 @@ pub static ROWS: [(&str, bool, [&str; 7]); 30] = [
         [
             "====d2====d2d1d1d0 U7U7U6U7U7U6U5U5U4 U3U3U2U3U3U2U1U1U0",
             "V3V3V2V3V3V2V1V1V0 V7V7V6V7V7V6V5V5V4 V3V3V2V3V3V2V1V1V0",
-            "W3W3W2W3W3W2W1W1W0 W7W7W6W7W7W6W5W5W4 W3W3W2W3W3W2W1W1W0",
+            "X3X3X2X3X3X2X1X1X0 X7X7X6X7X7X6X5X5X4 X3X3X2X3X3X2X1X1X0",
             "====d2====d2d1d1d0 e3e3e2e3e3e2e1e1e0 f3f3f2f3f3f2f1f1f0",
             "a3a3a2a3a3a2a1a1a0 a3a3a2a3a3a2a1a1a0 b3b3b2b3b3b2b1b1b0 c3c3c2c3c3c2c1c1c0",
             "====d2====d2d1d1d0 ====d2====d2d1d1d0 e3e3e2e3e3e2e1e1e0 f3f3f2f3f3f2f1f1f0",
@@ -326,7 +326,7 @@ pub static ROWS: [(&str, bool, [&str; 7]); 30] = [
         [
             "====e0e3e3e2====e0 U5U5U4U7U7U6U5U5U4 U1U1U0U3U3U2U1U1U0",
             "V1V1V0V3V3V2V1V1V0 V5V5V4V7V7V6V5V5V4 V1V1V0V3V3V2V1V1V0",
-            "W1W1W0W3W3W2W1W1W0 W5W5W4W7W7W6W5W5W4 W1W1W0W3W3W2W1W1W0",
+            "X1X1X0X3X3X2X1X1X0 X5X5X4X7X7X6X5X5X4 X1X1X0X3X3X2X1X1X0",
             "d1d1d0d3d3d2d1d1d0 ====e0e3e3e2====e0 f1f1f0f3f3f2f1f1f0",
             "b1b1b0b3b3b2b1b1b0 a1a1a0a3a3a2a1a1a0 b1b1b0b3b3b2b1b1b0 c1c1c0c3c3c2c1c1c0",
             "====e0e3e3e2====e0 d1d1d0d3d3d2d1d1d0 ====e0e3e3e2====e0 f1f1f0f3f3f2f1f1f0",
@@ -352,7 +352,7 @@ pub static ROWS: [(&str, bool, [&str; 7]); 30] = [
         [
             "====e2====e2e1e1e0 U7U7U6U7U7U6U5U5U4 U3U3U2U3U3U2U1U1U0",
             "V3V3V2V3V3V2V1V1V0 V7V7V6V7V7V6V5V5V4 V3V3V2V3V3V2V1V1V0",
-            "W3W3W2W3W3W2W1W1W0 W7W7W6W7W7W6W5W5W4 W3W3W2W3W3W2W1W1W0",
+            "X3X3X2X3X3X2X1X1X0 X7X7X6X7X7X6X5X5X4 X3X3X2X3X3X2X1X1X0",
             "d3d3d2d3d3d2d1d1d0 ====e2====e2e1e1e0 f3f3f2f3f3f2f1f1f0",
             "b3b3b2b3b3b2b1b1b0 a3a3a2a3a3a2a1a1a0 b3b3b2b3b3b2b1b1b0 c3c3c2c3c3c2c1c1c0",
             "====e2====e2e1e1e0 d3d3d2d3d3d2d1d1d0 ====e2====e2e1e1e0 f3f3f2f3f3f2f1f1f0",
@@ -378,7 +378,7 @@ pub static ROWS: [(&str, bool, [&str; 7]); 30] = [
         [
             "====V6====V6V5V5V4 ====V6====V6V5V5V4 V3V3V2V3V3V2V1V1V0",
             "====V6====V6V5V5V4 ====V6====V6V5V5V4 V3V3V2V3V3V2V1V1V0",
-            "W7W7W6W7W7W6W5W5W4 W7W7W6W7W7W6W5W5W4 W3W3W2W3W3W2W1W1W0",
+            "X7X7X6X7X7X6X5X5X4 X7X7X6X7X7X6X5X5X4 X3X3X2X3X3X2X1X1X0",
             "a3a3a2a3a3a2a1a1a0 b3b3b2b3b3b2b1b1b0 c3c3c2c3c3c2c1c1c0",
             "a3a3a2a3a3a2a1a1a0 a3a3a2a3a3a2a1a1a0 b3b3b2b3b3b2b1b1b0 c3c3c2c3c3c2c1c1c0",
             "d3d3d2d3d3d2d1d1d0 d3d3d2d3d3d2d1d1d0 e3e3e2e3e3e2e1e1e0 f3f3f2f3f3f2f1f1f0",
@@ -404,7 +404,7 @@ pub static ROWS: [(&str, bool, [&str; 7]); 30] = [
         [
             "====e2====e2e1e1e0 U7U7U6U7U7U6U5U5U4 U3U3U2U3U3U2U1U1U0",
             "V3V3V2V3V3V2V1V1V0 V7V7V6V7V7V6V5V5V4 V3V3V2V3V3V2V1V1V0",
-            "W3W3W2W3W3W2W1W1W0 W7W7W6W7W7W6W5W5W4 W3W3W2W3W3W2W1W1W0",
+            "X3X3X2X3X3X2X1X1X0 X7X7X6X7X7X6X5X5X4 X3X3X2X3X3X2X1X1X0",
             "d3d3d2d3d3d2d1d1d0 ====e2====e2e1e1e0 f3f3f2f3f3f2f1f1f0",
             "b3b3b2b3b3b2b1b1b0 a3a3a2a3a3a2a1a1a0 b3b3b2b3b3b2b1b1b0 c3c3c2c3c3c2c1c1c0",
             "====e2====e2e1e1e0 d3d3d2d3d3d2d1d1d0 ====e2====e2e1e1e0 f3f3f2f3f3f2f1f1f0",

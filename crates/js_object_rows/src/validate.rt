@@ -47,7 +47,7 @@ fn accessor(get: char, set: char) -> Definition {
 fn value(letter: char) -> Option<Value> {
     match letter {
         'V' => Some(Value::Int(1)),
-        'W' => Some(Value::Int(2)),
+        'X' => Some(Value::Int(2)),
         _ => None,
     }
 }
@@ -176,7 +176,7 @@ fn row_holds(rt: &impl Abort, before: &Before<'_>, lines: &[&str; 7]) -> Result<
     let [absent, first, other, no_get, undefined, same, another] = *lines;
     data_line_holds(rt, before, '-', absent)?;
     data_line_holds(rt, before, 'V', first)?;
-    data_line_holds(rt, before, 'W', other)?;
+    data_line_holds(rt, before, 'X', other)?;
     accessor_line_holds(rt, before, '-', &['u', 'G', 'H'], no_get)?;
     accessor_line_holds(rt, before, 'u', &['-', 'u', 'G', 'H'], undefined)?;
     accessor_line_holds(rt, before, 'F', &['-', 'u', 'G', 'H'], same)?;
