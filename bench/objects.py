@@ -7,9 +7,9 @@
 PROGRAM is the built program, crates/lava_bench/out/lava_bench unless given. Each figure is the best of five runs, less the best of a run of no rounds.
 """
 import os
-import subprocess
 import sys
-import time
+
+from rounds import seconds
 
 TOP = os.path.dirname(os.path.dirname(os.path.abspath(__file__)))
 
@@ -100,20 +100,6 @@ def check():
             kind, count = line.split()
             if kind in KINDS and answer != '%s %s %d\n' % (kind, count, checksum(kind, int(count))):
                 sys.exit('%s%s %s %d' % (answer, kind, count, checksum(kind, int(count))))
-
-
-def seconds(program, kind, count):
-    line = '%s %d' % (kind, count)
-    best = None
-    for _ in range(5):
-        begin = time.perf_counter()
-        done = subprocess.run([program], input=line + '\n', capture_output=True, text=True)
-        took = time.perf_counter() - begin
-        answer = done.stdout.split()
-        if done.returncode != 0 or answer[:2] != line.split() or not answer[2].isdigit():
-            sys.exit('status %d: %s' % (done.returncode, done.stdout))
-        best = took if best is None else min(best, took)
-    return best
 
 
 def measure(program):

@@ -6,9 +6,9 @@
 PROGRAM is the built program, crates/lava_bench/out/lava_bench unless given. Each figure is the best of five runs, less the best of a run of no rounds.
 """
 import os
-import subprocess
 import sys
-import time
+
+from rounds import seconds
 
 TOP = os.path.dirname(os.path.dirname(os.path.abspath(__file__)))
 
@@ -16,20 +16,6 @@ KINDS = ('concat', 'slice', 'find', 'compare', 'utf8', 'add', 'mul', 'pow', 'num
 
 # A round of `tokens` is three lines of one source, of so many bytes.
 LINES = 211
-
-
-def seconds(program, kind, count):
-    best = None
-    line = '%s %d' % (kind, count)
-    for _ in range(5):
-        begin = time.perf_counter()
-        done = subprocess.run([program], input=line + '\n', capture_output=True, text=True)
-        took = time.perf_counter() - begin
-        answer = done.stdout.split()
-        if done.returncode != 0 or answer[:2] != line.split() or not answer[2].isdigit():
-            sys.exit('status %d: %s' % (done.returncode, done.stdout))
-        best = took if best is None else min(best, took)
-    return best
 
 
 def main():

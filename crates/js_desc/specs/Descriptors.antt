@@ -1,17 +1,13 @@
 -- Property descriptors, over any type of references. ECMA-262: The Property Descriptor Specification Type.
 use Rattle.std.specs.Prelude.{Bool, true, false, ◌&&◌, ◌||◌, is_some, Option, Some, None, if◌then◌else◌}
 use Rattle.std.specs.Bool.{beq}
+use Rattle.std.specs.Option.{unwrap_or}
 use Rattle.js_text.specs.Values.{same_value}
 use Rattle.js_text.specs.declared.value.Value.{Value}
 use Rattle.js_text.specs.declared.value.Value.TheVariants.{Undefined}
 use Rattle.js_desc.specs.declared.descriptor.Descriptor.{Descriptor}
 use Rattle.js_desc.specs.declared.descriptor.Descriptor.TheVariants.{Data, Accessor}
 use Rattle.js_desc.specs.declared.descriptor.PartialDescriptor.{PartialDescriptor}
-
--- a field, or what it is where it is not given
-abbrev pub given : {A : Type 0} → Option A → A → A
-given None other = other
-given (Some x) other = x
 
 -- some field of a data property is given (IsDataDescriptor)
 abbrev pub gives_data : {R : Type 0} → PartialDescriptor R → Bool
@@ -33,11 +29,11 @@ enumerable_of (Accessor g s e c) = e
 
 -- a data property with the fields that are given, and else with these
 abbrev pub data_with : {R : Type 0} → PartialDescriptor R → Value R → (writable enumerable configurable : Bool) → Descriptor R
-data_with d v w e c = Data (given d.value v) (given d.writable w) (given d.enumerable e) (given d.configurable c)
+data_with d v w e c = Data (unwrap_or d.value v) (unwrap_or d.writable w) (unwrap_or d.enumerable e) (unwrap_or d.configurable c)
 
 -- an accessor with the fields that are given, and else with these
 abbrev pub accessor_with : {R : Type 0} → PartialDescriptor R → (get set : Option R) → (enumerable configurable : Bool) → Descriptor R
-accessor_with d g s e c = Accessor (given d.get g) (given d.set s) (given d.enumerable e) (given d.configurable c)
+accessor_with d g s e c = Accessor (unwrap_or d.get g) (unwrap_or d.set s) (unwrap_or d.enumerable e) (unwrap_or d.configurable c)
 
 -- the property with the fields that are given: each other one is undefined or false (CompletePropertyDescriptor)
 abbrev pub completed : {R : Type 0} → PartialDescriptor R → Descriptor R

@@ -1,7 +1,8 @@
 // The fields of a property, and the property of some fields.
 
 ghost use Rattle.std.specs.Prelude.{◌≡◌, IfOk};
-ghost use Rattle.js_desc.specs.Descriptors.{given, completed, fields_of};
+ghost use Rattle.std.specs.Option.{unwrap_or};
+ghost use Rattle.js_desc.specs.Descriptors.{completed, fields_of, data_with, accessor_with};
 
 use crate::descriptor::{Descriptor, PartialDescriptor};
 use js_text::copy::copy_value;
@@ -14,19 +15,9 @@ pub fn complete(fields: &PartialDescriptor) -> Result<Descriptor, OutOfMemory>
     ensures { IfOk result (λ d. d ≡ completed fields.now) }
 {
     if fields.is_accessor() {
-        Ok(Descriptor::Accessor {
-            get: function_or(fields.get, None),
-            set: function_or(fields.set, None),
-            enumerable: truth_or(fields.enumerable, false),
-            configurable: truth_or(fields.configurable, false),
-        })
+        Ok(accessor_from(fields, None, None, false, false))
     } else {
-        Ok(Descriptor::Data {
-            value: value_or(&fields.value, &Value::Undefined)?,
-            writable: truth_or(fields.writable, false),
-            enumerable: truth_or(fields.enumerable, false),
-            configurable: truth_or(fields.configurable, false),
-        })
+        data_from(fields, &Value::Undefined, false, false, false)
     }
 }
 
@@ -64,32 +55,48 @@ pub fn fields(property: &Descriptor) -> Result<PartialDescriptor, OutOfMemory>
     }
 }
 
-/// A truth value that is given, or another one.
-pub fn truth_or(field: Option<bool>, other: bool) -> bool
-    ensures { result ≡ given field other }
-{
-    match field {
-        None => other,
-        Some(truth) => truth,
-    }
-}
-
-/// A function that is given, or another one.
-pub fn function_or(field: Option<Option<Ref>>, other: Option<Ref>) -> Option<Ref>
-    ensures { result ≡ given field other }
-{
-    match field {
-        None => other,
-        Some(function) => function,
-    }
-}
-
 /// A value that is given, or another one.
-pub fn value_or(field: &Option<Value>, other: &Value) -> Result<Value, OutOfMemory>
-    ensures { IfOk result (λ v. v ≡ given field.now other.now) }
+fn value_or(field: &Option<Value>, other: &Value) -> Result<Value, OutOfMemory>
+    ensures { IfOk result (λ v. v ≡ unwrap_or field.now other.now) }
 {
     match field {
         None => copy_value(other),
         Some(value) => copy_value(value),
+    }
+}
+
+/// The data property with the fields that are given, and else with these.
+pub(crate) fn data_from(
+    fields: &PartialDescriptor,
+    value: &Value,
+    writable: bool,
+    enumerable: bool,
+    configurable: bool,
+) -> Result<Descriptor, OutOfMemory>
+    ensures { IfOk result (λ d. d ≡ data_with fields.now value.now writable enumerable configurable) }
+{
+    Ok(Descriptor::Data {
+        value: value_or(&fields.value, value)?,
+        writable: fields.writable.unwrap_or(writable),
+        enumerable: fields.enumerable.unwrap_or(enumerable),
+        configurable: fields.configurable.unwrap_or(configurable),
+    })
+}
+
+/// The accessor with the fields that are given, and else with these.
+pub(crate) fn accessor_from(
+    fields: &PartialDescriptor,
+    get: Option<Ref>,
+    set: Option<Ref>,
+    enumerable: bool,
+    configurable: bool,
+) -> Descriptor
+    ensures { result ≡ accessor_with fields.now get set enumerable configurable }
+{
+    Descriptor::Accessor {
+        get: fields.get.unwrap_or(get),
+        set: fields.set.unwrap_or(set),
+        enumerable: fields.enumerable.unwrap_or(enumerable),
+        configurable: fields.configurable.unwrap_or(configurable),
     }
 }

@@ -1,7 +1,7 @@
 // The same thing once more.
 
 ghost use Rattle.std.specs.Prelude.{◌≡◌, IfOk};
-ghost use Rattle.js_desc.specs.declared.ask.Ask.TheVariants as ask_is;
+ghost use Rattle.js_desc.specs.declared.ask.Ask.TheVariants as asks;
 
 use crate::ask::Ask;
 use crate::crossing::CrossBody;
@@ -118,14 +118,58 @@ fn copy_modules(
     Ok(copies)
 }
 
-/// The same Set once more.
+/// The same ask of Set once more.
 fn copy_set(key: &Key, value: &Value, receiver: &Value) -> Result<Ask, OutOfMemory>
-    ensures { IfOk result (λ copy. copy ≡ ask_is.Set key.now value.now receiver.now) }
+    ensures { IfOk result (λ copy. copy ≡ asks.Set key.now value.now receiver.now) }
 {
     Ok(Ask::Set {
         key: copy_key(key)?,
         value: copy_value(value)?,
         receiver: copy_value(receiver)?,
+    })
+}
+
+/// The same ask of DefineOwnProperty once more.
+fn copy_define(key: &Key, descriptor: &PartialDescriptor) -> Result<Ask, OutOfMemory>
+    ensures { IfOk result (λ copy. copy ≡ asks.DefineOwnProperty key.now descriptor.now) }
+{
+    Ok(Ask::DefineOwnProperty {
+        key: copy_key(key)?,
+        descriptor: copy_partial(descriptor)?,
+    })
+}
+
+/// The same ask of Get once more.
+fn copy_get(key: &Key, receiver: &Value) -> Result<Ask, OutOfMemory>
+    ensures { IfOk result (λ copy. copy ≡ asks.Get key.now receiver.now) }
+{
+    Ok(Ask::Get {
+        key: copy_key(key)?,
+        receiver: copy_value(receiver)?,
+    })
+}
+
+/// The same ask of Call once more.
+fn copy_call(alloc: Global, this: &Value, args: &List<Value>) -> Result<Ask, OutOfMemory>
+    ensures { IfOk result (λ copy. copy ≡ asks.Call this.now args.now) }
+{
+    Ok(Ask::Call {
+        this: copy_value(this)?,
+        args: copy_values(alloc, args)?,
+    })
+}
+
+/// The same ask of Make once more.
+fn copy_make(
+    alloc: Global,
+    globals: &List<(Key, Value)>,
+    modules: &List<(Text, Value)>,
+) -> Result<Ask, OutOfMemory>
+    ensures { IfOk result (λ copy. copy ≡ asks.Make globals.now modules.now) }
+{
+    Ok(Ask::Make {
+        globals: copy_globals(alloc, globals)?,
+        modules: copy_modules(alloc, modules)?,
     })
 }
 
@@ -141,17 +185,11 @@ pub fn copy_ask(alloc: Global, ask: &Ask) -> Result<Ask, OutOfMemory>
         Ask::GetOwnProperty { key } => Ok(Ask::GetOwnProperty {
             key: copy_key(key)?,
         }),
-        Ask::DefineOwnProperty { key, descriptor } => Ok(Ask::DefineOwnProperty {
-            key: copy_key(key)?,
-            descriptor: copy_partial(descriptor)?,
-        }),
+        Ask::DefineOwnProperty { key, descriptor } => copy_define(key, descriptor),
         Ask::HasProperty { key } => Ok(Ask::HasProperty {
             key: copy_key(key)?,
         }),
-        Ask::Get { key, receiver } => Ok(Ask::Get {
-            key: copy_key(key)?,
-            receiver: copy_value(receiver)?,
-        }),
+        Ask::Get { key, receiver } => copy_get(key, receiver),
         Ask::Set {
             key,
             value,
@@ -161,10 +199,7 @@ pub fn copy_ask(alloc: Global, ask: &Ask) -> Result<Ask, OutOfMemory>
             key: copy_key(key)?,
         }),
         Ask::OwnPropertyKeys => Ok(Ask::OwnPropertyKeys),
-        Ask::Call { this, args } => Ok(Ask::Call {
-            this: copy_value(this)?,
-            args: copy_values(alloc, args)?,
-        }),
+        Ask::Call { this, args } => copy_call(alloc, this, args),
         Ask::Construct { new_target, args } => Ok(Ask::Construct {
             new_target: *new_target,
             args: copy_values(alloc, args)?,
@@ -177,10 +212,7 @@ pub fn copy_ask(alloc: Global, ask: &Ask) -> Result<Ask, OutOfMemory>
             which: *which,
             args: copy_values(alloc, args)?,
         }),
-        Ask::Make { globals, modules } => Ok(Ask::Make {
-            globals: copy_globals(alloc, globals)?,
-            modules: copy_modules(alloc, modules)?,
-        }),
+        Ask::Make { globals, modules } => copy_make(alloc, globals, modules),
         Ask::Queue => Ok(Ask::Queue),
         Ask::Turn => Ok(Ask::Turn),
     }

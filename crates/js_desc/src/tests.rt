@@ -1,7 +1,7 @@
 // What no clause says: the worked rows, the printed texts, and that calls succeed where there is memory.
 
 use crate::ask::Ask;
-use crate::complete::{complete, fields, function_or, truth_or, value_or};
+use crate::complete::{complete, fields};
 use crate::copy::{
     copy_ask, copy_body, copy_descriptor, copy_keys, copy_partial, copy_reply, copy_values,
 };
@@ -124,9 +124,7 @@ fn is_made_again(old: &Descriptor) -> Result<bool, OutOfMemory> {
 fn fields_make_the_property(rt: HostRuntime) -> Result<(), Fail> {
     assert!(rt; is_made_again(&fixed_property(1))?);
     assert!(rt; is_made_again(&accessor())?);
-    assert!(rt; truth_or(Some(true), false));
-    assert!(rt; is_same_function(function_or(None, Some(OBJECT)), Some(OBJECT)));
-    assert!(rt; matches!(value_or(&None, &Value::Int(7))?, Value::Int(7)));
+    assert!(rt; is_same_function(Some(OBJECT), Some(OBJECT)));
     Ok(())
 }
 

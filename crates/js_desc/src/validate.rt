@@ -4,10 +4,10 @@ ghost use Rattle.std.specs.Prelude.{◌≡◌, IfOk, option_map};
 ghost use Rattle.std.specs.Bool.{beq};
 ghost use Rattle.lava_base.specs.Ids.{same_ref};
 ghost use Rattle.js_text.specs.Values.{same_value};
-ghost use Rattle.js_desc.specs.Descriptors.{same_option, data_with, accessor_with};
+ghost use Rattle.js_desc.specs.Descriptors.{same_option};
 ghost use Rattle.js_desc.specs.Validate.{applied, keeps, keeps_data, keeps_kind, allows, changed, change_of};
 
-use crate::complete::{complete, function_or, truth_or, value_or};
+use crate::complete::{accessor_from, complete, data_from};
 use crate::descriptor::{Change, Descriptor, PartialDescriptor};
 use crate::same::{is_same_descriptor, is_same_function};
 use js_text::same::is_same_value;
@@ -116,9 +116,9 @@ fn change(old: &Descriptor, new: &PartialDescriptor) -> Result<Descriptor, OutOf
             configurable,
         } => {
             if new.is_accessor() {
-                Ok(accessor(new, None, None, *enumerable, *configurable))
+                Ok(accessor_from(new, None, None, *enumerable, *configurable))
             } else {
-                data(new, value, *writable, *enumerable, *configurable)
+                data_from(new, value, *writable, *enumerable, *configurable)
             }
         }
         Descriptor::Accessor {
@@ -128,46 +128,10 @@ fn change(old: &Descriptor, new: &PartialDescriptor) -> Result<Descriptor, OutOf
             configurable,
         } => {
             if new.is_data() {
-                data(new, &Value::Undefined, false, *enumerable, *configurable)
+                data_from(new, &Value::Undefined, false, *enumerable, *configurable)
             } else {
-                Ok(accessor(new, *get, *set, *enumerable, *configurable))
+                Ok(accessor_from(new, *get, *set, *enumerable, *configurable))
             }
         }
-    }
-}
-
-/// The data property with the fields that are given, and else with these.
-fn data(
-    new: &PartialDescriptor,
-    value: &Value,
-    writable: bool,
-    enumerable: bool,
-    configurable: bool,
-) -> Result<Descriptor, OutOfMemory>
-    ensures { IfOk result (λ d. d ≡ data_with new.now value.now writable enumerable configurable) }
-{
-    Ok(Descriptor::Data {
-        value: value_or(&new.value, value)?,
-        writable: truth_or(new.writable, writable),
-        enumerable: truth_or(new.enumerable, enumerable),
-        configurable: truth_or(new.configurable, configurable),
-    })
-}
-
-/// The accessor with the fields that are given, and else with these.
-fn accessor(
-    new: &PartialDescriptor,
-    get: Option<Ref>,
-    set: Option<Ref>,
-    enumerable: bool,
-    configurable: bool,
-) -> Descriptor
-    ensures { result ≡ accessor_with new.now get set enumerable configurable }
-{
-    Descriptor::Accessor {
-        get: function_or(new.get, get),
-        set: function_or(new.set, set),
-        enumerable: truth_or(new.enumerable, enumerable),
-        configurable: truth_or(new.configurable, configurable),
     }
 }

@@ -1,12 +1,11 @@
 // Each call of a store once, and of the frozen common part and of the foreign marks.
 
-use crate::stores::PLAIN;
 use js_desc::descriptor::{Change, Descriptor};
 use js_store::flat::FlatStore;
 use js_store::foreign::Foreign;
 use js_store::frozen::{FrozenStore, bare_common};
 use js_store::slot::Slot;
-use js_store::store::Store;
+use js_store::store::{PLAIN_MARKS, Store};
 use js_text::value::{Key, Value};
 use lava_base::ids::{CommonId, ObjId, PartyId, Ref};
 use lava_base::marks::{Class, Marks};
@@ -39,7 +38,7 @@ fn number(property: Option<&Descriptor>) -> Option<i64> {
 #[test]
 fn objects_are_made_one_after_the_other(rt: HostRuntime) -> Result<(), Fail> {
     let mut store = FlatStore::empty(rt.alloc(), PartyId(7));
-    let first = store.make(None, PLAIN, Slot::Plain)?;
+    let first = store.make(None, PLAIN_MARKS, Slot::Plain)?;
     let second = store.make(Some(Ref::Common(CommonId(3))), FUNCTION, Slot::Plain)?;
     assert_eq!(rt; (first, second), (ObjId(0), ObjId(1)));
     assert_eq!(rt; store.party(), PartyId(7));
@@ -53,8 +52,8 @@ fn objects_are_made_one_after_the_other(rt: HostRuntime) -> Result<(), Fail> {
 #[test]
 fn one_object_changes_and_the_other_does_not(rt: HostRuntime) -> Result<(), Fail> {
     let mut store = FlatStore::empty(rt.alloc(), PartyId(1));
-    let first = store.make(None, PLAIN, Slot::Plain)?;
-    let second = store.make(None, PLAIN, Slot::Plain)?;
+    let first = store.make(None, PLAIN_MARKS, Slot::Plain)?;
+    let second = store.make(None, PLAIN_MARKS, Slot::Plain)?;
     store.set_proto(second, Some(Ref::Common(CommonId(0))));
     store.prevent(second);
     let old = store.swap_slot(
@@ -86,7 +85,7 @@ fn property(value: i64) -> Change {
 #[test]
 fn a_property_is_written_found_and_taken_out(rt: HostRuntime) -> Result<(), Fail> {
     let mut store = FlatStore::empty(rt.alloc(), PartyId(1));
-    let id = store.make(None, PLAIN, Slot::Plain)?;
+    let id = store.make(None, PLAIN_MARKS, Slot::Plain)?;
     store.apply(id, Key::Index(5), property(1))?;
     store.apply(id, Key::Index(5), property(2))?;
     store.apply(id, Key::Index(5), Change::Nothing)?;
@@ -102,7 +101,7 @@ fn a_bare_common_part_has_an_object_at_every_place(rt: HostRuntime) -> Result<()
     let common = bare_common(rt.alloc())?;
     assert_eq!(rt; common.count(), 222);
     let last = CommonId(221);
-    assert_eq!(rt; common.marks(last), PLAIN);
+    assert_eq!(rt; common.marks(last), PLAIN_MARKS);
     assert_eq!(rt; common.proto(last), None);
     assert!(rt; !common.extensible(last));
     assert!(rt; common.own(last, &Key::Index(0)).is_none());
@@ -129,8 +128,8 @@ fn foreign_marks_are_the_first_that_were_added(rt: HostRuntime) -> Result<(), Fa
         id: ObjId(0),
     };
     foreign.add(a, FUNCTION)?;
-    foreign.add(a, PLAIN)?;
+    foreign.add(a, PLAIN_MARKS)?;
     assert_eq!(rt; foreign.marks(a), FUNCTION);
-    assert_eq!(rt; foreign.marks(b), PLAIN);
+    assert_eq!(rt; foreign.marks(b), PLAIN_MARKS);
     Ok(())
 }

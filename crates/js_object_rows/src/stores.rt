@@ -5,14 +5,13 @@ ghost use Rattle.std.specs.Prelude.{◌≡◌, ◌<◌, length};
 use js_desc::descriptor::{Change, Descriptor};
 use js_store::flat::FlatStore;
 use js_store::slot::Slot;
-use js_store::store::Store;
+use js_store::store::{PLAIN_MARKS, Store};
 use js_text::index::key_of_text;
 use js_text::same::is_same_key;
 use js_text::utf8::from_utf8;
 use js_text::value::{Key, Symbol, Value};
 use lava_base::ids::{ObjId, PartyId, Ref};
 use lava_base::list::List;
-use lava_base::marks::{Class, Marks};
 use std::alloc::Global;
 use std::process::Abort;
 use std::test::Fail;
@@ -41,12 +40,6 @@ static ROWS: [(&[&str], &[&str]); 12] = [
         &["y", "@iterator"],
     ),
 ];
-
-pub static PLAIN: Marks = Marks {
-    class: Class::Object,
-    callable: false,
-    constructor: false,
-};
 
 // The key of a name of the rows.
 fn key_named(alloc: Global, name: &str) -> Result<Key, Fail> {
@@ -81,7 +74,7 @@ fn step<S: Store>(alloc: Global, store: &mut S, id: ObjId, word: &str) -> Result
 // The own keys of a new object to which this was done.
 fn keys_after<S: Store + Drop>(alloc: Global, words: &[&str]) -> Result<List<Key>, Fail> {
     let mut store = S::empty(alloc, PartyId(1));
-    let id = store.make(None, PLAIN, Slot::Plain)?;
+    let id = store.make(None, PLAIN_MARKS, Slot::Plain)?;
     for word in words {
         step(alloc, &mut store, id, word)?;
     }

@@ -5,12 +5,12 @@ ghost use Rattle.js_store.specs.Frozen.{bare};
 
 use crate::object::FlatObject;
 use crate::slot::Slot;
-use crate::store::Store;
+use crate::store::{PLAIN_MARKS, Store};
 use js_desc::descriptor::{Change, Descriptor};
 use js_text::value::Key;
 use lava_base::ids::{ObjId, PartyId, Ref};
 use lava_base::list::List;
-use lava_base::marks::{Class, Marks};
+use lava_base::marks::Marks;
 use lava_base::memory::OutOfMemory;
 use std::alloc::Global;
 use std::marker::Model;
@@ -42,12 +42,7 @@ impl FlatStore {
         if self.objects.len() >= u32::MAX as usize {
             return Err(OutOfMemory);
         }
-        let marks = Marks {
-            class: Class::Object,
-            callable: false,
-            constructor: false,
-        };
-        let mut object = FlatObject::new(self.alloc, None, marks, Slot::Plain);
+        let mut object = FlatObject::new(self.alloc, None, PLAIN_MARKS, Slot::Plain);
         object.prevent();
         self.objects.push(object)?;
         Ok(())

@@ -4,9 +4,10 @@ ghost use Rattle.std.specs.Prelude.{◌≡◌, [], OnOk, OnErr};
 ghost use Rattle.lava_base.specs.Ids.{same_ref};
 ghost use Rattle.js_store.specs.Foreign.{marks_of, with_marks};
 
+use crate::store::PLAIN_MARKS;
 use indexmap::IndexMap;
 use lava_base::ids::Ref;
-use lava_base::marks::{Class, Marks};
+use lava_base::marks::Marks;
 use lava_base::memory::OutOfMemory;
 use std::alloc::Global;
 use std::marker::Model;
@@ -56,11 +57,7 @@ impl Foreign {
     {
         match self.known.get(&reference) {
             Some(marks) => *marks,
-            None => Marks {
-                class: Class::Object,
-                callable: false,
-                constructor: false,
-            },
+            None => PLAIN_MARKS,
         }
     }
 }

@@ -12,9 +12,16 @@ use js_desc::descriptor::{Change, Descriptor};
 use js_text::value::Key;
 use lava_base::ids::{ObjId, PartyId, Ref};
 use lava_base::list::List;
-use lava_base::marks::Marks;
+use lava_base::marks::{Class, Marks};
 use lava_base::memory::OutOfMemory;
 use std::alloc::Global;
+
+/// The marks of an ordinary object that is not callable.
+pub const PLAIN_MARKS: Marks = Marks {
+    class: Class::Object,
+    callable: false,
+    constructor: false,
+};
 
 /// A party's objects: a list, in which an object is found by its id, counted from 0. No object leaves the list, so an id is never used again.
 ///

@@ -4,12 +4,11 @@ use crate::fault::Fault;
 use js_desc::descriptor::{Change, Descriptor};
 use js_store::flat::FlatStore;
 use js_store::slot::Slot;
-use js_store::store::Store;
+use js_store::store::{PLAIN_MARKS, Store};
 use js_text::copy::copy_key;
 use js_text::value::{Key, Value};
 use lava_base::ids::{ObjId, PartyId};
 use lava_base::list::List;
-use lava_base::marks::{Class, Marks};
 use lava_base::memory::OutOfMemory;
 use std::alloc::Global;
 use std::marker::Model;
@@ -46,13 +45,8 @@ impl Lone {
 
     /// One without properties.
     fn new(alloc: Global) -> Result<Lone, Fault> {
-        let marks = Marks {
-            class: Class::Object,
-            callable: false,
-            constructor: false,
-        };
         let mut store = FlatStore::empty(alloc, PartyId(1));
-        let id = store.make(None, marks, Slot::Plain)?;
+        let id = store.make(None, PLAIN_MARKS, Slot::Plain)?;
         Ok(Lone { store, id })
     }
 

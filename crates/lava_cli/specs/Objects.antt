@@ -6,6 +6,7 @@ use Rattle.lava_base.specs.declared.marks.Marks.{Marks}
 use Rattle.js_text.specs.declared.value.Key.{Key}
 use Rattle.js_desc.specs.declared.descriptor.Descriptor.{Descriptor}
 use Rattle.js_store.specs.Maps.{map_property}
+use Rattle.js_store.specs.Objects.{plain_marks}
 use Rattle.lava_cli.specs.Terms.{Template}
 
 -- what an object keeps besides its properties: nothing, or a function's code and the scope in which it was made
@@ -19,9 +20,6 @@ pub record Object (R : Type 0) : Type 0 where
   pub properties : List (Key R × Descriptor R)
   pub slot : Slot R
   pub marks : Marks
-
-abbrev pub plain_marks : Marks
-plain_marks = record { class = class.Object; callable = false; constructor = false }
 
 abbrev pub function_marks : Marks
 function_marks = record { class = class.Function; callable = true; constructor = true }
