@@ -1,4 +1,5 @@
 pub mod Ids
 pub mod SameRefs
+pub mod SameSymbols
 pub mod Spending
 pub mod Steps

@@ -2,6 +2,7 @@
 #![tactic(auto)]
 
 pub mod ids;
+pub mod limits;
 pub mod list;
 pub mod marks;
 pub mod memory;
