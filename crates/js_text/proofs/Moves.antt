@@ -1,4 +1,4 @@
--- A value is carried along a path of types of references by renaming its references.
+-- A value is carried along a path of types of references and one of types of made symbols by renaming both.
 use Rattle.std.proofs.Common.{◌≡◌, ℕ, List, refl}
 use Rattle.js_text.specs.Maps.{map_symbol, map_key, map_value}
 use Rattle.js_text.specs.declared.value.Key.{Key}
@@ -9,25 +9,27 @@ use Rattle.js_text.specs.declared.value.Value.{Value}
 use Rattle.js_text.specs.declared.value.Value.TheVariants as value
 use Rattle.js_text.specs.declared.value.Value.TheVariants.{Undefined, Null, Int}
 
-module _ {A B : Type 0} (p : A ≡ B) where
-  abbrev pub to : A → B
-  to a = coe 0 1 (i. p i) a
+-- where a path of types leads
+abbrev pub to : {A B : Type 0} → A ≡ B → A → B
+to p a = coe 0 1 (i. p i) a
 
-  pub symbol_moves : (s : Symbol A) → coe 0 1 (i. Symbol (p i)) s ≡ map_symbol to s
+module _ {S T : Type 0} (q : S ≡ T) where
+  pub symbol_moves : (s : Symbol S) → coe 0 1 (i. Symbol (q i)) s ≡ map_symbol (to q) s
   symbol_moves Iterator = refl
   symbol_moves (Registered t) = λ j. Registered (coe j 1 (_. List ℕ) t)
-  symbol_moves (Made r) = refl
+  symbol_moves (Made s) = refl
 
-  pub key_moves : (k : Key A) → coe 0 1 (i. Key (p i)) k ≡ map_key to k
+  pub key_moves : (k : Key S) → coe 0 1 (i. Key (q i)) k ≡ map_key (to q) k
   key_moves (key.Index n) = refl
   key_moves (key.Text t) = λ j. key.Text (coe j 1 (_. List ℕ) t)
   key_moves (key.Symbol s) = λ j. key.Symbol (symbol_moves s j)
 
-  pub value_moves : (v : Value A) → coe 0 1 (i. Value (p i)) v ≡ map_value to v
+module _ {A B S T : Type 0} (p : A ≡ B) (q : S ≡ T) where
+  pub value_moves : (v : Value A S) → coe 0 1 (i. Value (p i) (q i)) v ≡ map_value (to p) (to q) v
   value_moves Undefined = refl
   value_moves Null = refl
   value_moves (value.Bool b) = refl
   value_moves (Int n) = refl
   value_moves (value.Text t) = λ j. value.Text (coe j 1 (_. List ℕ) t)
-  value_moves (value.Symbol s) = λ j. value.Symbol (symbol_moves s j)
+  value_moves (value.Symbol s) = λ j. value.Symbol (symbol_moves q s j)
   value_moves (value.Ref r) = refl

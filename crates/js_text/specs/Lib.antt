@@ -1,8 +1,9 @@
 pub mod CommonPaths
 pub mod Hashes
+pub mod Identities
 pub mod Indices
 pub mod Maps
-pub mod Names
+pub mod Naming
 pub mod Natives
 pub mod Nodes
 pub mod NodesFall

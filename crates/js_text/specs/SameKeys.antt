@@ -19,8 +19,8 @@ same_units_decides = bytes_decides
 pub same_units_equiv : IsEquivalence same_units
 same_units_equiv = decided same_units same_units_decides
 
-module _ {R : Type 0} {same : R → R → Bool} (decides : (a b : R) → Decides (same a b) (a ≡ b)) where
-  symbol_sound : (a b : Symbol R) → same_symbol same a b ≡ true → a ≡ b
+module _ {S : Type 0} {made : S → S → Bool} (decides : (a b : S) → Decides (made a b) (a ≡ b)) where
+  symbol_sound : (a b : Symbol S) → same_symbol made a b ≡ true → a ≡ b
   symbol_sound Iterator Iterator h = refl
   symbol_sound (Registered a) (Registered b) h = ap Registered ((same_units_decides a b).0 h)
   symbol_sound (Made a) (Made b) h = ap Made ((decides a b).0 h)
@@ -31,19 +31,19 @@ module _ {R : Type 0} {same : R → R → Bool} (decides : (a b : R) → Decides
   symbol_sound (Made a) Iterator h = absurd (true≢false (sym h))
   symbol_sound (Made a) (Registered b) h = absurd (true≢false (sym h))
 
-  symbol_itself : (a : Symbol R) → same_symbol same a a ≡ true
+  symbol_itself : (a : Symbol S) → same_symbol made a a ≡ true
   symbol_itself Iterator = refl
   symbol_itself (Registered a) = (same_units_decides a a).1 refl
   symbol_itself (Made a) = (decides a a).1 refl
 
   -- the test tells whether two symbols are equal
-  pub same_symbol_decides : (a b : Symbol R) → Decides (same_symbol same a b) (a ≡ b)
-  same_symbol_decides a b = (symbol_sound a b, λ e. subst (λ s. same_symbol same a s ≡ true) e (symbol_itself a))
+  pub same_symbol_decides : (a b : Symbol S) → Decides (same_symbol made a b) (a ≡ b)
+  same_symbol_decides a b = (symbol_sound a b, λ e. subst (λ s. same_symbol made a s ≡ true) e (symbol_itself a))
 
-  pub same_symbol_equiv : IsEquivalence (same_symbol same)
-  same_symbol_equiv = decided (same_symbol same) same_symbol_decides
+  pub same_symbol_equiv : IsEquivalence (same_symbol made)
+  same_symbol_equiv = decided (same_symbol made) same_symbol_decides
 
-  key_sound : (a b : Key R) → same_key same a b ≡ true → a ≡ b
+  key_sound : (a b : Key S) → same_key made a b ≡ true → a ≡ b
   key_sound (key.Index a) (key.Index b) h = ap key.Index ((unsigned_Decides a b).0 h)
   key_sound (key.Text a) (key.Text b) h = ap key.Text ((same_units_decides a b).0 h)
   key_sound (key.Symbol a) (key.Symbol b) h = ap key.Symbol ((same_symbol_decides a b).0 h)
@@ -54,14 +54,14 @@ module _ {R : Type 0} {same : R → R → Bool} (decides : (a b : R) → Decides
   key_sound (key.Symbol a) (key.Index b) h = absurd (true≢false (sym h))
   key_sound (key.Symbol a) (key.Text b) h = absurd (true≢false (sym h))
 
-  key_itself : (a : Key R) → same_key same a a ≡ true
+  key_itself : (a : Key S) → same_key made a a ≡ true
   key_itself (key.Index a) = (unsigned_Decides a a).1 refl
   key_itself (key.Text a) = (same_units_decides a a).1 refl
   key_itself (key.Symbol a) = symbol_itself a
 
   -- the test tells whether two keys are equal
-  pub same_key_decides : (a b : Key R) → Decides (same_key same a b) (a ≡ b)
-  same_key_decides a b = (key_sound a b, λ e. subst (λ k. same_key same a k ≡ true) e (key_itself a))
+  pub same_key_decides : (a b : Key S) → Decides (same_key made a b) (a ≡ b)
+  same_key_decides a b = (key_sound a b, λ e. subst (λ k. same_key made a k ≡ true) e (key_itself a))
 
-  pub same_key_equiv : IsEquivalence (same_key same)
-  same_key_equiv = decided (same_key same) same_key_decides
+  pub same_key_equiv : IsEquivalence (same_key made)
+  same_key_equiv = decided (same_key made) same_key_decides

@@ -2,8 +2,8 @@
 
 ghost use Rattle.std.specs.Prelude.{◌≡◌, ◌≤◌, length, fold};
 ghost use Rattle.std.proofs.Common.{ap};
-ghost use Rattle.lava_base.specs.Ids.{ref_writes};
-ghost use Rattle.lava_base.specs.SameRefs.{same_ref_decides};
+ghost use Rattle.lava_base.specs.Ids.{made_symbol_writes};
+ghost use Rattle.lava_base.specs.SameSymbols.{same_made_symbol_decides};
 ghost use Rattle.js_text.specs.Hashes.{with_unit, units_number, text_writes, symbol_writes, key_writes};
 ghost use Rattle.js_text.specs.SameKeys.{same_units_decides, same_symbol_decides, same_key_decides};
 ghost use Rattle.js_text.specs.Search.{substring};
@@ -70,9 +70,9 @@ impl Hash for Text {
 }
 
 impl Hash for Symbol {
-    ghost hash_input = { symbol_writes ref_writes };
+    ghost hash_input = { symbol_writes made_symbol_writes };
 
-    ghost respects_eq = { λ a b h. ap (symbol_writes ref_writes) ((same_symbol_decides same_ref_decides a b).0 h) };
+    ghost respects_eq = { λ a b h. ap (symbol_writes made_symbol_writes) ((same_symbol_decides same_made_symbol_decides a b).0 h) };
 
     fn hash<H: Hasher>(&self, state: &mut H) {
         match self {
@@ -90,9 +90,9 @@ impl Hash for Symbol {
 }
 
 impl Hash for Key {
-    ghost hash_input = { key_writes ref_writes };
+    ghost hash_input = { key_writes made_symbol_writes };
 
-    ghost respects_eq = { λ a b h. ap (key_writes ref_writes) ((same_key_decides same_ref_decides a b).0 h) };
+    ghost respects_eq = { λ a b h. ap (key_writes made_symbol_writes) ((same_key_decides same_made_symbol_decides a b).0 h) };
 
     fn hash<H: Hasher>(&self, state: &mut H) {
         match self {

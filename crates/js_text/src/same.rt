@@ -2,8 +2,8 @@
 
 ghost use Rattle.std.specs.Prelude.{◌≡◌, ◌↔◌, IsTrue};
 ghost use Rattle.std.specs.Cmp.{partial_equiv_from_equiv};
-ghost use Rattle.lava_base.specs.Ids.{same_ref};
-ghost use Rattle.lava_base.specs.SameRefs.{same_ref_decides};
+ghost use Rattle.lava_base.specs.Ids.{same_ref, same_made_symbol};
+ghost use Rattle.lava_base.specs.SameSymbols.{same_made_symbol_decides};
 ghost use Rattle.js_text.specs.SameKeys.{same_units_equiv, same_symbol_equiv, same_key_equiv};
 ghost use Rattle.js_text.specs.Texts.{same_units};
 ghost use Rattle.js_text.specs.Values.{same_symbol, same_key, same_value};
@@ -13,7 +13,7 @@ use crate::value::{Key, Symbol, Value};
 
 /// Whether two symbols are the same.
 pub fn is_same_symbol(a: &Symbol, b: &Symbol) -> bool
-    ensures test { result ≡ same_symbol same_ref a.now b.now }
+    ensures test { result ≡ same_symbol same_made_symbol a.now b.now }
     ensures equal { IsTrue result ↔ (a.now ≡ b.now) }
 {
     match (a, b) {
@@ -26,7 +26,7 @@ pub fn is_same_symbol(a: &Symbol, b: &Symbol) -> bool
 
 /// Whether two keys are the same.
 pub fn is_same_key(a: &Key, b: &Key) -> bool
-    ensures test { result ≡ same_key same_ref a.now b.now }
+    ensures test { result ≡ same_key same_made_symbol a.now b.now }
     ensures equal { IsTrue result ↔ (a.now ≡ b.now) }
 {
     match (a, b) {
@@ -39,7 +39,7 @@ pub fn is_same_key(a: &Key, b: &Key) -> bool
 
 /// Whether two values are the same (ECMA-262, SameValue).
 pub fn is_same_value(a: &Value, b: &Value) -> bool
-    ensures test { result ≡ same_value same_ref a.now b.now }
+    ensures test { result ≡ same_value same_ref same_made_symbol a.now b.now }
     ensures equal { IsTrue result ↔ (a.now ≡ b.now) }
 {
     match (a, b) {
@@ -69,9 +69,9 @@ impl Eq for Text {
 }
 
 impl PartialEq for Symbol {
-    ghost eq = { same_symbol same_ref };
+    ghost eq = { same_symbol same_made_symbol };
 
-    ghost laws = { partial_equiv_from_equiv (same_symbol_equiv same_ref_decides) };
+    ghost laws = { partial_equiv_from_equiv (same_symbol_equiv same_made_symbol_decides) };
 
     fn eq(&self, other: &Symbol) -> bool {
         is_same_symbol(self, other)
@@ -79,13 +79,13 @@ impl PartialEq for Symbol {
 }
 
 impl Eq for Symbol {
-    ghost laws = { same_symbol_equiv same_ref_decides };
+    ghost laws = { same_symbol_equiv same_made_symbol_decides };
 }
 
 impl PartialEq for Key {
-    ghost eq = { same_key same_ref };
+    ghost eq = { same_key same_made_symbol };
 
-    ghost laws = { partial_equiv_from_equiv (same_key_equiv same_ref_decides) };
+    ghost laws = { partial_equiv_from_equiv (same_key_equiv same_made_symbol_decides) };
 
     fn eq(&self, other: &Key) -> bool {
         is_same_key(self, other)
@@ -93,5 +93,5 @@ impl PartialEq for Key {
 }
 
 impl Eq for Key {
-    ghost laws = { same_key_equiv same_ref_decides };
+    ghost laws = { same_key_equiv same_made_symbol_decides };
 }

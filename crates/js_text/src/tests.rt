@@ -7,7 +7,7 @@ use crate::same::{is_same_key, is_same_value};
 use crate::text::{MAX_UNITS, Text, from_units};
 use crate::utf8::from_utf8;
 use crate::value::{Key, Symbol, Value};
-use lava_base::ids::{CommonId, ObjId, PartyId, Ref};
+use lava_base::ids::{MadeSymbol, ObjId, PartyId, Ref};
 use lava_base::list::List;
 use std::alloc::Global;
 use std::cmp::Ordering;
@@ -63,7 +63,11 @@ fn a_text_has_a_limit(rt: HostRuntime) -> Result<(), Fail> {
 
 #[test]
 fn copies_are_the_same(rt: HostRuntime) -> Result<(), Fail> {
-    let made = Ref::Own {
+    let made = MadeSymbol {
+        party: PartyId(1),
+        id: ObjId(2),
+    };
+    let object = Ref::Own {
         party: PartyId(1),
         id: ObjId(2),
     };
@@ -73,7 +77,7 @@ fn copies_are_the_same(rt: HostRuntime) -> Result<(), Fail> {
         Value::Text(name.copy()?),
         Value::Symbol(Symbol::Registered(name.copy()?)),
         Value::Symbol(Symbol::Made(made)),
-        Value::Ref(made),
+        Value::Ref(object),
     ];
     for value in &values {
         assert!(rt; is_same_value(value, &copy_value(value)?));
@@ -221,8 +225,12 @@ fn equal_keys_hash_alike(rt: HostRuntime) -> Result<(), Fail> {
     assert!(rt; whole == pieces);
     assert_eq!(rt; hash_of(&whole), hash_of(&pieces));
     let few = from_units(alloc, &[0x61])?.concat(alloc, &from_units(alloc, &[0x62])?)?;
-    let made = Ref::Own {
+    let made = MadeSymbol {
         party: PartyId(1),
+        id: ObjId(2),
+    };
+    let other = MadeSymbol {
+        party: PartyId(2),
         id: ObjId(2),
     };
     let keys = [
@@ -233,7 +241,7 @@ fn equal_keys_hash_alike(rt: HostRuntime) -> Result<(), Fail> {
         Key::Symbol(Symbol::Iterator),
         Key::Symbol(Symbol::Registered(whole)),
         Key::Symbol(Symbol::Made(made)),
-        Key::Symbol(Symbol::Made(Ref::Common(CommonId(2)))),
+        Key::Symbol(Symbol::Made(other)),
     ];
     for (at, key) in keys.iter().enumerate() {
         for (place, other) in keys.iter().enumerate() {
