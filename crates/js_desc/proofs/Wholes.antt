@@ -2,7 +2,7 @@
 use Rattle.std.proofs.Common.{◌≡◌, Bool, true, false, Some, None, if◌then◌else◌, refl, ap, ◌∙◌, subst}
 use Rattle.lava_base.specs.Ids.{same_ref}
 use Rattle.lava_base.specs.declared.ids.Ref.{Ref}
-use Rattle.js_desc.specs.Descriptors.{completed, fields_of, same_descriptor}
+use Rattle.js_desc.specs.Descriptors.{complete_property_descriptor, fields_of, same_descriptor}
 use Rattle.js_desc.specs.Laws.{after_change, Fields_complete_a_property, Whole_definitions_are_taken}
 use Rattle.js_desc.specs.Validate.{allows, changed, change_of}
 use Rattle.js_desc.specs.declared.descriptor.Change.{Change}
@@ -37,7 +37,7 @@ given_change false x c e = cc
 
 pub whole_definitions_are_taken : Whole_definitions_are_taken
 whole_definitions_are_taken None extensible d c e =
-    subst (λ x. after_change None x ≡ Some d) (given_change extensible (change.Write (completed (fields_of d))) c e) (ap Some (fields_complete Ref d))
+    subst (λ x. after_change None x ≡ Some d) (given_change extensible (change.Write (complete_property_descriptor (fields_of d))) c e) (ap Some (fields_complete Ref d))
 whole_definitions_are_taken (Some old) extensible d c e =
     subst (λ x. after_change (Some old) x ≡ Some d)
     (given_change (allows same_ref old (fields_of d)) (change_of same_ref old (changed old (fields_of d))) c e)

@@ -1,10 +1,11 @@
--- The names of the methods. ECMA-262: Object Internal Methods and Internal Slots.
+-- The names of the methods, and the kind of the answer to each.
 use Rattle.std.specs.Prelude.{ℕ, List, codes}
 use Rattle.js_desc.specs.declared.ask.Ask.{Ask}
 use Rattle.js_desc.specs.declared.ask.Ask.TheVariants as ask
 
 -- the method's name in a trace
-abbrev pub ask_name : {R : Type 0} → Ask R → List ℕ
+-- ECMA-262 Object Internal Methods and Internal Slots, the names of the thirteen
+abbrev pub ask_name : {R S : Type 0} → Ask R S → List ℕ
 ask_name ask.GetPrototypeOf = codes "GetPrototypeOf"
 ask_name (ask.SetPrototypeOf p) = codes "SetPrototypeOf"
 ask_name ask.IsExtensible = codes "IsExtensible"

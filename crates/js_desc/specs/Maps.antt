@@ -1,4 +1,4 @@
--- Descriptors, asks and answers with other references.
+-- Descriptors, asks and answers with other references and other made symbols.
 use Rattle.std.specs.Prelude.{ℕ, List, map}
 use Rattle.std.specs.Option.{option_map}
 use Rattle.js_text.specs.Maps.{map_key, map_value}
@@ -19,64 +19,64 @@ use Rattle.js_desc.specs.declared.descriptor.PartialDescriptor.{PartialDescripto
 use Rattle.js_desc.specs.declared.reply.Reply.{Reply}
 use Rattle.js_desc.specs.declared.reply.Reply.TheVariants as reply
 
-abbrev pub map_descriptor : {A B : Type 0} → (A → B) → Descriptor A → Descriptor B
-map_descriptor f (Data v w e c) = Data (map_value f v) w e c
-map_descriptor f (Accessor g s e c) = Accessor (option_map f g) (option_map f s) e c
+abbrev pub map_descriptor : {A B S T : Type 0} → (A → B) → (S → T) → Descriptor A S → Descriptor B T
+map_descriptor f g (Data v w e c) = Data (map_value f g v) w e c
+map_descriptor f g (Accessor get set e c) = Accessor (option_map f get) (option_map f set) e c
 
-abbrev pub map_partial : {A B : Type 0} → (A → B) → PartialDescriptor A → PartialDescriptor B
-map_partial f d = record { value = option_map (map_value f) d.value; writable = d.writable; get = option_map (option_map f) d.get; set = option_map (option_map f) d.set; enumerable = d.enumerable; configurable = d.configurable }
+abbrev pub map_partial : {A B S T : Type 0} → (A → B) → (S → T) → PartialDescriptor A S → PartialDescriptor B T
+map_partial f g d = record { value = option_map (map_value f g) d.value; writable = d.writable; get = option_map (option_map f) d.get; set = option_map (option_map f) d.set; enumerable = d.enumerable; configurable = d.configurable }
 
-abbrev pub map_change : {A B : Type 0} → (A → B) → Change A → Change B
-map_change f change.Nothing = change.Nothing
-map_change f (change.Write d) = change.Write (map_descriptor f d)
+abbrev pub map_change : {A B S T : Type 0} → (A → B) → (S → T) → Change A S → Change B T
+map_change f g change.Nothing = change.Nothing
+map_change f g (change.Write d) = change.Write (map_descriptor f g d)
 
 -- a global of a new party
-abbrev pub map_global : {A B : Type 0} → (A → B) → Key A × Value A → Key B × Value B
-map_global f g = (map_key f g.0, map_value f g.1)
+abbrev pub map_global : {A B S T : Type 0} → (A → B) → (S → T) → Key S × Value A S → Key T × Value B T
+map_global f g e = (map_key g e.0, map_value f g e.1)
 
 -- a module of a new party
-abbrev pub map_module : {A B : Type 0} → (A → B) → List ℕ × Value A → List ℕ × Value B
-map_module f m = (m.0, map_value f m.1)
+abbrev pub map_module : {A B S T : Type 0} → (A → B) → (S → T) → List ℕ × Value A S → List ℕ × Value B T
+map_module f g m = (m.0, map_value f g m.1)
 
-abbrev pub map_ask : {A B : Type 0} → (A → B) → Ask A → Ask B
-map_ask f ask.GetPrototypeOf = ask.GetPrototypeOf
-map_ask f (ask.SetPrototypeOf p) = ask.SetPrototypeOf (option_map f p)
-map_ask f ask.IsExtensible = ask.IsExtensible
-map_ask f ask.PreventExtensions = ask.PreventExtensions
-map_ask f (ask.GetOwnProperty k) = ask.GetOwnProperty (map_key f k)
-map_ask f (ask.DefineOwnProperty k d) = ask.DefineOwnProperty (map_key f k) (map_partial f d)
-map_ask f (ask.HasProperty k) = ask.HasProperty (map_key f k)
-map_ask f (ask.Get k receiver) = ask.Get (map_key f k) (map_value f receiver)
-map_ask f (ask.Set k v receiver) = ask.Set (map_key f k) (map_value f v) (map_value f receiver)
-map_ask f (ask.Delete k) = ask.Delete (map_key f k)
-map_ask f ask.OwnPropertyKeys = ask.OwnPropertyKeys
-map_ask f (ask.Call this args) = ask.Call (map_value f this) (map (map_value f) args)
-map_ask f (ask.Construct target args) = ask.Construct (f target) (map (map_value f) args)
-map_ask f (ask.Import link path) = ask.Import link path
-map_ask f (ask.Slot which args) = ask.Slot which (map (map_value f) args)
-map_ask f (ask.Make globals modules) = ask.Make (map (map_global f) globals) (map (map_module f) modules)
-map_ask f ask.Queue = ask.Queue
-map_ask f ask.Turn = ask.Turn
+abbrev pub map_ask : {A B S T : Type 0} → (A → B) → (S → T) → Ask A S → Ask B T
+map_ask f g ask.GetPrototypeOf = ask.GetPrototypeOf
+map_ask f g (ask.SetPrototypeOf p) = ask.SetPrototypeOf (option_map f p)
+map_ask f g ask.IsExtensible = ask.IsExtensible
+map_ask f g ask.PreventExtensions = ask.PreventExtensions
+map_ask f g (ask.GetOwnProperty k) = ask.GetOwnProperty (map_key g k)
+map_ask f g (ask.DefineOwnProperty k d) = ask.DefineOwnProperty (map_key g k) (map_partial f g d)
+map_ask f g (ask.HasProperty k) = ask.HasProperty (map_key g k)
+map_ask f g (ask.Get k receiver) = ask.Get (map_key g k) (map_value f g receiver)
+map_ask f g (ask.Set k v receiver) = ask.Set (map_key g k) (map_value f g v) (map_value f g receiver)
+map_ask f g (ask.Delete k) = ask.Delete (map_key g k)
+map_ask f g ask.OwnPropertyKeys = ask.OwnPropertyKeys
+map_ask f g (ask.Call this args) = ask.Call (map_value f g this) (map (map_value f g) args)
+map_ask f g (ask.Construct target args) = ask.Construct (f target) (map (map_value f g) args)
+map_ask f g (ask.Import link path) = ask.Import link path
+map_ask f g (ask.Slot which args) = ask.Slot which (map (map_value f g) args)
+map_ask f g (ask.Make globals modules) = ask.Make (map (map_global f g) globals) (map (map_module f g) modules)
+map_ask f g ask.Queue = ask.Queue
+map_ask f g ask.Turn = ask.Turn
 
-abbrev pub map_reply : {A B : Type 0} → (A → B) → Reply A → Reply B
-map_reply f (reply.Value v) = reply.Value (map_value f v)
-map_reply f (reply.Proto p) = reply.Proto (option_map f p)
-map_reply f (reply.Flag b) = reply.Flag b
-map_reply f (reply.Desc d) = reply.Desc (option_map (map_descriptor f) d)
-map_reply f (reply.Keys ks) = reply.Keys (map (map_key f) ks)
-map_reply f (reply.Throw v) = reply.Throw (map_value f v)
+abbrev pub map_reply : {A B S T : Type 0} → (A → B) → (S → T) → Reply A S → Reply B T
+map_reply f g (reply.Value v) = reply.Value (map_value f g v)
+map_reply f g (reply.Proto p) = reply.Proto (option_map f p)
+map_reply f g (reply.Flag b) = reply.Flag b
+map_reply f g (reply.Desc d) = reply.Desc (option_map (map_descriptor f g) d)
+map_reply f g (reply.Keys ks) = reply.Keys (map (map_key g) ks)
+map_reply f g (reply.Throw v) = reply.Throw (map_value f g v)
 
-abbrev pub map_body : {A B : Type 0} → (A → B) → CrossBody A → CrossBody B
-map_body f (body.Ask target x) = body.Ask (option_map f target) (map_ask f x)
-map_body f (body.Answer r) = body.Answer (map_reply f r)
+abbrev pub map_body : {A B S T : Type 0} → (A → B) → (S → T) → CrossBody A S → CrossBody B T
+map_body f g (body.Ask target x) = body.Ask (option_map f target) (map_ask f g x)
+map_body f g (body.Answer r) = body.Answer (map_reply f g r)
 
-abbrev pub map_crossing : {A B : Type 0} → (A → B) → Crossing A → Crossing B
-map_crossing f x = record { from = x.from; to = x.to; body = map_body f x.body }
+abbrev pub map_crossing : {A B S T : Type 0} → (A → B) → (S → T) → Crossing A S → Crossing B T
+map_crossing f g x = record { from = x.from; to = x.to; body = map_body f g x.body }
 
 -- a decision, with what a decision that waits keeps
-abbrev pub map_decision : {A B N M : Type 0} → (A → B) → (N → M) → Decision N A → Decision M B
-map_decision f g (decision.Done r) = decision.Done (map_reply f r)
-map_decision f g (decision.Fault text) = decision.Fault text
-map_decision f g (decision.Ask target x next) = decision.Ask (option_map f target) (map_ask f x) (g next)
-map_decision f g (decision.Run b this args target) = decision.Run b (map_value f this) (map (map_value f) args) (option_map f target)
-map_decision f g (decision.End kind) = decision.End kind
+abbrev pub map_decision : {A B S T N M : Type 0} → (A → B) → (S → T) → (N → M) → Decision N A S → Decision M B T
+map_decision f g h (decision.Done r) = decision.Done (map_reply f g r)
+map_decision f g h (decision.Fault text) = decision.Fault text
+map_decision f g h (decision.Ask target x next) = decision.Ask (option_map f target) (map_ask f g x) (h next)
+map_decision f g h (decision.Run b this args target) = decision.Run b (map_value f g this) (map (map_value f g) args) (option_map f target)
+map_decision f g h (decision.End kind) = decision.End kind

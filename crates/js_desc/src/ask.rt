@@ -7,14 +7,14 @@ use crate::descriptor::PartialDescriptor;
 use js_text::native::Native;
 use js_text::text::Text;
 use js_text::value::{Key, Value};
-use lava_base::ids::Ref;
+use lava_base::ids::{MadeSymbol, Ref};
 use lava_base::list::List;
 
 /// An ask: one of the eighteen methods with its items. The target, an object that is asked, stands beside it.
 ///
 /// The first thirteen are ECMA-262's internal methods of objects ("Object Internal Methods and Internal Slots"), the others are what parties ask of each other.
 #[derive(Drop)]
-pub enum Ask<R = Ref> {
+pub enum Ask<R = Ref, S = MadeSymbol> {
     GetPrototypeOf,
     /// None is null.
     SetPrototypeOf {
@@ -23,35 +23,35 @@ pub enum Ask<R = Ref> {
     IsExtensible,
     PreventExtensions,
     GetOwnProperty {
-        key: Key<R>,
+        key: Key<S>,
     },
     DefineOwnProperty {
-        key: Key<R>,
-        descriptor: PartialDescriptor<R>,
+        key: Key<S>,
+        descriptor: PartialDescriptor<R, S>,
     },
     HasProperty {
-        key: Key<R>,
+        key: Key<S>,
     },
     Get {
-        key: Key<R>,
-        receiver: Value<R>,
+        key: Key<S>,
+        receiver: Value<R, S>,
     },
     Set {
-        key: Key<R>,
-        value: Value<R>,
-        receiver: Value<R>,
+        key: Key<S>,
+        value: Value<R, S>,
+        receiver: Value<R, S>,
     },
     Delete {
-        key: Key<R>,
+        key: Key<S>,
     },
     OwnPropertyKeys,
     Call {
-        this: Value<R>,
-        args: List<Value<R>>,
+        this: Value<R, S>,
+        args: List<Value<R, S>>,
     },
     Construct {
         new_target: R,
-        args: List<Value<R>>,
+        args: List<Value<R, S>>,
     },
     /// A module of a linked package, by the name of the link and the path in the package, which is empty for its main module.
     Import {
@@ -61,12 +61,12 @@ pub enum Ask<R = Ref> {
     /// A native that looks into what the target keeps, with its operands after the target.
     Slot {
         which: Native,
-        args: List<Value<R>>,
+        args: List<Value<R, S>>,
     },
     /// A new party with these globals and modules. It has no target.
     Make {
-        globals: List<(Key<R>, Value<R>)>,
-        modules: List<(Text, Value<R>)>,
+        globals: List<(Key<S>, Value<R, S>)>,
+        modules: List<(Text, Value<R, S>)>,
     },
     /// A later turn is asked of the host. It has no target.
     Queue,

@@ -2,7 +2,7 @@
 
 ghost use Rattle.std.specs.Prelude.{◌≡◌, IfOk};
 ghost use Rattle.std.specs.Option.{unwrap_or};
-ghost use Rattle.js_desc.specs.Descriptors.{completed, fields_of, data_with, accessor_with};
+ghost use Rattle.js_desc.specs.Descriptors.{complete_property_descriptor, fields_of, data_with, accessor_with};
 
 use crate::descriptor::{Descriptor, PartialDescriptor};
 use js_text::copy::copy_value;
@@ -12,7 +12,7 @@ use lava_base::memory::OutOfMemory;
 
 /// The property with these fields, where a field that is not given is undefined or false (ECMA-262, CompletePropertyDescriptor). It is an accessor exactly where a field of an accessor is given.
 pub fn complete(fields: &PartialDescriptor) -> Result<Descriptor, OutOfMemory>
-    ensures { IfOk result (λ d. d ≡ completed fields.now) }
+    ensures { IfOk result (λ d. d ≡ complete_property_descriptor fields.now) }
 {
     if fields.is_accessor() {
         Ok(accessor_from(fields, None, None, false, false))

@@ -4,7 +4,7 @@ use crate::ask::Ask;
 use crate::fault::FaultText;
 use crate::reply::Reply;
 use js_text::value::Value;
-use lava_base::ids::Ref;
+use lava_base::ids::{MadeSymbol, Ref};
 use lava_base::list::List;
 
 /// The body of a function: the number of its template and the number of the scope that it was made in.
@@ -23,22 +23,22 @@ pub enum EndKind {
 
 /// What one object answers to one ask, or what it does next. `N` is what a decision that waits needs to go on.
 #[derive(Drop)]
-pub enum Decision<N, R = Ref> {
+pub enum Decision<N, R = Ref, S = MadeSymbol> {
     /// The answer.
-    Done(Reply<R>),
+    Done(Reply<R, S>),
     /// An error with this text is made and thrown.
     Fault(FaultText),
     /// An ask comes first; then the decision goes on with its answer. The target is None where a party is asked.
     Ask {
         target: Option<R>,
-        ask: Ask<R>,
+        ask: Ask<R, S>,
         next: N,
     },
     /// A body runs, and what it gives is the answer. The new target is there for Construct alone.
     Run {
         body: BodyId,
-        this: Value<R>,
-        args: List<Value<R>>,
+        this: Value<R, S>,
+        args: List<Value<R, S>>,
         new_target: Option<R>,
     },
     /// The run ends.

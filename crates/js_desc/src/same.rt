@@ -1,7 +1,7 @@
 // Whether two properties are the same.
 
 ghost use Rattle.std.specs.Prelude.{◌≡◌};
-ghost use Rattle.lava_base.specs.Ids.{same_ref};
+ghost use Rattle.lava_base.specs.Ids.{same_ref, same_made_symbol};
 ghost use Rattle.js_desc.specs.Descriptors.{same_option, same_descriptor};
 ghost use Rattle.js_desc.specs.declared.descriptor.Descriptor.TheVariants.{Data, Accessor};
 
@@ -23,7 +23,7 @@ pub fn is_same_function(a: Option<Ref>, b: Option<Ref>) -> bool
 
 /// Whether two properties are of one kind and the same in each field (ECMA-262, SameValue).
 pub fn is_same_descriptor(a: &Descriptor, b: &Descriptor) -> bool
-    ensures { result ≡ same_descriptor same_ref a.now b.now }
+    ensures { result ≡ same_descriptor same_ref same_made_symbol a.now b.now }
 {
     match a {
         Descriptor::Data {
@@ -49,7 +49,7 @@ fn is_same_data(
     enumerable: bool,
     configurable: bool,
 ) -> bool
-    ensures { result ≡ same_descriptor same_ref (Data value.now writable enumerable configurable) b.now }
+    ensures { result ≡ same_descriptor same_ref same_made_symbol (Data value.now writable enumerable configurable) b.now }
 {
     match b {
         Descriptor::Data {
@@ -70,7 +70,7 @@ fn is_same_accessor(
     enumerable: bool,
     configurable: bool,
 ) -> bool
-    ensures { result ≡ same_descriptor same_ref (Accessor get set enumerable configurable) b.now }
+    ensures { result ≡ same_descriptor same_ref same_made_symbol (Accessor get set enumerable configurable) b.now }
 {
     match b {
         Descriptor::Data { .. } => false,

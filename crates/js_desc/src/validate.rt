@@ -2,10 +2,10 @@
 
 ghost use Rattle.std.specs.Prelude.{◌≡◌, IfOk, option_map};
 ghost use Rattle.std.specs.Bool.{beq};
-ghost use Rattle.lava_base.specs.Ids.{same_ref};
+ghost use Rattle.lava_base.specs.Ids.{same_ref, same_made_symbol};
 ghost use Rattle.js_text.specs.Values.{same_value};
 ghost use Rattle.js_desc.specs.Descriptors.{same_option};
-ghost use Rattle.js_desc.specs.Validate.{applied, keeps, keeps_data, keeps_kind, allows, changed, change_of};
+ghost use Rattle.js_desc.specs.Validate.{validate_and_apply_property_descriptor, is_compatible_property_descriptor, keeps, keeps_data, keeps_kind, keeps_fixed, changed, change_of, change_by};
 
 use crate::complete::{accessor_from, complete, data_from};
 use crate::descriptor::{Change, Descriptor, PartialDescriptor};
@@ -21,18 +21,42 @@ pub fn validate_apply(
     extensible: bool,
     new: &PartialDescriptor,
 ) -> Result<Option<Change>, OutOfMemory>
-    ensures { IfOk result (λ change. change ≡ applied same_ref (option_map (λ d. d.now) old.entry) extensible new.now) }
+    ensures { IfOk result (λ change. change ≡ validate_and_apply_property_descriptor same_ref same_made_symbol (option_map (λ d. d.now) old.entry) extensible new.now) }
+{
+    if is_compatible_property_descriptor(extensible, new, old) {
+        Ok(Some(change_from(old, new)?))
+    } else {
+        Ok(None)
+    }
+}
+
+/// Whether a definition is allowed, of the property that is there or of a new one (ECMA-262, IsCompatiblePropertyDescriptor).
+pub fn is_compatible_property_descriptor(
+    extensible: bool,
+    new: &PartialDescriptor,
+    current: Option<&Descriptor>,
+) -> bool
+    ensures { result ≡ is_compatible_property_descriptor same_ref same_made_symbol extensible new.now (option_map (λ d. d.now) current.entry) }
+{
+    match current {
+        None => extensible,
+        Some(old) => keep_fixed(old, new),
+    }
+}
+
+/// What an allowed definition makes of a property (ECMA-262, ValidateAndApplyPropertyDescriptor, steps 2 and 6).
+fn change_from(old: Option<&Descriptor>, new: &PartialDescriptor) -> Result<Change, OutOfMemory>
+    ensures { IfOk result (λ change. change ≡ change_by same_ref same_made_symbol new.now (option_map (λ d. d.now) old.entry)) }
 {
     match old {
-        None if extensible => Ok(Some(Change::Write(complete(new)?))),
-        Some(old) if allow(old, new) => Ok(Some(change_from(old, change(old, new)?))),
-        _ => Ok(None),
+        None => Ok(Change::Write(complete(new)?)),
+        Some(old) => Ok(change_between(old, change(old, new)?)),
     }
 }
 
 /// The change from one property to another.
-fn change_from(old: &Descriptor, new: Descriptor) -> Change
-    ensures { result ≡ change_of same_ref old.now new }
+fn change_between(old: &Descriptor, new: Descriptor) -> Change
+    ensures { result ≡ change_of same_ref same_made_symbol old.now new }
 {
     if is_same_descriptor(old, &new) {
         Change::Nothing
@@ -41,9 +65,9 @@ fn change_from(old: &Descriptor, new: Descriptor) -> Change
     }
 }
 
-/// Whether a definition may change a property (ECMA-262, ValidateAndApplyPropertyDescriptor, step 5).
-fn allow(old: &Descriptor, new: &PartialDescriptor) -> bool
-    ensures { result ≡ allows same_ref old.now new.now }
+/// Whether a definition keeps what a property that is not configurable has to keep (ECMA-262, ValidateAndApplyPropertyDescriptor, step 5).
+fn keep_fixed(old: &Descriptor, new: &PartialDescriptor) -> bool
+    ensures { result ≡ keeps_fixed same_ref same_made_symbol old.now new.now }
 {
     old.configurable()
         || keep_truth(new.configurable, false)
@@ -53,7 +77,7 @@ fn allow(old: &Descriptor, new: &PartialDescriptor) -> bool
 
 /// Whether a definition keeps the kind of a property, and what else a property of its kind has to keep that is not configurable (ECMA-262, ValidateAndApplyPropertyDescriptor, steps 5.c to 5.e).
 fn keep_kind(old: &Descriptor, new: &PartialDescriptor) -> bool
-    ensures { result ≡ keeps_kind same_ref old.now new.now }
+    ensures { result ≡ keeps_kind same_ref same_made_symbol old.now new.now }
 {
     match old {
         Descriptor::Data {
@@ -69,7 +93,7 @@ fn keep_kind(old: &Descriptor, new: &PartialDescriptor) -> bool
 
 /// Whether a definition keeps a value that is not writable.
 fn keep_data(value: &Value, writable: bool, new: &PartialDescriptor) -> bool
-    ensures { result ≡ keeps_data same_ref value.now writable new.now }
+    ensures { result ≡ keeps_data same_ref same_made_symbol value.now writable new.now }
 {
     writable || keep_truth(new.writable, false) && keep_value(&new.value, value)
 }
@@ -86,7 +110,7 @@ fn keep_truth(field: Option<bool>, there: bool) -> bool
 
 /// Whether a field is not given, or is this value (ECMA-262, SameValue).
 fn keep_value(field: &Option<Value>, there: &Value) -> bool
-    ensures { result ≡ keeps (same_value same_ref) field.now there.now }
+    ensures { result ≡ keeps (same_value same_ref same_made_symbol) field.now there.now }
 {
     match field {
         None => true,

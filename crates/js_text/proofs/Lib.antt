@@ -1,6 +1,7 @@
 pub mod Begun
 pub mod Decimals
 pub mod Encoded
+pub mod Keys
 pub mod Moves
 pub mod NativeNames
 pub mod Orders

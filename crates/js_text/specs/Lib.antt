@@ -12,3 +12,4 @@ pub mod Search
 pub mod Texts
 pub mod Utf8
 pub mod Values
+pub mod WellFormed

@@ -2,20 +2,23 @@
 
 ghost use Rattle.std.specs.Prelude.{◌≡◌, ◌<◌, ◌≤◌, ◌↔◌, length, slice_index, IsTrue, IfSome, IfNone, MatchOption};
 ghost use Rattle.std.specs.Str.Parse.{AllDigits, digits_value};
-ghost use Rattle.js_text.specs.Indices.{WritesIndex, WritesNoIndex, IsKeyOf};
+ghost use Rattle.js_text.specs.Indices.{WritesIndex, WritesNoIndex, IsKeyOf, key_of_text};
 
 use crate::text::Text;
 use crate::value::Key;
 
-/// The greatest array index.
+/// The greatest array index, 2^32 - 2.
 pub const MAX_INDEX: u32 = 4_294_967_294;
+
+/// How many digits it has.
+const MAX_DIGITS: u32 = 10;
 
 /// The array index that a text writes (ECMA-262, CanonicalNumericIndexString): in decimal, at most `MAX_INDEX`, with no leading zero but in "0" itself.
 pub fn index_of_text(text: &Text) -> Option<u32>
     ensures index { IfSome result (λ n. WritesIndex text.now n) }
     ensures none { IfNone result (WritesNoIndex text.now) }
 {
-    if text.len() == 0 || text.len() > 10 || has_leading_zero(text) {
+    if text.len() == 0 || text.len() > MAX_DIGITS || has_leading_zero(text) {
         return None;
     }
     match value_of_digits(text) {
@@ -27,6 +30,7 @@ pub fn index_of_text(text: &Text) -> Option<u32>
 /// The property key that a text is (ECMA-262, "The Object Type").
 pub fn key_of_text(text: Text) -> Key
     ensures key { IsKeyOf text result }
+    ensures exact { result ≡ key_of_text text }
 {
     match index_of_text(&text) {
         Some(index) => Key::Index(index),
@@ -43,7 +47,7 @@ fn has_leading_zero(text: &Text) -> bool
 
 /// The number that at most ten decimal digits write, and none where a unit is no digit.
 fn value_of_digits(text: &Text) -> Option<u64>
-    requires { length text.now ≤ 10 }
+    requires { length text.now ≤ MAX_DIGITS }
     ensures { MatchOption result (¬ (AllDigits 10 text.now)) (λ value. AllDigits 10 text.now × (value ≡ digits_value 10 text.now)) }
 {
     let mut value = 0;

@@ -311,8 +311,21 @@ impl Text {
         }
     }
 
-    /// Appends the text in UTF-8, with U+FFFD for a surrogate without its partner. After want of memory `out` has got some first part of these bytes.
+    /// Appends the text in UTF-8, with U+FFFD for a surrogate without its partner. After want of memory `out` is as before.
     pub fn write_utf8(&self, out: &mut List<u8>) -> Result<(), OutOfMemory>
+        ensures ok { OnOk result (out.new ≡ out.old ++ utf8_of self.now) }
+        ensures err { OnErr result (out.new ≡ out.old) }
+    {
+        let len = out.len();
+        let written = self.push_utf8(out);
+        if written.is_err() {
+            out.truncate(len);
+        }
+        written
+    }
+
+    /// Appends the text in UTF-8. After want of memory `out` has got some first part of these bytes.
+    fn push_utf8(&self, out: &mut List<u8>) -> Result<(), OutOfMemory>
         ensures ok { OnOk result (out.new ≡ out.old ++ utf8_of self.now) }
         ensures err { OnErr result (AddsPartOf out.old out.new (utf8_of self.now)) }
     {

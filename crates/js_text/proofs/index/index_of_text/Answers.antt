@@ -6,14 +6,14 @@ use Rattle.std.proofs.str.Laws.{order}
 use Rattle.js_text.specs.Indices.{WritesIndex}
 use Rattle.js_text.proofs.Decimals.{IsShort, no_index, index_of_short, value_of_index}
 use Rattle.js_text.proofs.index.index_of_text.Goals as goal
-use Rattle.js_text.proofs.index.index_of_text.Goals.{then-len-eq0-via-then-len-eq0, then-len-eq0-via-else-len-eq0+then-len-gt10, then-len-eq0-via-else-len-eq0+else-len-gt10+then-has_leading_zero}
+use Rattle.js_text.proofs.index.index_of_text.Goals.{then-len-eq0-via-then-len-eq0, then-len-eq0-via-else-len-eq0+then-len-gt-MAX_DIGITS, then-len-eq0-via-else-len-eq0+else-len-gt-MAX_DIGITS+then-has_leading_zero}
 
 pub returns-then-len-eq0-clause-none : goal.returns-then-len-eq0-clause-none
 returns-then-len-eq0-clause-none c =
     no_index c.args.text.now (λ short. elim c.then-len-eq0.branch as (λ _. ⊥) [
       | then-len-eq0-via-then-len-eq0 w ↦ absurd (omega (arith, short.some, w.if-len-eq0.true, c.len.ensures.len))
-      | then-len-eq0-via-else-len-eq0+then-len-gt10 w ↦ absurd (omega (arith, short.few, w.if-len-gt10.true, w.len-else-len-eq0.ensures.len))
-      | then-len-eq0-via-else-len-eq0+else-len-gt10+then-has_leading_zero w ↦
+      | then-len-eq0-via-else-len-eq0+then-len-gt-MAX_DIGITS w ↦ absurd (omega (arith, short.few, w.if-len-gt-MAX_DIGITS.true, w.len-else-len-eq0.ensures.len))
+      | then-len-eq0-via-else-len-eq0+else-len-gt-MAX_DIGITS+then-has_leading_zero w ↦
           let leads = w.has_leading_zero.ensures.0 w.if-has_leading_zero.true in
           absurd (omega (arith, short.lead leads.1, leads.0))
     ])

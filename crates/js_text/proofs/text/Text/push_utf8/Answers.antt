@@ -2,7 +2,7 @@
 use Rattle.std.proofs.Common.{◌++◌, ◌∙◌, ap, sym, append-nil, arith}
 use Rattle.std.specs.Str.{encode_utf8_all}
 use Rattle.js_text.proofs.Units.{lossy-drop_all}
-use Rattle.js_text.proofs.text.Text.write_utf8.Goals as goal
+use Rattle.js_text.proofs.text.Text.push_utf8.Goals as goal
 
 pub returns-clause-ok : goal.returns-clause-ok
 returns-clause-ok c =
