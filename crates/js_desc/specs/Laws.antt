@@ -31,18 +31,21 @@ abbrev pub after_change : {R S : Type 0} → Option (Descriptor R S) → Change 
 after_change old change.Nothing = old
 after_change old (change.Write d) = Some d
 
+-- a definition with all fields of a property makes that property of anything, where it is not refused
+abbrev pub Whole_definitions_are_taken : Type 0 → Type 0 → Type 0
+Whole_definitions_are_taken R S =
+    (same : R → R → Bool) (made : S → S → Bool) → IsSameness same → IsSameness made
+    → (old : Option (Descriptor R S)) (extensible : Bool) (p : Descriptor R S) (c : Change R S)
+    → validate_and_apply_property_descriptor same made old extensible (fields_of p) ≡ Some c → after_change old c ≡ Some p
+
+-- INVARIANTS
+
 -- what holds of each property that a definition may leave, where the tests tell what is equal
 abbrev pub OfEachAccepted : {R S : Type 0} → (Option (Descriptor R S) → Bool → PartialDescriptor R S → Option (Descriptor R S) → Type 0) → Type 0
 OfEachAccepted {R} {S} Holds =
     (same : R → R → Bool) (made : S → S → Bool) → IsSameness same → IsSameness made
     → (old : Option (Descriptor R S)) (extensible : Bool) (d : PartialDescriptor R S) (c : Change R S)
     → validate_and_apply_property_descriptor same made old extensible d ≡ Some c → Holds old extensible d (after_change old c)
-
--- a definition with all fields of a property makes that property of anything, where it is not refused
-abbrev pub Whole_definitions_are_taken : Type 0 → Type 0 → Type 0
-Whole_definitions_are_taken R S = (p : Descriptor R S) → OfEachAccepted (λ old extensible d new. d ≡ fields_of p → new ≡ Some p)
-
--- INVARIANTS
 
 -- a property that is not configurable stays, with its enumerability and its kind: a writable value may change and become fixed, and all else is as it was
 abbrev pub Stays : {R S : Type 0} → Descriptor R S → Option (Descriptor R S) → Type 0
