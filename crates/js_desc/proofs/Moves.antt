@@ -5,7 +5,7 @@ use Rattle.js_text.specs.Maps.{map_key, map_value}
 use Rattle.js_text.specs.declared.native.Native.{Native}
 use Rattle.js_text.specs.declared.value.Key.{Key}
 use Rattle.js_text.specs.declared.value.Value.{Value}
-use Rattle.js_text.proofs.Moves.{to, key_moves, value_moves}
+use Rattle.js_text.proofs.Moves.{to, to_symbol, key_moves, value_moves}
 use Rattle.js_desc.specs.Maps.{map_descriptor, map_partial, map_change, map_global, map_module, map_ask, map_reply, map_body, map_crossing, map_decision}
 use Rattle.js_desc.specs.declared.ask.Ask.{Ask}
 use Rattle.js_desc.specs.declared.ask.Ask.TheVariants as ask
@@ -41,19 +41,19 @@ module _ {A B S T : Type 0} (p : A ≡ B) (q : S ≡ T) where
   pub reference_moves : (o : Option A) → coe 0 1 (i. Option (p i)) o ≡ option_map (to p) o
   reference_moves o = option_moves p (to p) (λ r. refl) o
 
-  pub values_move : (vs : List (Value A S)) → coe 0 1 (i. List (Value (p i) (q i))) vs ≡ map (map_value (to p) (to q)) vs
-  values_move vs = list_moves (λ i. Value (p i) (q i)) (map_value (to p) (to q)) (value_moves p q) vs
+  pub values_move : (vs : List (Value A S)) → coe 0 1 (i. List (Value (p i) (q i))) vs ≡ map (map_value (to p) (to_symbol q)) vs
+  values_move vs = list_moves (λ i. Value (p i) (q i)) (map_value (to p) (to_symbol q)) (value_moves p q) vs
 
-  pub keys_move : (ks : List (Key S)) → coe 0 1 (i. List (Key (q i))) ks ≡ map (map_key (to q)) ks
-  keys_move ks = list_moves (λ i. Key (q i)) (map_key (to q)) (key_moves q) ks
+  pub keys_move : (ks : List (Key S)) → coe 0 1 (i. List (Key (q i))) ks ≡ map (map_key (to_symbol q)) ks
+  keys_move ks = list_moves (λ i. Key (q i)) (map_key (to_symbol q)) (key_moves q) ks
 
-  pub descriptor_moves : (d : Descriptor A S) → coe 0 1 (i. Descriptor (p i) (q i)) d ≡ map_descriptor (to p) (to q) d
+  pub descriptor_moves : (d : Descriptor A S) → coe 0 1 (i. Descriptor (p i) (q i)) d ≡ map_descriptor (to p) (to_symbol q) d
   descriptor_moves (Data v w e c) = λ j. Data (value_moves p q v j) w e c
   descriptor_moves (Accessor g s e c) = λ j. Accessor (reference_moves g j) (reference_moves s j) e c
 
-  pub partial_moves : (d : PartialDescriptor A S) → coe 0 1 (i. PartialDescriptor (p i) (q i)) d ≡ map_partial (to p) (to q) d
+  pub partial_moves : (d : PartialDescriptor A S) → coe 0 1 (i. PartialDescriptor (p i) (q i)) d ≡ map_partial (to p) (to_symbol q) d
   partial_moves d = λ j. record {
-    value = option_moves (λ i. Value (p i) (q i)) (map_value (to p) (to q)) (value_moves p q) d.value j;
+    value = option_moves (λ i. Value (p i) (q i)) (map_value (to p) (to_symbol q)) (value_moves p q) d.value j;
     writable = coe j 1 (_. Option Bool) d.writable;
     get = option_moves (λ i. Option (p i)) (option_map (to p)) reference_moves d.get j;
     set = option_moves (λ i. Option (p i)) (option_map (to p)) reference_moves d.set j;
@@ -61,17 +61,17 @@ module _ {A B S T : Type 0} (p : A ≡ B) (q : S ≡ T) where
     configurable = coe j 1 (_. Option Bool) d.configurable;
   }
 
-  pub change_moves : (x : Change A S) → coe 0 1 (i. Change (p i) (q i)) x ≡ map_change (to p) (to q) x
+  pub change_moves : (x : Change A S) → coe 0 1 (i. Change (p i) (q i)) x ≡ map_change (to p) (to_symbol q) x
   change_moves change.Nothing = refl
   change_moves (change.Write d) = λ j. change.Write (descriptor_moves d j)
 
-  pub global_moves : (g : Key S × Value A S) → coe 0 1 (i. Key (q i) × Value (p i) (q i)) g ≡ map_global (to p) (to q) g
+  pub global_moves : (g : Key S × Value A S) → coe 0 1 (i. Key (q i) × Value (p i) (q i)) g ≡ map_global (to p) (to_symbol q) g
   global_moves g = λ j. (key_moves q g.0 j, value_moves p q g.1 j)
 
-  pub module_moves : (m : List ℕ × Value A S) → coe 0 1 (i. List ℕ × Value (p i) (q i)) m ≡ map_module (to p) (to q) m
+  pub module_moves : (m : List ℕ × Value A S) → coe 0 1 (i. List ℕ × Value (p i) (q i)) m ≡ map_module (to p) (to_symbol q) m
   module_moves m = λ j. (coe j 1 (_. List ℕ) m.0, value_moves p q m.1 j)
 
-  pub ask_moves : (x : Ask A S) → coe 0 1 (i. Ask (p i) (q i)) x ≡ map_ask (to p) (to q) x
+  pub ask_moves : (x : Ask A S) → coe 0 1 (i. Ask (p i) (q i)) x ≡ map_ask (to p) (to_symbol q) x
   ask_moves ask.GetPrototypeOf = refl
   ask_moves (ask.SetPrototypeOf o) = λ j. ask.SetPrototypeOf (reference_moves o j)
   ask_moves ask.IsExtensible = refl
@@ -87,27 +87,27 @@ module _ {A B S T : Type 0} (p : A ≡ B) (q : S ≡ T) where
   ask_moves (ask.Construct target args) = λ j. ask.Construct (to p target) (values_move args j)
   ask_moves (ask.Import link path) = λ j. ask.Import (coe j 1 (_. List ℕ) link) (coe j 1 (_. List ℕ) path)
   ask_moves (ask.Slot which args) = λ j. ask.Slot (coe j 1 (_. Native) which) (values_move args j)
-  ask_moves (ask.Make globals modules) = λ j. ask.Make (list_moves (λ i. Key (q i) × Value (p i) (q i)) (map_global (to p) (to q)) global_moves globals j) (list_moves (λ i. List ℕ × Value (p i) (q i)) (map_module (to p) (to q)) module_moves modules j)
+  ask_moves (ask.Make globals modules) = λ j. ask.Make (list_moves (λ i. Key (q i) × Value (p i) (q i)) (map_global (to p) (to_symbol q)) global_moves globals j) (list_moves (λ i. List ℕ × Value (p i) (q i)) (map_module (to p) (to_symbol q)) module_moves modules j)
   ask_moves ask.Queue = refl
   ask_moves ask.Turn = refl
 
-  pub reply_moves : (r : Reply A S) → coe 0 1 (i. Reply (p i) (q i)) r ≡ map_reply (to p) (to q) r
+  pub reply_moves : (r : Reply A S) → coe 0 1 (i. Reply (p i) (q i)) r ≡ map_reply (to p) (to_symbol q) r
   reply_moves (reply.Value v) = λ j. reply.Value (value_moves p q v j)
   reply_moves (reply.Proto o) = λ j. reply.Proto (reference_moves o j)
   reply_moves (reply.Flag b) = refl
-  reply_moves (reply.Desc d) = λ j. reply.Desc (option_moves (λ i. Descriptor (p i) (q i)) (map_descriptor (to p) (to q)) descriptor_moves d j)
+  reply_moves (reply.Desc d) = λ j. reply.Desc (option_moves (λ i. Descriptor (p i) (q i)) (map_descriptor (to p) (to_symbol q)) descriptor_moves d j)
   reply_moves (reply.Keys ks) = λ j. reply.Keys (keys_move ks j)
   reply_moves (reply.Throw v) = λ j. reply.Throw (value_moves p q v j)
 
-  pub body_moves : (x : CrossBody A S) → coe 0 1 (i. CrossBody (p i) (q i)) x ≡ map_body (to p) (to q) x
+  pub body_moves : (x : CrossBody A S) → coe 0 1 (i. CrossBody (p i) (q i)) x ≡ map_body (to p) (to_symbol q) x
   body_moves (body.Ask target x) = λ j. body.Ask (reference_moves target j) (ask_moves x j)
   body_moves (body.Answer r) = λ j. body.Answer (reply_moves r j)
 
-  pub crossing_moves : (x : Crossing A S) → coe 0 1 (i. Crossing (p i) (q i)) x ≡ map_crossing (to p) (to q) x
+  pub crossing_moves : (x : Crossing A S) → coe 0 1 (i. Crossing (p i) (q i)) x ≡ map_crossing (to p) (to_symbol q) x
   crossing_moves x = λ j. record { from = coe j 1 (_. PartyId) x.from; to = coe j 1 (_. PartyId) x.to; body = body_moves x.body j }
 
   -- a decision, where what waits is carried along a path of its own
-  pub decision_moves : {N M : Type 0} (w : N ≡ M) (g : N → M) → ((n : N) → coe 0 1 (i. w i) n ≡ g n) → (x : Decision N A S) → coe 0 1 (i. Decision (w i) (p i) (q i)) x ≡ map_decision (to p) (to q) g x
+  pub decision_moves : {N M : Type 0} (w : N ≡ M) (g : N → M) → ((n : N) → coe 0 1 (i. w i) n ≡ g n) → (x : Decision N A S) → coe 0 1 (i. Decision (w i) (p i) (q i)) x ≡ map_decision (to p) (to_symbol q) g x
   decision_moves w g h (decision.Done r) = λ j. decision.Done (reply_moves r j)
   decision_moves w g h (decision.Fault text) = λ j. decision.Fault (coe j 1 (_. FaultText) text)
   decision_moves w g h (decision.Ask target x next) = λ j. decision.Ask (reference_moves target j) (ask_moves x j) (h next j)

@@ -2,6 +2,7 @@
 use Rattle.std.specs.Prelude.{◌≡◌, Bool, true, false, ◌&&◌, Option, Some, None, IfSome, ⊤}
 use Rattle.std.specs.Option.{option_map}
 use mathlib.Core.Equiv.{◌≃◌}
+use Rattle.js_text.specs.Maps.{map_symbol}
 use Rattle.js_text.specs.Values.{IsSameness}
 use Rattle.js_text.specs.declared.value.Value.{Value}
 use Rattle.js_desc.specs.Descriptors.{is_data_descriptor, is_accessor_descriptor, complete_property_descriptor, configurable_of, enumerable_of, fields_of}
@@ -19,8 +20,8 @@ References_do_not_matter A B S T =
     (e : A ≃ B) (g : S ≃ T) (same : A → A → Bool) (other : B → B → Bool) (made : S → S → Bool) (other_made : T → T → Bool)
     → ((x y : A) → other (e.0 x) (e.0 y) ≡ same x y) → ((x y : S) → other_made (g.0 x) (g.0 y) ≡ made x y)
     → (old : Option (Descriptor A S)) (extensible : Bool) (new : PartialDescriptor A S)
-    → validate_and_apply_property_descriptor other other_made (option_map (map_descriptor e.0 g.0) old) extensible (map_partial e.0 g.0 new)
-      ≡ option_map (map_change e.0 g.0) (validate_and_apply_property_descriptor same made old extensible new)
+    → validate_and_apply_property_descriptor other other_made (option_map (map_descriptor e.0 (map_symbol g.0)) old) extensible (map_partial e.0 (map_symbol g.0) new)
+      ≡ option_map (map_change e.0 (map_symbol g.0)) (validate_and_apply_property_descriptor same made old extensible new)
 
 -- all fields of a property make that property
 abbrev pub Fields_complete_a_property : Type 0 → Type 0 → Type 0

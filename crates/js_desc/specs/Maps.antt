@@ -1,8 +1,9 @@
--- Descriptors, asks and answers with other references and other made symbols.
+-- Descriptors, asks and answers with other references and other symbols.
 use Rattle.std.specs.Prelude.{ℕ, List, map}
 use Rattle.std.specs.Option.{option_map}
 use Rattle.js_text.specs.Maps.{map_key, map_value}
 use Rattle.js_text.specs.declared.value.Key.{Key}
+use Rattle.js_text.specs.declared.value.Symbol.{Symbol}
 use Rattle.js_text.specs.declared.value.Value.{Value}
 use Rattle.js_desc.specs.declared.ask.Ask.{Ask}
 use Rattle.js_desc.specs.declared.ask.Ask.TheVariants as ask
@@ -19,26 +20,26 @@ use Rattle.js_desc.specs.declared.descriptor.PartialDescriptor.{PartialDescripto
 use Rattle.js_desc.specs.declared.reply.Reply.{Reply}
 use Rattle.js_desc.specs.declared.reply.Reply.TheVariants as reply
 
-abbrev pub map_descriptor : {A B S T : Type 0} → (A → B) → (S → T) → Descriptor A S → Descriptor B T
+abbrev pub map_descriptor : {A B S T : Type 0} → (A → B) → (Symbol S → Symbol T) → Descriptor A S → Descriptor B T
 map_descriptor f g (Data v w e c) = Data (map_value f g v) w e c
 map_descriptor f g (Accessor get set e c) = Accessor (option_map f get) (option_map f set) e c
 
-abbrev pub map_partial : {A B S T : Type 0} → (A → B) → (S → T) → PartialDescriptor A S → PartialDescriptor B T
+abbrev pub map_partial : {A B S T : Type 0} → (A → B) → (Symbol S → Symbol T) → PartialDescriptor A S → PartialDescriptor B T
 map_partial f g d = record { value = option_map (map_value f g) d.value; writable = d.writable; get = option_map (option_map f) d.get; set = option_map (option_map f) d.set; enumerable = d.enumerable; configurable = d.configurable }
 
-abbrev pub map_change : {A B S T : Type 0} → (A → B) → (S → T) → Change A S → Change B T
+abbrev pub map_change : {A B S T : Type 0} → (A → B) → (Symbol S → Symbol T) → Change A S → Change B T
 map_change f g change.Nothing = change.Nothing
 map_change f g (change.Write d) = change.Write (map_descriptor f g d)
 
 -- a global of a new party
-abbrev pub map_global : {A B S T : Type 0} → (A → B) → (S → T) → Key S × Value A S → Key T × Value B T
+abbrev pub map_global : {A B S T : Type 0} → (A → B) → (Symbol S → Symbol T) → Key S × Value A S → Key T × Value B T
 map_global f g e = (map_key g e.0, map_value f g e.1)
 
 -- a module of a new party
-abbrev pub map_module : {A B S T : Type 0} → (A → B) → (S → T) → List ℕ × Value A S → List ℕ × Value B T
+abbrev pub map_module : {A B S T : Type 0} → (A → B) → (Symbol S → Symbol T) → List ℕ × Value A S → List ℕ × Value B T
 map_module f g m = (m.0, map_value f g m.1)
 
-abbrev pub map_ask : {A B S T : Type 0} → (A → B) → (S → T) → Ask A S → Ask B T
+abbrev pub map_ask : {A B S T : Type 0} → (A → B) → (Symbol S → Symbol T) → Ask A S → Ask B T
 map_ask f g ask.GetPrototypeOf = ask.GetPrototypeOf
 map_ask f g (ask.SetPrototypeOf p) = ask.SetPrototypeOf (option_map f p)
 map_ask f g ask.IsExtensible = ask.IsExtensible
@@ -58,7 +59,7 @@ map_ask f g (ask.Make globals modules) = ask.Make (map (map_global f g) globals)
 map_ask f g ask.Queue = ask.Queue
 map_ask f g ask.Turn = ask.Turn
 
-abbrev pub map_reply : {A B S T : Type 0} → (A → B) → (S → T) → Reply A S → Reply B T
+abbrev pub map_reply : {A B S T : Type 0} → (A → B) → (Symbol S → Symbol T) → Reply A S → Reply B T
 map_reply f g (reply.Value v) = reply.Value (map_value f g v)
 map_reply f g (reply.Proto p) = reply.Proto (option_map f p)
 map_reply f g (reply.Flag b) = reply.Flag b
@@ -66,15 +67,15 @@ map_reply f g (reply.Desc d) = reply.Desc (option_map (map_descriptor f g) d)
 map_reply f g (reply.Keys ks) = reply.Keys (map (map_key g) ks)
 map_reply f g (reply.Throw v) = reply.Throw (map_value f g v)
 
-abbrev pub map_body : {A B S T : Type 0} → (A → B) → (S → T) → CrossBody A S → CrossBody B T
+abbrev pub map_body : {A B S T : Type 0} → (A → B) → (Symbol S → Symbol T) → CrossBody A S → CrossBody B T
 map_body f g (body.Ask target x) = body.Ask (option_map f target) (map_ask f g x)
 map_body f g (body.Answer r) = body.Answer (map_reply f g r)
 
-abbrev pub map_crossing : {A B S T : Type 0} → (A → B) → (S → T) → Crossing A S → Crossing B T
+abbrev pub map_crossing : {A B S T : Type 0} → (A → B) → (Symbol S → Symbol T) → Crossing A S → Crossing B T
 map_crossing f g x = record { from = x.from; to = x.to; body = map_body f g x.body }
 
 -- a decision, with what a decision that waits keeps
-abbrev pub map_decision : {A B S T N M : Type 0} → (A → B) → (S → T) → (N → M) → Decision N A S → Decision M B T
+abbrev pub map_decision : {A B S T N M : Type 0} → (A → B) → (Symbol S → Symbol T) → (N → M) → Decision N A S → Decision M B T
 map_decision f g h (decision.Done r) = decision.Done (map_reply f g r)
 map_decision f g h (decision.Fault text) = decision.Fault text
 map_decision f g h (decision.Ask target x next) = decision.Ask (option_map f target) (map_ask f g x) (h next)
