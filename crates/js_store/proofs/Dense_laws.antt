@@ -9,16 +9,17 @@ use Rattle.std.specs.Map.{keys_of, lookup, remove_entry}
 use Rattle.std.specs.Ordering.{is_eq, nat_cmp, match_ordering}
 use Rattle.std.specs.declared.cmp.Ordering.{Ordering}
 use Rattle.std.specs.declared.cmp.Ordering.TheVariants.{Less, Equal, Greater}
+use Rattle.lava_base.specs.declared.ids.MadeSymbol.{MadeSymbol}
 use Rattle.lava_base.specs.declared.ids.Ref.{Ref}
 use Rattle.lava_base.specs.declared.memory.OutOfMemory.{OutOfMemory}
 use Rattle.js_desc.specs.declared.descriptor.Descriptor.{Descriptor}
 use Rattle.js_store.specs.Dense.{present}
 
 abbrev Places : Type 0
-Places = List (Option (Descriptor Ref))
+Places = List (Option (Descriptor Ref MadeSymbol))
 
 abbrev Entries : Type 0
-Entries = List (ℕ × Descriptor Ref)
+Entries = List (ℕ × Descriptor Ref MadeSymbol)
 
 -- all indices are at least k
 abbrev pub Past : ℕ → Entries → Type 0
@@ -68,10 +69,10 @@ all_past n (None ∷ os) rest past = weaken n (suc n) (present (suc n) os ++ res
 all_past n (Some d ∷ os) rest past = (grind (arith), weaken n (suc n) (present (suc n) os ++ rest) (grind (arith)) (all_past (suc n) os rest (weaken (suc n + length os) (n + suc (length os)) rest (no_less n (length os)) past)))
 
 -- those after the first of a list of places
-after_first : (n : ℕ) (o : Option (Descriptor Ref)) (os : Places) (rest : Entries) → Past (n + length (o ∷ os)) rest → Past (suc n) (present (suc n) os ++ rest)
+after_first : (n : ℕ) (o : Option (Descriptor Ref MadeSymbol)) (os : Places) (rest : Entries) → Past (n + length (o ∷ os)) rest → Past (suc n) (present (suc n) os ++ rest)
 after_first n o os rest past = all_past (suc n) os rest (weaken (suc n + length os) (n + suc (length os)) rest (no_less n (length os)) past)
 
-fewer : (n : ℕ) (o : Option (Descriptor Ref)) (os : Places) (rest : Entries) → Past (n + length (o ∷ os)) rest → Past (suc n + length os) rest
+fewer : (n : ℕ) (o : Option (Descriptor Ref MadeSymbol)) (os : Places) (rest : Entries) → Past (n + length (o ∷ os)) rest → Past (suc n + length os) rest
 fewer n o os rest past = weaken (suc n + length os) (n + suc (length os)) rest (no_less n (length os)) past
 
 -- WHAT IS FOUND
@@ -107,11 +108,11 @@ found_sparse i os rest le = found_after i 0 os rest (grind (arith))
 
 -- WHAT IS WRITTEN
 
-put_front : (i : ℕ) (d : Descriptor Ref) (es : Entries) → Past (suc i) es → insert_entry nat_cmp es i d ≡ (i, d) ∷ es
+put_front : (i : ℕ) (d : Descriptor Ref MadeSymbol) (es : Entries) → Past (suc i) es → insert_entry nat_cmp es i d ≡ (i, d) ∷ es
 put_front i d [] past = refl
 put_front i d (e ∷ es) past = ap (λ o. match_ordering o ((i, d) ∷ e ∷ es) ((e.0, d) ∷ es) (e ∷ insert_entry nat_cmp es i d)) (under i e.0 (grind (arith)))
 
-written_from : (n k : ℕ) (d : Descriptor Ref) (os : Places) (rest : Entries) → k < length os → Past (n + length os) rest → present n (set os k (Some d)) ++ rest ≡ insert_entry nat_cmp (present n os ++ rest) (n + k) d
+written_from : (n k : ℕ) (d : Descriptor Ref MadeSymbol) (os : Places) (rest : Entries) → k < length os → Past (n + length os) rest → present n (set os k (Some d)) ++ rest ≡ insert_entry nat_cmp (present n os ++ rest) (n + k) d
 written_from n k d [] rest lt past = absurd (grind (arith))
 written_from n zero d (None ∷ os) rest lt past =
     sym (ap (λ i. insert_entry nat_cmp (present (suc n) os ++ rest) i d) (grind (arith)) ∙ put_front n d (present (suc n) os ++ rest) (after_first n None os rest past))
@@ -125,26 +126,26 @@ written_from n (suc k) d (Some o ∷ os) rest lt past =
     ∙ ap (λ i. insert_entry nat_cmp (present (suc n) os ++ rest) i d) (sym (step n k)))
     ∙ sym (ap (λ r. match_ordering r ((n + suc k, d) ∷ (n, o) ∷ present (suc n) os ++ rest) ((n, d) ∷ present (suc n) os ++ rest) ((n, o) ∷ insert_entry nat_cmp (present (suc n) os ++ rest) (n + suc k) d)) (above n k))
 
-pub written_dense : (i : ℕ) (d : Descriptor Ref) (os : Places) (rest : Entries) → i < length os → Past (length os) rest → present 0 (set os i (Some d)) ++ rest ≡ insert_entry nat_cmp (present 0 os ++ rest) i d
+pub written_dense : (i : ℕ) (d : Descriptor Ref MadeSymbol) (os : Places) (rest : Entries) → i < length os → Past (length os) rest → present 0 (set os i (Some d)) ++ rest ≡ insert_entry nat_cmp (present 0 os ++ rest) i d
 written_dense i d os rest lt past = written_from 0 i d os rest lt (from_start os rest past) ∙ ap (λ k. insert_entry nat_cmp (present 0 os ++ rest) k d) (sym (from_zero i))
 
-written_after : (i n : ℕ) (d : Descriptor Ref) (os : Places) (rest : Entries) → n + length os ≤ i → present n os ++ insert_entry nat_cmp rest i d ≡ insert_entry nat_cmp (present n os ++ rest) i d
+written_after : (i n : ℕ) (d : Descriptor Ref MadeSymbol) (os : Places) (rest : Entries) → n + length os ≤ i → present n os ++ insert_entry nat_cmp rest i d ≡ insert_entry nat_cmp (present n os ++ rest) i d
 written_after i n d [] rest le = refl
 written_after i n d (None ∷ os) rest le = written_after i (suc n) d os rest (grind (arith))
 written_after i n d (Some o ∷ os) rest le =
     ap (λ l. (n, o) ∷ l) (written_after i (suc n) d os rest (grind (arith)))
     ∙ sym (ap (λ r. match_ordering r ((i, d) ∷ (n, o) ∷ present (suc n) os ++ rest) ((n, d) ∷ present (suc n) os ++ rest) ((n, o) ∷ insert_entry nat_cmp (present (suc n) os ++ rest) i d)) (beyond n i (grind (arith))))
 
-pub written_sparse : (i : ℕ) (d : Descriptor Ref) (os : Places) (rest : Entries) → length os ≤ i → present 0 os ++ insert_entry nat_cmp rest i d ≡ insert_entry nat_cmp (present 0 os ++ rest) i d
+pub written_sparse : (i : ℕ) (d : Descriptor Ref MadeSymbol) (os : Places) (rest : Entries) → length os ≤ i → present 0 os ++ insert_entry nat_cmp rest i d ≡ insert_entry nat_cmp (present 0 os ++ rest) i d
 written_sparse i d os rest le = written_after i 0 d os rest (grind (arith))
 
-one_more : (n : ℕ) (d : Descriptor Ref) (os : Places) (rest : Entries) → present n (os ++ Some d ∷ []) ++ rest ≡ present n os ++ (n + length os, d) ∷ rest
+one_more : (n : ℕ) (d : Descriptor Ref MadeSymbol) (os : Places) (rest : Entries) → present n (os ++ Some d ∷ []) ++ rest ≡ present n os ++ (n + length os, d) ∷ rest
 one_more n d [] rest = ap (λ i. (i, d) ∷ rest) (grind (arith))
 one_more n d (None ∷ os) rest = one_more (suc n) d os rest ∙ ap (λ i. present (suc n) os ++ (i, d) ∷ rest) (grind (arith))
 one_more n d (Some o ∷ os) rest = ap (λ l. (n, o) ∷ l) (one_more (suc n) d os rest ∙ ap (λ i. present (suc n) os ++ (i, d) ∷ rest) (grind (arith)))
 
 -- the first index is not there, so all are past it
-not_there : (b : Bool) (v : Descriptor Ref) (rest : Option (Descriptor Ref)) → is_some (cond b (Some v) rest) ≡ false → (b ≡ false) × (is_some rest ≡ false)
+not_there : (b : Bool) (v : Descriptor Ref MadeSymbol) (rest : Option (Descriptor Ref MadeSymbol)) → is_some (cond b (Some v) rest) ≡ false → (b ≡ false) × (is_some rest ≡ false)
 not_there true v rest h = absurd cc
 not_there false v rest h = (refl, h)
 
@@ -157,21 +158,21 @@ more_past k (e ∷ es) none past =
     other : (a b : ℕ) → is_eq (nat_cmp a b) ≡ false → a ≤ b → suc a ≤ b
     other a b h le = grind (arith, nat_tests)
 
-one_longer : (os : Places) (d : Descriptor Ref) → length (os ++ Some d ∷ []) ≤ suc (length os)
+one_longer : (os : Places) (d : Descriptor Ref MadeSymbol) → length (os ++ Some d ∷ []) ≤ suc (length os)
 one_longer os d = let l = length_push os (Some d) in grind (arith)
 
-pub past_next : (i : ℕ) (os : Places) (d : Descriptor Ref) (rest : Entries) → i ≡ length os → is_some (lookup (is_at (nat_cmp i)) rest) ≡ false → Past (length os) rest → Past (length (os ++ Some d ∷ [])) rest
+pub past_next : (i : ℕ) (os : Places) (d : Descriptor Ref MadeSymbol) (rest : Entries) → i ≡ length os → is_some (lookup (is_at (nat_cmp i)) rest) ≡ false → Past (length os) rest → Past (length (os ++ Some d ∷ [])) rest
 past_next i os d rest same none past =
     weaken (length (os ++ Some d ∷ [])) (suc (length os)) rest (one_longer os d) (more_past (length os) rest (ap (λ k. is_some (lookup (is_at (nat_cmp k)) rest)) (sym same) ∙ none) past)
 
-pub written_next : (i : ℕ) (d : Descriptor Ref) (os : Places) (rest : Entries) → i ≡ length os → is_some (lookup (is_at (nat_cmp i)) rest) ≡ false → Past (length os) rest → present 0 (os ++ Some d ∷ []) ++ rest ≡ insert_entry nat_cmp (present 0 os ++ rest) i d
+pub written_next : (i : ℕ) (d : Descriptor Ref MadeSymbol) (os : Places) (rest : Entries) → i ≡ length os → is_some (lookup (is_at (nat_cmp i)) rest) ≡ false → Past (length os) rest → present 0 (os ++ Some d ∷ []) ++ rest ≡ insert_entry nat_cmp (present 0 os ++ rest) i d
 written_next i d os rest same none past =
     one_more 0 d os rest
     ∙ ap (λ k. present 0 os ++ (k, d) ∷ rest) (sym (from_zero (length os)) ∙ sym same)
     ∙ ap (λ l. present 0 os ++ l) (sym (put_front i d rest (weaken (suc i) (suc (length os)) rest (grind (arith)) (more_past (length os) rest (ap (λ k. is_some (lookup (is_at (nat_cmp k)) rest)) (sym same) ∙ none) past))))
     ∙ written_sparse i d os rest (grind (arith))
 
-pub past_written : (k i : ℕ) (d : Descriptor Ref) (es : Entries) → k ≤ i → Past k es → Past k (insert_entry nat_cmp es i d)
+pub past_written : (k i : ℕ) (d : Descriptor Ref MadeSymbol) (es : Entries) → k ≤ i → Past k es → Past k (insert_entry nat_cmp es i d)
 past_written k i d [] le past = (le, record {})
 past_written k i d (e ∷ es) le past = by_order (nat_cmp i e.0) (past_written k i d es le past.1)
   where
@@ -228,7 +229,7 @@ none_at_end n (None ∷ os) = none_at_end (suc n) os
 none_at_end n (Some d ∷ os) = ap (λ l. (n, d) ∷ l) (none_at_end (suc n) os)
 
 -- a place that is read as empty is empty
-pub none_there : (xs : Places) (i : ℕ) (x : Option (Descriptor Ref)) → x ≡ get_or xs i x → is_some x ≡ false → get_or xs i None ≡ None
+pub none_there : (xs : Places) (i : ℕ) (x : Option (Descriptor Ref MadeSymbol)) → x ≡ get_or xs i x → is_some x ≡ false → get_or xs i None ≡ None
 none_there xs i None h none = sym h
 none_there xs i (Some d) h none = absurd cc
 
@@ -250,11 +251,11 @@ shown_less len os some le none =
 pub past_taken : (k : ℕ) (test : ℕ → Bool) (es fs : Entries) → fs ≡ remove_entry test es → Past k es → Past k fs
 past_taken k test es fs same past = rw same (past_removed k test es past)
 
-pub past_put : (k i : ℕ) (d : Descriptor Ref) (es fs : Entries) (r : Result (Unit {0}) OutOfMemory) → OnOk r (fs ≡ insert_entry nat_cmp es i d) → OnErr r (fs ≡ es) → k ≤ i → Past k es → Past k fs
+pub past_put : (k i : ℕ) (d : Descriptor Ref MadeSymbol) (es fs : Entries) (r : Result (Unit {0}) OutOfMemory) → OnOk r (fs ≡ insert_entry nat_cmp es i d) → OnErr r (fs ≡ es) → k ≤ i → Past k es → Past k fs
 past_put k i d es fs (Ok u) ok err le past = rw ok (past_written k i d es le past)
 past_put k i d es fs (Err e) ok err le past = rw err past
 
-pub kept_push : (i : ℕ) (d : Descriptor Ref) (os qs : Places) (es : Entries) (r : Result (Unit {0}) OutOfMemory) → OnOk r (qs ≡ os ++ Some d ∷ []) → OnErr r (qs ≡ os) → i < 4294967296 → i ≡ length os → is_some (lookup (is_at (nat_cmp i)) es) ≡ false → Past (length os) es → (length qs ≤ 4294967296) × Past (length qs) es
+pub kept_push : (i : ℕ) (d : Descriptor Ref MadeSymbol) (os qs : Places) (es : Entries) (r : Result (Unit {0}) OutOfMemory) → OnOk r (qs ≡ os ++ Some d ∷ []) → OnErr r (qs ≡ os) → i < 4294967296 → i ≡ length os → is_some (lookup (is_at (nat_cmp i)) es) ≡ false → Past (length os) es → (length qs ≤ 4294967296) × Past (length qs) es
 kept_push i d os qs es (Ok u) ok err fits same none past = rw ok (let l = one_longer os d in grind (arith), past_next i os d es same none past)
 kept_push i d os qs es (Err e) ok err fits same none past = rw err (grind (arith), past)
 

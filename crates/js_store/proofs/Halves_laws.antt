@@ -8,7 +8,8 @@ use Rattle.std.specs.Map.{keys_of, lookup, remove_entry}
 use Rattle.std.specs.Ordering.{is_eq, nat_cmp, match_ordering}
 use Rattle.std.specs.declared.cmp.Ordering.TheVariants.{Less}
 use Rattle.indexmap.specs.IndexMap.{insert_entry as insert_named}
-use Rattle.lava_base.specs.Ids.{same_ref}
+use Rattle.lava_base.specs.Ids.{same_made_symbol}
+use Rattle.lava_base.specs.declared.ids.MadeSymbol.{MadeSymbol}
 use Rattle.lava_base.specs.declared.ids.Ref.{Ref}
 use Rattle.js_text.specs.Values.{same_key}
 use Rattle.js_text.specs.declared.value.Key.{Key}
@@ -16,13 +17,13 @@ use Rattle.js_text.specs.declared.value.Key.TheVariants as key
 use Rattle.js_desc.specs.declared.descriptor.Descriptor.{Descriptor}
 use Rattle.js_store.specs.Halves.{index_entry, is_index, joined, IsNamed}
 use Rattle.js_store.specs.Order.{PrecedesAll, IsInOrder}
-use Rattle.js_store.specs.Objects.{own_of, goes_before, written, without, is_text, is_symbol, own_keys}
+use Rattle.js_store.specs.Objects.{ordinary_get_own_property, goes_before, written, without, is_text, is_symbol, ordinary_own_property_keys}
 
 abbrev Elements : Type 0
-Elements = List (ℕ × Descriptor Ref)
+Elements = List (ℕ × Descriptor Ref MadeSymbol)
 
 abbrev Named : Type 0
-Named = List (Key Ref × Descriptor Ref)
+Named = List (Key MadeSymbol × Descriptor Ref MadeSymbol)
 
 -- NUMBERS
 
@@ -35,54 +36,54 @@ ranked i j a b c = grind (arith, nat_tests)
 -- A KEY THAT IS NO INDEX
 
 -- it is not an index
-no_index : (k : Key Ref) (i : ℕ) → is_index k ≡ false → same_key same_ref k (key.Index i) ≡ false
+no_index : (k : Key MadeSymbol) (i : ℕ) → is_index k ≡ false → same_key same_made_symbol k (key.Index i) ≡ false
 no_index (key.Index j) i h = absurd cc
 no_index (key.Text t) i h = refl
 no_index (key.Symbol s) i h = refl
 
 -- and no index is it
-no_name : (k : Key Ref) (i : ℕ) → is_index k ≡ false → same_key same_ref (key.Index i) k ≡ false
+no_name : (k : Key MadeSymbol) (i : ℕ) → is_index k ≡ false → same_key same_made_symbol (key.Index i) k ≡ false
 no_name (key.Index j) i h = absurd cc
 no_name (key.Text t) i h = refl
 no_name (key.Symbol s) i h = refl
 
 -- it goes before no key
-goes_last : (k o : Key Ref) → is_index k ≡ false → goes_before k o ≡ false
+goes_last : (k o : Key MadeSymbol) → is_index k ≡ false → goes_before k o ≡ false
 goes_last (key.Index j) o h = absurd cc
 goes_last (key.Text t) o h = refl
 goes_last (key.Symbol s) o h = refl
 
 -- each index goes before it
-goes_first : (k : Key Ref) (i : ℕ) → is_index k ≡ false → goes_before (key.Index i) k ≡ true
+goes_first : (k : Key MadeSymbol) (i : ℕ) → is_index k ≡ false → goes_before (key.Index i) k ≡ true
 goes_first (key.Index j) i h = absurd cc
 goes_first (key.Text t) i h = refl
 goes_first (key.Symbol s) i h = refl
 
 -- WHAT IS FOUND
 
-absent : (i : ℕ) (ns : Named) → IsNamed ns → own_of same_ref (key.Index i) ns ≡ None
+absent : (i : ℕ) (ns : Named) → IsNamed ns → ordinary_get_own_property same_made_symbol (key.Index i) ns ≡ None
 absent i [] named = refl
-absent i (n ∷ ns) named = ap (λ b. cond b (Some n.1) (own_of same_ref (key.Index i) ns)) (no_name n.0 i named.0) ∙ absent i ns named.1
+absent i (n ∷ ns) named = ap (λ b. cond b (Some n.1) (ordinary_get_own_property same_made_symbol (key.Index i) ns)) (no_name n.0 i named.0) ∙ absent i ns named.1
 
-pub own_index : (i : ℕ) (es : Elements) (ns : Named) → IsNamed ns → own_of same_ref (key.Index i) (joined es ns) ≡ lookup (is_at (nat_cmp i)) es
+pub own_index : (i : ℕ) (es : Elements) (ns : Named) → IsNamed ns → ordinary_get_own_property same_made_symbol (key.Index i) (joined es ns) ≡ lookup (is_at (nat_cmp i)) es
 own_index i [] ns named = absent i ns named
 own_index i (e ∷ es) ns named =
-    ap (λ b. cond b (Some e.1) (own_of same_ref (key.Index i) (joined es ns))) (sym (at_is i e.0))
+    ap (λ b. cond b (Some e.1) (ordinary_get_own_property same_made_symbol (key.Index i) (joined es ns))) (sym (at_is i e.0))
     ∙ ap (λ r. cond (is_eq (nat_cmp i e.0)) (Some e.1) r) (own_index i es ns named)
 
-pub own_named : (k : Key Ref) (es : Elements) (ns : Named) → is_index k ≡ false → own_of same_ref k (joined es ns) ≡ lookup (same_key same_ref k) ns
+pub own_named : (k : Key MadeSymbol) (es : Elements) (ns : Named) → is_index k ≡ false → ordinary_get_own_property same_made_symbol k (joined es ns) ≡ lookup (same_key same_made_symbol k) ns
 own_named k [] ns h = refl
-own_named k (e ∷ es) ns h = ap (λ b. cond b (Some e.1) (own_of same_ref k (joined es ns))) (no_index k e.0 h) ∙ own_named k es ns h
+own_named k (e ∷ es) ns h = ap (λ b. cond b (Some e.1) (ordinary_get_own_property same_made_symbol k (joined es ns))) (no_index k e.0 h) ∙ own_named k es ns h
 
 -- WHAT IS WRITTEN
 
-put_first : (i : ℕ) (d : Descriptor Ref) (ns : Named) → IsNamed ns → written same_ref (key.Index i) d ns ≡ (key.Index i, d) ∷ ns
+put_first : (i : ℕ) (d : Descriptor Ref MadeSymbol) (ns : Named) → IsNamed ns → written same_made_symbol (key.Index i) d ns ≡ (key.Index i, d) ∷ ns
 put_first i d [] named = refl
 put_first i d (n ∷ ns) named =
-    ap (λ b. cond b ((n.0, d) ∷ ns) (cond (goes_before (key.Index i) n.0) ((key.Index i, d) ∷ n ∷ ns) (n ∷ written same_ref (key.Index i) d ns))) (no_name n.0 i named.0)
-    ∙ ap (λ b. cond b ((key.Index i, d) ∷ n ∷ ns) (n ∷ written same_ref (key.Index i) d ns)) (goes_first n.0 i named.0)
+    ap (λ b. cond b ((n.0, d) ∷ ns) (cond (goes_before (key.Index i) n.0) ((key.Index i, d) ∷ n ∷ ns) (n ∷ written same_made_symbol (key.Index i) d ns))) (no_name n.0 i named.0)
+    ∙ ap (λ b. cond b ((key.Index i, d) ∷ n ∷ ns) (n ∷ written same_made_symbol (key.Index i) d ns)) (goes_first n.0 i named.0)
 
-moved_in : (i : ℕ) (e : ℕ × Descriptor Ref) (a b c : Elements) (ns : Named)
+moved_in : (i : ℕ) (e : ℕ × Descriptor Ref MadeSymbol) (a b c : Elements) (ns : Named)
     → joined (match_ordering (nat_cmp i e.0) a b c) ns ≡ cond (nat_eq i e.0) (joined b ns) (cond (nat_lt i e.0) (joined a ns) (joined c ns))
 moved_in i e a b c ns = ap (λ es. joined es ns) (ranked i e.0 a b c) ∙ outside (nat_eq i e.0) (nat_lt i e.0)
   where
@@ -91,63 +92,63 @@ moved_in i e a b c ns = ap (λ es. joined es ns) (ranked i e.0 a b c) ∙ outsid
     outside false true = refl
     outside false false = refl
 
-pub written_index : (i : ℕ) (d : Descriptor Ref) (es : Elements) (ns : Named) → IsNamed ns → joined (insert_entry nat_cmp es i d) ns ≡ written same_ref (key.Index i) d (joined es ns)
+pub written_index : (i : ℕ) (d : Descriptor Ref MadeSymbol) (es : Elements) (ns : Named) → IsNamed ns → joined (insert_entry nat_cmp es i d) ns ≡ written same_made_symbol (key.Index i) d (joined es ns)
 written_index i d [] ns named = sym (put_first i d ns named)
 written_index i d (e ∷ es) ns named =
     moved_in i e ((i, d) ∷ e ∷ es) ((e.0, d) ∷ es) (e ∷ insert_entry nat_cmp es i d) ns
     ∙ ap (λ l. cond (nat_eq i e.0) ((key.Index e.0, d) ∷ joined es ns) (cond (nat_lt i e.0) ((key.Index i, d) ∷ index_entry e ∷ joined es ns) (index_entry e ∷ l))) (written_index i d es ns named)
 
-put_last : (k : Key Ref) (d : Descriptor Ref) (ns : Named) → is_index k ≡ false → insert_named (same_key same_ref) ns k d ≡ written same_ref k d ns
+put_last : (k : Key MadeSymbol) (d : Descriptor Ref MadeSymbol) (ns : Named) → is_index k ≡ false → insert_named (same_key same_made_symbol) ns k d ≡ written same_made_symbol k d ns
 put_last k d [] h = refl
 put_last k d (n ∷ ns) h =
-    ap (λ l. cond (same_key same_ref k n.0) ((n.0, d) ∷ ns) (n ∷ l)) (put_last k d ns h)
-    ∙ sym (ap (λ b. cond (same_key same_ref k n.0) ((n.0, d) ∷ ns) (cond b ((k, d) ∷ n ∷ ns) (n ∷ written same_ref k d ns))) (goes_last k n.0 h))
+    ap (λ l. cond (same_key same_made_symbol k n.0) ((n.0, d) ∷ ns) (n ∷ l)) (put_last k d ns h)
+    ∙ sym (ap (λ b. cond (same_key same_made_symbol k n.0) ((n.0, d) ∷ ns) (cond b ((k, d) ∷ n ∷ ns) (n ∷ written same_made_symbol k d ns))) (goes_last k n.0 h))
 
-pub written_named : (k : Key Ref) (d : Descriptor Ref) (es : Elements) (ns : Named) → is_index k ≡ false → joined es (insert_named (same_key same_ref) ns k d) ≡ written same_ref k d (joined es ns)
+pub written_named : (k : Key MadeSymbol) (d : Descriptor Ref MadeSymbol) (es : Elements) (ns : Named) → is_index k ≡ false → joined es (insert_named (same_key same_made_symbol) ns k d) ≡ written same_made_symbol k d (joined es ns)
 written_named k d [] ns h = put_last k d ns h
 written_named k d (e ∷ es) ns h =
     ap (λ l. index_entry e ∷ l) (written_named k d es ns h)
-    ∙ sym (ap (λ b. cond b ((key.Index e.0, d) ∷ joined es ns) (cond (goes_before k (key.Index e.0)) ((k, d) ∷ index_entry e ∷ joined es ns) (index_entry e ∷ written same_ref k d (joined es ns)))) (no_index k e.0 h)
-    ∙ ap (λ b. cond b ((k, d) ∷ index_entry e ∷ joined es ns) (index_entry e ∷ written same_ref k d (joined es ns))) (goes_last k (key.Index e.0) h))
+    ∙ sym (ap (λ b. cond b ((key.Index e.0, d) ∷ joined es ns) (cond (goes_before k (key.Index e.0)) ((k, d) ∷ index_entry e ∷ joined es ns) (index_entry e ∷ written same_made_symbol k d (joined es ns)))) (no_index k e.0 h)
+    ∙ ap (λ b. cond b ((k, d) ∷ index_entry e ∷ joined es ns) (index_entry e ∷ written same_made_symbol k d (joined es ns))) (goes_last k (key.Index e.0) h))
 
 -- no index comes in
-pub named_written : (k : Key Ref) (d : Descriptor Ref) (ns : Named) → is_index k ≡ false → IsNamed ns → IsNamed (insert_named (same_key same_ref) ns k d)
+pub named_written : (k : Key MadeSymbol) (d : Descriptor Ref MadeSymbol) (ns : Named) → is_index k ≡ false → IsNamed ns → IsNamed (insert_named (same_key same_made_symbol) ns k d)
 named_written k d [] h named = (h, cc)
-named_written k d (n ∷ ns) h named = by_test (same_key same_ref k n.0) (named_written k d ns h named.1)
+named_written k d (n ∷ ns) h named = by_test (same_key same_made_symbol k n.0) (named_written k d ns h named.1)
   where
-    by_test : (b : Bool) → IsNamed (insert_named (same_key same_ref) ns k d) → IsNamed (cond b ((n.0, d) ∷ ns) (n ∷ insert_named (same_key same_ref) ns k d))
+    by_test : (b : Bool) → IsNamed (insert_named (same_key same_made_symbol) ns k d) → IsNamed (cond b ((n.0, d) ∷ ns) (n ∷ insert_named (same_key same_made_symbol) ns k d))
     by_test true rest = named
     by_test false rest = (named.0, rest)
 
 -- WHAT IS TAKEN OUT
 
-untouched : (i : ℕ) (ns : Named) → IsNamed ns → without same_ref (key.Index i) ns ≡ ns
+untouched : (i : ℕ) (ns : Named) → IsNamed ns → without same_made_symbol (key.Index i) ns ≡ ns
 untouched i [] named = refl
-untouched i (n ∷ ns) named = ap (λ b. cond b ns (n ∷ without same_ref (key.Index i) ns)) (no_name n.0 i named.0) ∙ ap (λ l. n ∷ l) (untouched i ns named.1)
+untouched i (n ∷ ns) named = ap (λ b. cond b ns (n ∷ without same_made_symbol (key.Index i) ns)) (no_name n.0 i named.0) ∙ ap (λ l. n ∷ l) (untouched i ns named.1)
 
-taken_in : (e : ℕ × Descriptor Ref) (a : Elements) (b : Elements) (ns : Named) (t : Bool) → joined (cond t a (e ∷ b)) ns ≡ cond t (joined a ns) (index_entry e ∷ joined b ns)
+taken_in : (e : ℕ × Descriptor Ref MadeSymbol) (a : Elements) (b : Elements) (ns : Named) (t : Bool) → joined (cond t a (e ∷ b)) ns ≡ cond t (joined a ns) (index_entry e ∷ joined b ns)
 taken_in e a b ns true = refl
 taken_in e a b ns false = refl
 
-pub without_index : (i : ℕ) (es : Elements) (ns : Named) → IsNamed ns → joined (remove_entry (is_at (nat_cmp i)) es) ns ≡ without same_ref (key.Index i) (joined es ns)
+pub without_index : (i : ℕ) (es : Elements) (ns : Named) → IsNamed ns → joined (remove_entry (is_at (nat_cmp i)) es) ns ≡ without same_made_symbol (key.Index i) (joined es ns)
 without_index i [] ns named = sym (untouched i ns named)
 without_index i (e ∷ es) ns named =
     taken_in e es (remove_entry (is_at (nat_cmp i)) es) ns (is_eq (nat_cmp i e.0))
     ∙ ap (λ b. cond b (joined es ns) (index_entry e ∷ joined (remove_entry (is_at (nat_cmp i)) es) ns)) (at_is i e.0)
     ∙ ap (λ l. cond (nat_eq i e.0) (joined es ns) (index_entry e ∷ l)) (without_index i es ns named)
 
-pub without_named : (k : Key Ref) (es : Elements) (ns : Named) → is_index k ≡ false → joined es (remove_entry (same_key same_ref k) ns) ≡ without same_ref k (joined es ns)
+pub without_named : (k : Key MadeSymbol) (es : Elements) (ns : Named) → is_index k ≡ false → joined es (remove_entry (same_key same_made_symbol k) ns) ≡ without same_made_symbol k (joined es ns)
 without_named k [] ns h = refl
 without_named k (e ∷ es) ns h =
     ap (λ l. index_entry e ∷ l) (without_named k es ns h)
-    ∙ sym (ap (λ b. cond b (joined es ns) (index_entry e ∷ without same_ref k (joined es ns))) (no_index k e.0 h))
+    ∙ sym (ap (λ b. cond b (joined es ns) (index_entry e ∷ without same_made_symbol k (joined es ns))) (no_index k e.0 h))
 
 -- no index comes in
-pub named_without : (k : Key Ref) (ns : Named) → IsNamed ns → IsNamed (remove_entry (same_key same_ref k) ns)
+pub named_without : (k : Key MadeSymbol) (ns : Named) → IsNamed ns → IsNamed (remove_entry (same_key same_made_symbol k) ns)
 named_without k [] named = cc
-named_without k (n ∷ ns) named = by_test (same_key same_ref k n.0) (named_without k ns named.1)
+named_without k (n ∷ ns) named = by_test (same_key same_made_symbol k n.0) (named_without k ns named.1)
   where
-    by_test : (b : Bool) → IsNamed (remove_entry (same_key same_ref k) ns) → IsNamed (cond b ns (n ∷ remove_entry (same_key same_ref k) ns))
+    by_test : (b : Bool) → IsNamed (remove_entry (same_key same_made_symbol k) ns) → IsNamed (cond b ns (n ∷ remove_entry (same_key same_made_symbol k) ns))
     by_test true rest = named.1
     by_test false rest = (named.0, rest)
 
@@ -161,31 +162,31 @@ no_symbols_first : (es : Elements) (ns : Named) → filter is_symbol (keys_of (j
 no_symbols_first [] ns = refl
 no_symbols_first (e ∷ es) ns = no_symbols_first es ns
 
-pub keys_joined : (es : Elements) (ns : Named) → own_keys (joined es ns) ≡ (map key.Index (keys_of es) ++ filter is_text (keys_of ns)) ++ filter is_symbol (keys_of ns)
+pub keys_joined : (es : Elements) (ns : Named) → ordinary_own_property_keys (joined es ns) ≡ (map key.Index (keys_of es) ++ filter is_text (keys_of ns)) ++ filter is_symbol (keys_of ns)
 keys_joined es ns = λ j. texts_first es ns j ++ no_symbols_first es ns j
 
 -- THE ORDER
 
 -- an index may stand before each greater one
-precedes_elements : (i : ℕ) (es : Elements) (ns : Named) → AllByRecursion (λ j. nat_cmp i j ≡ Less) (keys_of es) → PrecedesAll same_ref (key.Index i) ns → PrecedesAll same_ref (key.Index i) (joined es ns)
+precedes_elements : (i : ℕ) (es : Elements) (ns : Named) → AllByRecursion (λ j. nat_cmp i j ≡ Less) (keys_of es) → PrecedesAll same_made_symbol (key.Index i) ns → PrecedesAll same_made_symbol (key.Index i) (joined es ns)
 precedes_elements i [] ns less named = named
 precedes_elements i (e ∷ es) ns less named = (record { other = grind (arith, nat_tests); before = grind (arith, nat_tests) }, precedes_elements i es ns less.1 named)
 
 -- and before each key that is no index
-precedes_named : (i : ℕ) (ns : Named) → IsNamed ns → PrecedesAll same_ref (key.Index i) ns
+precedes_named : (i : ℕ) (ns : Named) → IsNamed ns → PrecedesAll same_made_symbol (key.Index i) ns
 precedes_named i [] named = record {}
 precedes_named i (n ∷ ns) named = (record { other = no_name n.0 i named.0; before = goes_last n.0 (key.Index i) named.0 }, precedes_named i ns named.1)
 
-others_precede : (k : Key Ref) (ns : Named) → AllByRecursion (λ o. same_key same_ref k o ≡ false) (keys_of ns) → IsNamed ns → PrecedesAll same_ref k ns
+others_precede : (k : Key MadeSymbol) (ns : Named) → AllByRecursion (λ o. same_key same_made_symbol k o ≡ false) (keys_of ns) → IsNamed ns → PrecedesAll same_made_symbol k ns
 others_precede k [] distinct named = record {}
 others_precede k (n ∷ ns) distinct named = (record { other = distinct.0; before = goes_last n.0 k named.0 }, others_precede k ns distinct.1 named.1)
 
-named_in_order : (ns : Named) → IsDistinct (same_key same_ref) (keys_of ns) → IsNamed ns → IsInOrder same_ref ns
+named_in_order : (ns : Named) → IsDistinct (same_key same_made_symbol) (keys_of ns) → IsNamed ns → IsInOrder same_made_symbol ns
 unfolding IsDistinct
 named_in_order [] distinct named = record {}
 named_in_order (n ∷ ns) distinct named = (others_precede n.0 ns distinct.0 named.1, named_in_order ns distinct.1 named.1)
 
-pub joined_in_order : (es : Elements) (ns : Named) → IsStrictlySortedBy nat_cmp (keys_of es) → IsDistinct (same_key same_ref) (keys_of ns) → IsNamed ns → IsInOrder same_ref (joined es ns)
+pub joined_in_order : (es : Elements) (ns : Named) → IsStrictlySortedBy nat_cmp (keys_of es) → IsDistinct (same_key same_made_symbol) (keys_of ns) → IsNamed ns → IsInOrder same_made_symbol (joined es ns)
 unfolding IsStrictlySortedBy
 joined_in_order [] ns sorted distinct named = named_in_order ns distinct named
 joined_in_order (e ∷ es) ns sorted distinct named = (precedes_elements e.0 es ns sorted.0 (precedes_named e.0 ns named), joined_in_order es ns sorted.1 distinct named)

@@ -5,14 +5,14 @@ use Rattle.std.proofs.lemmas.List.{length-set, length_push, get_or-set_same, get
 use Rattle.js_store.specs.Laws.{IsOneChanged, IsOneMore}
 use Rattle.js_store.specs.Objects.{Object, object_at, at_place}
 
-pub one_changed : {R : Type 0} (objects : List (Object R)) (id : ℕ) (f : Object R → Object R) → id < length objects → IsOneChanged objects (at_place objects id f) id f
+pub one_changed : {R S : Type 0} (objects : List (Object R S)) (id : ℕ) (f : Object R S → Object R S) → id < length objects → IsOneChanged objects (at_place objects id f) id f
 one_changed objects id f lt = record {
   count = length-set objects id (f (object_at objects id));
   changed = get_or-set_same objects id (f (object_at objects id)) _ lt;
   others = λ other apart. get_or-set_other objects id other (f (object_at objects id)) _ apart;
 }
 
-pub one_more : {R : Type 0} (objects : List (Object R)) (o : Object R) → IsOneMore objects (objects ++ o ∷ []) o
+pub one_more : {R S : Type 0} (objects : List (Object R S)) (o : Object R S) → IsOneMore objects (objects ++ o ∷ []) o
 one_more objects o = record {
   count = length_push objects o;
   made = get_or-append_seam objects o [] _;

@@ -7,7 +7,7 @@ use Rattle.std.specs.Map.{keys_of}
 use Rattle.js_text.specs.SameKeys.{same_key_decides, same_key_equiv}
 use Rattle.js_text.specs.declared.value.Key.{Key}
 use Rattle.js_store.specs.Laws.{Keys_are_the_own_ones, Properties}
-use Rattle.js_store.specs.Objects.{is_symbol, is_text, own_keys}
+use Rattle.js_store.specs.Objects.{is_symbol, is_text, ordinary_own_property_keys}
 
 module _ {X : Type 0} (p : X → Bool) where
   -- what is kept was there
@@ -35,18 +35,18 @@ module _ {X : Type 0} (p : X → Bool) where
   kept xs x here = All-contains (λ y. p y ≡ true → Contains (filter p xs) y) xs x (all_kept xs) here
 
 -- texts and symbols are all keys
-all_keys : {R : Type 0} (ps : Properties R) (k : Key R) → Contains (keys_of ps) k → Contains (own_keys ps) k
+all_keys : {R S : Type 0} (ps : Properties R S) (k : Key S) → Contains (keys_of ps) k → Contains (ordinary_own_property_keys ps) k
 all_keys {R} ps k here = by_test (is_symbol k) refl
   where
-    by_test : (b : Bool) → is_symbol k ≡ b → Contains (own_keys ps) k
+    by_test : (b : Bool) → is_symbol k ≡ b → Contains (ordinary_own_property_keys ps) k
     by_test true h = Contains-append_right (filter is_text (keys_of ps)) (filter is_symbol (keys_of ps)) k (kept is_symbol (keys_of ps) k here h)
     by_test false h = Contains-append_left (filter is_text (keys_of ps)) (filter is_symbol (keys_of ps)) k (kept is_text (keys_of ps) k here (ap not h))
 
-no_more : {R : Type 0} (ps : Properties R) (k : Key R) → Contains (own_keys ps) k → Contains (keys_of ps) k
+no_more : {R S : Type 0} (ps : Properties R S) (k : Key S) → Contains (ordinary_own_property_keys ps) k → Contains (keys_of ps) k
 no_more ps k here = ⊎_elim (from_kept is_text (keys_of ps) k) (from_kept is_symbol (keys_of ps) k) (Contains-append_cases (filter is_text (keys_of ps)) (filter is_symbol (keys_of ps)) k here)
 
-pub keys_are_the_own_ones : (R : Type 0) → Keys_are_the_own_ones R
-keys_are_the_own_ones R same decides k ps = (
+pub keys_are_the_own_ones : (R S : Type 0) → Keys_are_the_own_ones R S
+keys_are_the_own_ones R S same decides k ps = (
   λ found. all_keys ps k (Contains-keys_from_lookup (λ x y. (same_key_decides decides x y).0) k ps found),
   λ here. IsSome-lookup_from_Contains (same_key_equiv decides) k ps (no_more ps k here),
 )

@@ -1,4 +1,5 @@
 pub mod Bare_laws
+pub mod Common_laws
 pub mod Dense_laws
 pub mod Halves_laws
 pub mod Ids_laws

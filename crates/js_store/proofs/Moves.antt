@@ -1,14 +1,14 @@
--- Object records are carried along a path of types of references by renaming their references.
+-- Object records are carried along a path of types of references and one of types of made symbols by renaming both.
 use Rattle.std.proofs.Common.{◌≡◌, Bool, List, map, refl}
 use Rattle.lava_base.specs.declared.marks.Marks.{Marks}
 use Rattle.js_text.specs.Maps.{map_key, map_value}
 use Rattle.js_text.specs.declared.value.Key.{Key}
 use Rattle.js_text.specs.declared.value.Value.{Value}
-use Rattle.js_text.proofs.Moves.{to, key_moves, value_moves}
+use Rattle.js_text.proofs.Moves.{to, to_symbol, key_moves, value_moves}
 use Rattle.js_desc.specs.Maps.{map_descriptor}
 use Rattle.js_desc.specs.declared.decision.BodyId.{BodyId}
 use Rattle.js_desc.specs.declared.descriptor.Descriptor.{Descriptor}
-use Rattle.js_desc.proofs.Moves.{option_moves, list_moves, pair_moves, reference_moves, values_move, descriptor_moves}
+use Rattle.js_desc.proofs.Moves.{option_moves, list_moves, reference_moves, values_move, descriptor_moves}
 use Rattle.js_store.specs.Maps.{map_lexical, map_live, map_held, map_proxied, map_entry, map_reaction, map_promise, map_slot, map_property, map_object}
 use Rattle.js_store.specs.Objects.{Object}
 use Rattle.js_store.specs.declared.slot.Entry.{Entry}
@@ -24,53 +24,53 @@ use Rattle.js_store.specs.declared.slot.Reaction.{Reaction}
 use Rattle.js_store.specs.declared.slot.Slot.{Slot}
 use Rattle.js_store.specs.declared.slot.Slot.TheVariants as slot
 
-module _ {A B : Type 0} (p : A ≡ B) where
-  pub lexical_moves : (l : Lexical A) → coe 0 1 (i. Lexical (p i)) l ≡ map_lexical (to p) l
-  lexical_moves l = λ j. record { this = option_moves p Value (map_value (to p)) (value_moves p) l.this j; new_target = reference_moves p l.new_target j; function = reference_moves p l.function j }
+module _ {A B S T : Type 0} (p : A ≡ B) (q : S ≡ T) where
+  pub lexical_moves : (l : Lexical A S) → coe 0 1 (i. Lexical (p i) (q i)) l ≡ map_lexical (to p) (to_symbol q) l
+  lexical_moves l = λ j. record { this = option_moves (λ i. Value (p i) (q i)) (map_value (to p) (to_symbol q)) (value_moves p q) l.this j; new_target = reference_moves p q l.new_target j; function = reference_moves p q l.function j }
 
-  pub live_moves : (l : Live A) → coe 0 1 (i. Live (p i)) l ≡ map_live (to p) l
-  live_moves l = λ j. record { global = to p l.global; name = key_moves p l.name j; member = option_moves p Key (map_key (to p)) (key_moves p) l.member j }
+  pub live_moves : (l : Live A S) → coe 0 1 (i. Live (p i) (q i)) l ≡ map_live (to p) (to_symbol q) l
+  live_moves l = λ j. record { global = to p l.global; name = key_moves q l.name j; member = option_moves (λ i. Key (q i)) (map_key (to_symbol q)) (key_moves q) l.member j }
 
-  pub held_moves : (h : Held A) → coe 0 1 (i. Held (p i)) h ≡ map_held (to p) h
+  pub held_moves : (h : Held A S) → coe 0 1 (i. Held (p i) (q i)) h ≡ map_held (to p) (to_symbol q) h
   held_moves (held.Require module') = refl
   held_moves held.ModuleMap = refl
   held_moves (held.LiveGetter l) = λ j. held.LiveGetter (live_moves l j)
   held_moves (held.LiveSetter l) = λ j. held.LiveSetter (live_moves l j)
-  held_moves (held.RepairGetter v) = λ j. held.RepairGetter (value_moves p v j)
-  held_moves (held.RepairSetter prototype key) = λ j. held.RepairSetter (to p prototype) (key_moves p key j)
+  held_moves (held.RepairGetter v) = λ j. held.RepairGetter (value_moves p q v j)
+  held_moves (held.RepairSetter prototype key) = λ j. held.RepairSetter (to p prototype) (key_moves q key j)
 
   pub proxied_moves : (x : Proxied A) → coe 0 1 (i. Proxied (p i)) x ≡ map_proxied (to p) x
   proxied_moves x = refl
 
-  pub entry_moves : (e : Entry A) → coe 0 1 (i. Entry (p i)) e ≡ map_entry (to p) e
-  entry_moves e = λ j. record { key = value_moves p e.key j; value = value_moves p e.value j; live = coe j 1 (_. Bool) e.live }
+  pub entry_moves : (e : Entry A S) → coe 0 1 (i. Entry (p i) (q i)) e ≡ map_entry (to p) (to_symbol q) e
+  entry_moves e = λ j. record { key = value_moves p q e.key j; value = value_moves p q e.value j; live = coe j 1 (_. Bool) e.live }
 
   pub reaction_moves : (r : Reaction A) → coe 0 1 (i. Reaction (p i)) r ≡ map_reaction (to p) r
   reaction_moves r = refl
 
-  pub promise_moves : (x : Promise A) → coe 0 1 (i. Promise (p i)) x ≡ map_promise (to p) x
-  promise_moves x = λ j. record { state = coe j 1 (_. PromiseState) x.state; value = value_moves p x.value j; reactions = list_moves p Reaction (map_reaction (to p)) reaction_moves x.reactions j }
+  pub promise_moves : (x : Promise A S) → coe 0 1 (i. Promise (p i) (q i)) x ≡ map_promise (to p) (to_symbol q) x
+  promise_moves x = λ j. record { state = coe j 1 (_. PromiseState) x.state; value = value_moves p q x.value j; reactions = list_moves (λ i. Reaction (p i)) (map_reaction (to p)) reaction_moves x.reactions j }
 
-  pub slot_moves : (s : Slot A) → coe 0 1 (i. Slot (p i)) s ≡ map_slot (to p) s
+  pub slot_moves : (s : Slot A S) → coe 0 1 (i. Slot (p i) (q i)) s ≡ map_slot (to p) (to_symbol q) s
   slot_moves slot.Plain = refl
-  slot_moves (slot.Closure body home lexical) = λ j. slot.Closure (coe j 1 (_. BodyId) body) (reference_moves p home j) (option_moves p Lexical (map_lexical (to p)) lexical_moves lexical j)
+  slot_moves (slot.Closure body home lexical) = λ j. slot.Closure (coe j 1 (_. BodyId) body) (reference_moves p q home j) (option_moves (λ i. Lexical (p i) (q i)) (map_lexical (to p) (to_symbol q)) lexical_moves lexical j)
   slot_moves (slot.Held h) = λ j. slot.Held (held_moves h j)
-  slot_moves (slot.Bound target this args) = λ j. slot.Bound (to p target) (value_moves p this j) (values_move p args j)
-  slot_moves (slot.Proxy x) = λ j. slot.Proxy (option_moves p Proxied (map_proxied (to p)) proxied_moves x j)
-  slot_moves (slot.Table es) = λ j. slot.Table (list_moves p Entry (map_entry (to p)) entry_moves es j)
+  slot_moves (slot.Bound target this args) = λ j. slot.Bound (to p target) (value_moves p q this j) (values_move p q args j)
+  slot_moves (slot.Proxy x) = λ j. slot.Proxy (option_moves (λ i. Proxied (p i)) (map_proxied (to p)) proxied_moves x j)
+  slot_moves (slot.Table es) = λ j. slot.Table (list_moves (λ i. Entry (p i) (q i)) (map_entry (to p) (to_symbol q)) entry_moves es j)
   slot_moves (slot.Chamber global) = refl
   slot_moves (slot.Promised x) = λ j. slot.Promised (promise_moves x j)
   slot_moves (slot.Namespace scope exports) = λ j. slot.Namespace scope (coe j 1 (_. List Export) exports)
 
-  pub property_moves : (x : Key A × Descriptor A) → coe 0 1 (i. Key (p i) × Descriptor (p i)) x ≡ map_property (to p) x
-  property_moves x = pair_moves p Key Descriptor (map_key (to p)) (map_descriptor (to p)) (key_moves p) (descriptor_moves p) x
+  pub property_moves : (x : Key S × Descriptor A S) → coe 0 1 (i. Key (q i) × Descriptor (p i) (q i)) x ≡ map_property (to p) (to_symbol q) x
+  property_moves x = λ j. (key_moves q x.0 j, descriptor_moves p q x.1 j)
 
-  pub properties_move : (ps : List (Key A × Descriptor A)) → coe 0 1 (i. List (Key (p i) × Descriptor (p i))) ps ≡ map (map_property (to p)) ps
-  properties_move ps = list_moves p (λ X. Key X × Descriptor X) (map_property (to p)) property_moves ps
+  pub properties_move : (ps : List (Key S × Descriptor A S)) → coe 0 1 (i. List (Key (q i) × Descriptor (p i) (q i))) ps ≡ map (map_property (to p) (to_symbol q)) ps
+  properties_move ps = list_moves (λ i. Key (q i) × Descriptor (p i) (q i)) (map_property (to p) (to_symbol q)) property_moves ps
 
-  pub object_moves : (o : Object A) → coe 0 1 (i. Object (p i)) o ≡ map_object (to p) o
+  pub object_moves : (o : Object A S) → coe 0 1 (i. Object (p i) (q i)) o ≡ map_object (to p) (to_symbol q) o
   object_moves o = λ j. record {
-    prototype = reference_moves p o.prototype j;
+    prototype = reference_moves p q o.prototype j;
     extensible = coe j 1 (_. Bool) o.extensible;
     properties = properties_move o.properties j;
     slot = slot_moves o.slot j;

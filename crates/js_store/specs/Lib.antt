@@ -2,8 +2,8 @@ pub mod Dense
 pub mod Foreign
 pub mod Frozen
 pub mod Halves
+pub mod Identities
 pub mod Laws
 pub mod Maps
 pub mod Objects
 pub mod Order
-pub mod References

@@ -30,11 +30,12 @@ impl Model for Elements {
     ghost use Rattle.std.specs.Prelude.{List, ℕ, ◌≤◌, ◌^◌, ◌++◌, length};
     ghost use Rattle.std.specs.List.{AllByRecursion};
     ghost use Rattle.std.specs.Map.{keys_of};
+    ghost use Rattle.lava_base.specs.declared.ids.MadeSymbol.{MadeSymbol};
     ghost use Rattle.lava_base.specs.declared.ids.Ref.{Ref};
     ghost use Rattle.js_desc.specs.declared.descriptor.Descriptor.{Descriptor as Property};
     ghost use Rattle.js_store.specs.Dense.{present};
 
-    ghost Value = { List (ℕ × Property Ref) };
+    ghost Value = { List (ℕ × Property Ref MadeSymbol) };
 
     ghost view = { λ e. present 0 e.dense.items ++ e.sparse.entries };
 

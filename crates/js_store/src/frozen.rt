@@ -1,10 +1,10 @@
 // The frozen common part.
 
-ghost use Rattle.std.specs.Prelude.{◌≡◌, ◌<◌, length, IfOk};
+ghost use Rattle.std.specs.Prelude.{◌≡◌, ◌<◌, length, map, IfOk};
 ghost use Rattle.std.specs.Option.{option_map};
-ghost use Rattle.lava_base.specs.Ids.{same_ref};
-ghost use Rattle.js_store.specs.Frozen.{IsFrozen, bare_objects};
-ghost use Rattle.js_store.specs.Objects.{object_at, own_of, own_keys};
+ghost use Rattle.lava_base.specs.Ids.{same_made_symbol};
+ghost use Rattle.js_store.specs.Frozen.{IsFrozen, as_read, bare_objects, common_at, common_part, common_ref};
+ghost use Rattle.js_store.specs.Objects.{ordinary_get_own_property, ordinary_own_property_keys};
 ghost use Rattle.js_store.specs.Order.{IsInOrder};
 
 use crate::flat::FlatStore;
@@ -28,22 +28,22 @@ pub struct FrozenStore {
 
 impl Model for FrozenStore {
     ghost use Rattle.std.specs.Prelude.{List};
-    ghost use Rattle.lava_base.specs.declared.ids.Ref.{Ref};
-    ghost use Rattle.js_store.specs.Frozen.{IsFrozen};
-    ghost use Rattle.js_store.specs.Objects.{Object};
+    ghost use Rattle.js_store.specs.Frozen.{CommonObject, IsFrozen, common_part};
 
-    ghost Value = { List (Object Ref) };
+    ghost Value = { List CommonObject };
 
-    ghost view = { λ s. s.store.objects };
+    ghost view = { λ s. common_part s.store.objects };
 
     ghost invariant = { λ s. IsFrozen s.store.objects };
 }
 
 impl FrozenStore {
     /// Takes the objects of a store in which all are frozen and every reference is to one of them, as to a common object: the object with the id N is that with the `CommonId` N. It takes no memory.
+    #[tactic(auto, using(crate::proofs::Common_laws::all_read))]
     pub fn freeze(store: FlatStore) -> FrozenStore
         requires { IsFrozen store.objects }
-        ensures { result ≡ store.objects }
+        ensures part { result ≡ common_part store.objects }
+        ensures same { map (as_read common_ref) result ≡ store.objects }
     {
         FrozenStore { store }
     }
@@ -51,7 +51,7 @@ impl FrozenStore {
     /// How many objects there are.
     pub fn count(&self) -> u32
         ensures count { result ≡ length self.now }
-        ensures frozen { IsFrozen self.now }
+        ensures frozen { IsFrozen (map (as_read common_ref) self.now) }
     {
         self.store.count()
     }
@@ -59,32 +59,32 @@ impl FrozenStore {
     /// What everyone may know of an object.
     pub fn marks(&self, id: CommonId) -> Marks
         requires { id.0 < length self.now }
-        ensures { result ≡ (object_at self.now id.0).marks }
+        ensures { result ≡ (common_at self.now id.0).marks }
     {
         self.store.marks(ObjId(id.0))
     }
 
-    /// The prototype; None is null.
+    /// The prototype, as a reference of the reader; None is null.
     pub fn proto(&self, id: CommonId) -> Option<Ref>
         requires { id.0 < length self.now }
-        ensures { result ≡ (object_at self.now id.0).prototype }
+        ensures { result ≡ (common_at self.now id.0).prototype }
     {
         self.store.proto(ObjId(id.0))
     }
 
-    /// The own property of a key.
+    /// The own property of a key (ECMA-262, OrdinaryGetOwnProperty), with references of the reader.
     pub fn own(&self, id: CommonId, key: &Key) -> Option<&Descriptor>
         requires { id.0 < length self.now }
-        ensures { option_map (λ d. d.now) result ≡ own_of same_ref key.now (object_at self.now id.0).properties }
+        ensures { option_map (λ d. d.now) result ≡ ordinary_get_own_property same_made_symbol key.now (common_at self.now id.0).properties }
     {
         self.store.own(ObjId(id.0), key)
     }
 
-    /// The own keys: array indices ascending, then other texts in order of creation, then symbols in order of creation.
+    /// The own keys: array indices ascending, then other texts in order of creation, then symbols in order of creation (ECMA-262, OrdinaryOwnPropertyKeys).
     pub fn keys(&self, alloc: Global, id: CommonId) -> Result<List<Key>, OutOfMemory>
         requires { id.0 < length self.now }
-        ensures keys { IfOk result (λ keys. keys ≡ own_keys (object_at self.now id.0).properties) }
-        ensures order { IsInOrder same_ref (object_at self.now id.0).properties }
+        ensures keys { IfOk result (λ keys. keys ≡ ordinary_own_property_keys (common_at self.now id.0).properties) }
+        ensures order { IsInOrder same_made_symbol (common_at self.now id.0).properties }
     {
         self.store.keys(alloc, ObjId(id.0))
     }
@@ -92,15 +92,15 @@ impl FrozenStore {
     /// Whether new properties may be made: never.
     pub fn extensible(&self, id: CommonId) -> bool
         requires { id.0 < length self.now }
-        ensures { result ≡ (object_at self.now id.0).extensible }
+        ensures { result ≡ (common_at self.now id.0).extensible }
     {
         self.store.extensible(ObjId(id.0))
     }
 
-    /// What the object keeps besides its properties.
+    /// What the object keeps besides its properties, with references of the reader.
     pub fn slot(&self, id: CommonId) -> &Slot
         requires { id.0 < length self.now }
-        ensures { result.now ≡ (object_at self.now id.0).slot }
+        ensures { result.now ≡ (common_at self.now id.0).slot }
     {
         self.store.slot(ObjId(id.0))
     }

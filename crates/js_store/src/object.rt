@@ -2,8 +2,8 @@
 
 ghost use Rattle.std.specs.Prelude.{◌≡◌, OnOk, OnErr, IfOk};
 ghost use Rattle.std.specs.Option.{option_map};
-ghost use Rattle.lava_base.specs.Ids.{same_ref};
-ghost use Rattle.js_store.specs.Objects.{fresh, own_of, own_keys, with_prototype, with_change, without_property, not_extensible, with_slot};
+ghost use Rattle.lava_base.specs.Ids.{same_made_symbol};
+ghost use Rattle.js_store.specs.Objects.{fresh, ordinary_get_own_property, ordinary_own_property_keys, with_prototype, with_change, without_property, not_extensible, with_slot};
 ghost use Rattle.js_store.specs.Order.{IsInOrder};
 
 use crate::properties::Properties;
@@ -29,10 +29,11 @@ pub(crate) struct FlatObject {
 }
 
 impl Model for FlatObject {
+    ghost use Rattle.lava_base.specs.declared.ids.MadeSymbol.{MadeSymbol};
     ghost use Rattle.lava_base.specs.declared.ids.Ref.{Ref};
     ghost use Rattle.js_store.specs.Objects.{Object};
 
-    ghost Value = { Object Ref };
+    ghost Value = { Object Ref MadeSymbol };
 
     ghost view = { λ o. record { prototype = o.prototype; extensible = o.extensible; properties = o.properties; slot = o.slot; marks = o.marks } };
 }
@@ -103,14 +104,14 @@ impl FlatObject {
 
     /// The own property of a key.
     pub(crate) fn own(&self, key: &Key) -> Option<&Descriptor>
-        ensures { option_map (λ d. d.now) result ≡ own_of same_ref key.now self.now.properties }
+        ensures { option_map (λ d. d.now) result ≡ ordinary_get_own_property same_made_symbol key.now self.now.properties }
     {
         self.properties.own(key)
     }
 
     /// Writes a property as a change says.
     pub(crate) fn apply(&mut self, key: Key, change: Change) -> Result<(), OutOfMemory>
-        ensures ok { OnOk result (self.new ≡ with_change same_ref key change self.old) }
+        ensures ok { OnOk result (self.new ≡ with_change same_made_symbol key change self.old) }
         ensures err { OnErr result (self.new ≡ self.old) }
     {
         match change {
@@ -121,15 +122,15 @@ impl FlatObject {
 
     /// Takes the property of a key out, if there is one.
     pub(crate) fn remove(&mut self, key: &Key)
-        ensures { self.new ≡ without_property same_ref key.now self.old }
+        ensures { self.new ≡ without_property same_made_symbol key.now self.old }
     {
         self.properties.remove(key);
     }
 
     /// The own keys.
     pub(crate) fn keys(&self, alloc: Global) -> Result<List<Key>, OutOfMemory>
-        ensures keys { IfOk result (λ keys. keys ≡ own_keys self.now.properties) }
-        ensures order { IsInOrder same_ref self.now.properties }
+        ensures keys { IfOk result (λ keys. keys ≡ ordinary_own_property_keys self.now.properties) }
+        ensures order { IsInOrder same_made_symbol self.now.properties }
     {
         self.properties.keys(alloc)
     }

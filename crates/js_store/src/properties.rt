@@ -3,10 +3,10 @@
 ghost use Rattle.std.specs.Prelude.{◌≡◌, ◌++◌, [], filter, OnOk, OnErr, IfOk};
 ghost use Rattle.std.specs.Map.{keys_of, remove_entry};
 ghost use Rattle.std.specs.Option.{option_map};
-ghost use Rattle.lava_base.specs.Ids.{same_ref};
+ghost use Rattle.lava_base.specs.Ids.{same_made_symbol};
 ghost use Rattle.js_text.specs.Values.{same_key};
 ghost use Rattle.indexmap.specs.IndexMap.{insert_entry};
-ghost use Rattle.js_store.specs.Objects.{own_of, own_keys, written, without, is_symbol, is_text};
+ghost use Rattle.js_store.specs.Objects.{ordinary_get_own_property, ordinary_own_property_keys, written, without, is_symbol, is_text};
 ghost use Rattle.js_store.specs.Order.{IsInOrder};
 
 use crate::elements::Elements;
@@ -30,12 +30,13 @@ pub(crate) struct Properties {
 
 impl Model for Properties {
     ghost use Rattle.std.specs.Prelude.{List};
+    ghost use Rattle.lava_base.specs.declared.ids.MadeSymbol.{MadeSymbol};
     ghost use Rattle.lava_base.specs.declared.ids.Ref.{Ref};
     ghost use Rattle.js_text.specs.declared.value.Key.{Key as Name};
     ghost use Rattle.js_desc.specs.declared.descriptor.Descriptor.{Descriptor as Property};
     ghost use Rattle.js_store.specs.Halves.{joined, IsNamed};
 
-    ghost Value = { List (Name Ref × Property Ref) };
+    ghost Value = { List (Name MadeSymbol × Property Ref MadeSymbol) };
 
     ghost view = { λ p. joined p.elements p.named.entries };
 
@@ -56,7 +57,7 @@ impl Properties {
     /// The property of a key.
     #[tactic(auto, using(crate::proofs::Halves_laws::own_index, crate::proofs::Halves_laws::own_named))]
     pub(crate) fn own(&self, key: &Key) -> Option<&Descriptor>
-        ensures { option_map (λ d. d.now) result ≡ own_of same_ref key.now self.now }
+        ensures { option_map (λ d. d.now) result ≡ ordinary_get_own_property same_made_symbol key.now self.now }
     {
         match key {
             Key::Index(index) => self.elements.get(*index),
@@ -67,7 +68,7 @@ impl Properties {
     /// Writes the property of a key.
     #[tactic(auto, using(crate::proofs::Halves_laws::written_index, crate::proofs::Halves_laws::written_named, crate::proofs::Halves_laws::named_written))]
     pub(crate) fn write(&mut self, key: Key, property: Descriptor) -> Result<(), OutOfMemory>
-        ensures ok { OnOk result (self.new ≡ written same_ref key property self.old) }
+        ensures ok { OnOk result (self.new ≡ written same_made_symbol key property self.old) }
         ensures err { OnErr result (self.new ≡ self.old) }
     {
         if let Key::Index(index) = key {
@@ -79,7 +80,7 @@ impl Properties {
     /// Takes the property of a key out, if there is one.
     #[tactic(auto, using(crate::proofs::Halves_laws::without_index, crate::proofs::Halves_laws::without_named, crate::proofs::Halves_laws::named_without))]
     pub(crate) fn remove(&mut self, key: &Key)
-        ensures { self.new ≡ without same_ref key.now self.old }
+        ensures { self.new ≡ without same_made_symbol key.now self.old }
     {
         match key {
             Key::Index(index) => self.elements.remove(*index),
@@ -90,8 +91,8 @@ impl Properties {
     /// The keys: array indices ascending, then other texts, then symbols.
     #[tactic(auto, using(crate::proofs::Halves_laws::keys_joined))]
     pub(crate) fn keys(&self, alloc: Global) -> Result<List<Key>, OutOfMemory>
-        ensures keys { IfOk result (λ keys. keys ≡ own_keys self.now) }
-        ensures order { IsInOrder same_ref self.now }
+        ensures keys { IfOk result (λ keys. keys ≡ ordinary_own_property_keys self.now) }
+        ensures order { IsInOrder same_made_symbol self.now }
     {
         self.stand_in_order();
         let mut keys = List::new(alloc);
@@ -104,7 +105,7 @@ impl Properties {
     /// They stand in the normal order.
     #[tactic(auto, using(crate::proofs::Halves_laws::joined_in_order))]
     fn stand_in_order(&self)
-        ensures { IsInOrder same_ref self.now }
+        ensures { IsInOrder same_made_symbol self.now }
     {
         self.elements.ascend();
         self.named.len();
@@ -117,7 +118,7 @@ fn write_named(
     key: Key,
     property: Descriptor,
 ) -> Result<(), OutOfMemory>
-    ensures ok { OnOk result (named.new.entries ≡ insert_entry (same_key same_ref) named.old.entries key property) }
+    ensures ok { OnOk result (named.new.entries ≡ insert_entry (same_key same_made_symbol) named.old.entries key property) }
     ensures err { OnErr result (named.new.entries ≡ named.old.entries) }
 {
     named.insert(key, property)?;
@@ -126,7 +127,7 @@ fn write_named(
 
 /// Takes the property of a key that is no index out, if there is one.
 fn remove_named(named: &mut IndexMap<Key, Descriptor>, key: &Key)
-    ensures { named.new.entries ≡ remove_entry (same_key same_ref key.now) named.old.entries }
+    ensures { named.new.entries ≡ remove_entry (same_key same_made_symbol key.now) named.old.entries }
 {
     named.shift_remove(key);
 }

@@ -1,10 +1,11 @@
 // What a store is: a list of objects, however it keeps them.
 
 ghost use Rattle.std.specs.Prelude.{◌≡◌, ◌+◌, ◌<◌, ◌++◌, ◌∷◌, [], List, length, IfOk, OnOk, OnErr, option_map};
-ghost use Rattle.lava_base.specs.Ids.{same_ref};
+ghost use Rattle.lava_base.specs.Ids.{same_made_symbol};
+ghost use Rattle.lava_base.specs.declared.ids.MadeSymbol.{MadeSymbol};
 ghost use Rattle.lava_base.specs.declared.ids.Ref.{Ref};
 ghost use Rattle.lava_base.specs.declared.ids.PartyId.{PartyId};
-ghost use Rattle.js_store.specs.Objects.{Object, fresh, object_at, at_place, own_of, own_keys, with_prototype, with_change, without_property, not_extensible, with_slot};
+ghost use Rattle.js_store.specs.Objects.{Object, fresh, object_at, at_place, ordinary_get_own_property, ordinary_own_property_keys, with_prototype, with_change, without_property, not_extensible, with_slot};
 ghost use Rattle.js_store.specs.Order.{IsInOrder};
 
 use crate::slot::Slot;
@@ -28,7 +29,7 @@ pub const PLAIN_MARKS: Marks = Marks {
 /// An object has a prototype, a truth value that says whether it is extensible, own properties, a slot and marks. Its properties stand in one normal order, which all calls keep: array indices ascending, then the other keys in order of creation.
 pub trait Store {
     /// The objects, however they are kept.
-    ghost objects: { Self → List (Object Ref) };
+    ghost objects: { Self → List (Object Ref MadeSymbol) };
 
     /// The party whose objects they are.
     ghost owner: { Self → PartyId };
@@ -72,26 +73,26 @@ pub trait Store {
     /// The own property of a key (ECMA-262, OrdinaryGetOwnProperty).
     fn own(&self, id: ObjId, key: &Key) -> Option<&Descriptor>
         requires { id.0 < length (objects self.now) }
-        ensures { option_map (λ d. d.now) result ≡ own_of same_ref key.now (object_at (objects self.now) id.0).properties };
+        ensures { option_map (λ d. d.now) result ≡ ordinary_get_own_property same_made_symbol key.now (object_at (objects self.now) id.0).properties };
 
     /// Writes a property as a change says. A key that is there keeps its place, and a new one goes to its place in the normal order.
     fn apply(&mut self, id: ObjId, key: Key, change: Change) -> Result<(), OutOfMemory>
         requires { id.0 < length (objects self.old) }
-        ensures ok { OnOk result (objects self.new ≡ at_place (objects self.old) id.0 (with_change same_ref key change)) }
+        ensures ok { OnOk result (objects self.new ≡ at_place (objects self.old) id.0 (with_change same_made_symbol key change)) }
         ensures err { OnErr result (objects self.new ≡ objects self.old) }
         ensures party { owner self.new ≡ owner self.old };
 
     /// Takes the property of a key out, if there is one.
     fn remove(&mut self, id: ObjId, key: &Key)
         requires { id.0 < length (objects self.old) }
-        ensures objects { objects self.new ≡ at_place (objects self.old) id.0 (without_property same_ref key.now) }
+        ensures objects { objects self.new ≡ at_place (objects self.old) id.0 (without_property same_made_symbol key.now) }
         ensures party { owner self.new ≡ owner self.old };
 
     /// The own keys: array indices ascending, then other texts in order of creation, then symbols in order of creation (ECMA-262, OrdinaryOwnPropertyKeys).
     fn keys(&self, alloc: Global, id: ObjId) -> Result<List<Key>, OutOfMemory>
         requires { id.0 < length (objects self.now) }
-        ensures keys { IfOk result (λ keys. keys ≡ own_keys (object_at (objects self.now) id.0).properties) }
-        ensures order { IsInOrder same_ref (object_at (objects self.now) id.0).properties };
+        ensures keys { IfOk result (λ keys. keys ≡ ordinary_own_property_keys (object_at (objects self.now) id.0).properties) }
+        ensures order { IsInOrder same_made_symbol (object_at (objects self.now) id.0).properties };
 
     /// Whether new properties may be made (ECMA-262, OrdinaryIsExtensible).
     fn extensible(&self, id: ObjId) -> bool
