@@ -2,8 +2,9 @@
 use Rattle.std.proofs.Common.{◌≡◌, ◌≢◌, ℕ, zero, suc, ◌+◌, ◌-◌, ◌≤◌, List, [], ◌∷◌, length, Bool, true, false, nat_eq, Option, Some, None, if◌then◌else◌, refl, sym, ap, ◌∙◌, subst, ⊎_elim, arith}
 use Rattle.std.proofs.lemmas.Bool.{eq-eqb, ne_eqb, cases_eq}
 use Rattle.std.proofs.lemmas.Bool.Decides.{eqb_tells}
+use Rattle.lava_base.specs.declared.ids.MadeSymbol.{MadeSymbol}
 use Rattle.lava_base.specs.declared.ids.Ref.{Ref}
-use Rattle.js_text.specs.Names.{Names, names_of}
+use Rattle.js_text.specs.Naming.{Naming, naming_of}
 use Rattle.lava_cli.specs.Asks.{Ask, Reply, Value, Flag, Throw, Completion, CrossBody, Asks, Answers, EndKind}
 use Rattle.lava_cli.specs.Party.{Party}
 use Rattle.lava_cli.specs.Acts.{Next}
@@ -20,10 +21,10 @@ pub choose : (p q : ℕ) (P : Bool → Type 0) → (p ≡ q → P true) → (p �
 choose p q P equal other = ⊎_elim (λ h. subst P (sym h.0) (equal h.1)) (λ h. subst P (sym h.0) (other h.1)) (eqb_tells p q)
 
 abbrev pub Stack : Type 0
-Stack = List (ℕ × List (Next Ref))
+Stack = List (ℕ × List (Next Ref MadeSymbol))
 
 -- the bodies of one party on the stack
-abbrev pub bodies_of : ℕ → Stack → List (List (Next Ref))
+abbrev pub bodies_of : ℕ → Stack → List (List (Next Ref MadeSymbol))
 bodies_of q [] = []
 bodies_of q (b ∷ stack) = (if nat_eq b.0 q then b.1 ∷ bodies_of q stack else bodies_of q stack)
 
@@ -36,24 +37,24 @@ NoHost [] = Unit {0}
 NoHost (b ∷ stack) = (b.0 ≢ 0) × NoHost stack
 
 -- the party's own run on these comes to where the party is in the world
-pub record Rests (app : Application) (w : World) (q : ℕ) (ins : List (CrossBody Ref)) : Type 0 where
-  pub by : (n : ℕ) → w.steps q ≤ n → local (names_of q) (app.own q) n ins ≡ record { sent = sent_by q w.journal; steps = w.steps q; standing = Waits (w.own q) (bodies_of q w.stack) }
+pub record Rests (app : Application) (w : World) (q : ℕ) (ins : List (CrossBody Ref MadeSymbol)) : Type 0 where
+  pub by : (n : ℕ) → w.steps q ≤ n → local (naming_of q) (app.own q) n ins ≡ record { sent = sent_by q w.journal; steps = w.steps q; standing = Waits (w.own q) (bodies_of q w.stack) }
 
 -- the party has taken the last of what it received, and is at this point
-pub record Takes (app : Application) (w : World) (p : ℕ) (point : Point Ref) : Type 0 where
-  pub last : CrossBody Ref
-  pub older : List (CrossBody Ref)
-  pub bodies : List (List (Next Ref))
+pub record Takes (app : Application) (w : World) (p : ℕ) (point : Point Ref MadeSymbol) : Type 0 where
+  pub last : CrossBody Ref MadeSymbol
+  pub older : List (CrossBody Ref MadeSymbol)
+  pub bodies : List (List (Next Ref MadeSymbol))
   pub is : received p w.journal ≡ last ∷ older
-  pub before : (n : ℕ) → w.steps p ≤ n → local (names_of p) (app.own p) n older ≡ record { sent = sent_by p w.journal; steps = w.steps p; standing = Waits (w.own p) bodies }
-  pub serves : served (names_of p) (w.own p) bodies last ≡ Some (point, bodies_of p w.stack)
+  pub before : (n : ℕ) → w.steps p ≤ n → local (naming_of p) (app.own p) n older ≡ record { sent = sent_by p w.journal; steps = w.steps p; standing = Waits (w.own p) bodies }
+  pub serves : served (naming_of p) (w.own p) bodies last ≡ Some (point, bodies_of p w.stack)
 
 pub record Core (budget : ℕ) (w : World) : Type 0 where
   pub within : w.spent ≤ budget
   pub share : (q : ℕ) → w.steps q ≤ w.spent
   pub callers : NoHost w.stack
 
-pub record Running (app : Application) (w : World) (p : ℕ) (point : Point Ref) : Type 0 where
+pub record Running (app : Application) (w : World) (p : ℕ) (point : Point Ref MadeSymbol) : Type 0 where
   pub party : p ≢ 0
   pub turn : last_receiver w.journal ≡ p
   pub asks : open_asks w.journal ≡ askers w.stack
@@ -67,9 +68,9 @@ pub record At_host (app : Application) (w : World) : Type 0 where
 
 -- how the party's own run stands at the end
 pub record Has_run (app : Application) (w : World) (e : Ending) (p : ℕ) : Type 0 where
-  pub waited : (x : CrossBody Ref) (older : List (CrossBody Ref)) → received p w.journal ≡ x ∷ older → IsWaiting (local (names_of p) (app.own p) (w.steps p) older).standing
-  pub stands : (s : Standing Ref) × StandsAt e p s × (local (names_of p) (app.own p) (w.steps p) (received p w.journal) ≡ record { sent = sent_by p w.journal; steps = w.steps p; standing = s })
-  pub larger : IsWaiting stands.0 → (n : ℕ) → w.steps p ≤ n → local (names_of p) (app.own p) n (received p w.journal) ≡ record { sent = sent_by p w.journal; steps = w.steps p; standing = stands.0 }
+  pub waited : (x : CrossBody Ref MadeSymbol) (older : List (CrossBody Ref MadeSymbol)) → received p w.journal ≡ x ∷ older → IsWaiting (local (naming_of p) (app.own p) (w.steps p) older).standing
+  pub stands : (s : Standing Ref MadeSymbol) × StandsAt e p s × (local (naming_of p) (app.own p) (w.steps p) (received p w.journal) ≡ record { sent = sent_by p w.journal; steps = w.steps p; standing = s })
+  pub larger : IsWaiting stands.0 → (n : ℕ) → w.steps p ≤ n → local (naming_of p) (app.own p) n (received p w.journal) ≡ record { sent = sent_by p w.journal; steps = w.steps p; standing = stands.0 }
 
 abbrev pub At : Application → World → Control → Type 0
 At app w (Runs p point) = Running app w p point
@@ -81,35 +82,35 @@ pub record Holds (app : Application) (budget : ℕ) (w : World) : Type 0 where
   pub at : At app w w.control
 
 -- the party's own run with the last crossing is the run of its body
-ran : (app : Application) (w : World) (p : ℕ) (point : Point Ref) → Takes app w p point → (n : ℕ) → w.steps p ≤ n → local (names_of p) (app.own p) n (received p w.journal) ≡ after (sent_by p w.journal) (bodies_of p w.stack) (run (names_of p) (n - w.steps p) (w.steps p) point)
+ran : (app : Application) (w : World) (p : ℕ) (point : Point Ref MadeSymbol) → Takes app w p point → (n : ℕ) → w.steps p ≤ n → local (naming_of p) (app.own p) n (received p w.journal) ≡ after (sent_by p w.journal) (bodies_of p w.stack) (run (naming_of p) (n - w.steps p) (w.steps p) point)
 ran app w p point t n le =
-    ap (local (names_of p) (app.own p) n) t.is
-    ∙ (ap (λ (r : Local Ref). takes (names_of p) n r r.standing t.last) (t.before n le)
-    ∙ ap (taken_up (names_of p) n (record { sent = sent_by p w.journal; steps = w.steps p; standing = Waits (w.own p) t.bodies })) t.serves)
+    ap (local (naming_of p) (app.own p) n) t.is
+    ∙ (ap (λ (r : Local Ref MadeSymbol). takes (naming_of p) n r r.standing t.last) (t.before n le)
+    ∙ ap (taken_up (naming_of p) n (record { sent = sent_by p w.journal; steps = w.steps p; standing = Waits (w.own p) t.bodies })) t.serves)
 
 -- under each limit that has its steps
-pub settled : (app : Application) (budget : ℕ) (w : World) (p : ℕ) (point : Point Ref) (stop : Stop Ref) → Takes app w p point → run (names_of p) (budget - w.spent) (w.steps p) point ≡ stop → IsFull stop → (n : ℕ) → steps_of stop ≤ n → local (names_of p) (app.own p) n (received p w.journal) ≡ after (sent_by p w.journal) (bodies_of p w.stack) stop
+pub settled : (app : Application) (budget : ℕ) (w : World) (p : ℕ) (point : Point Ref MadeSymbol) (stop : Stop Ref MadeSymbol) → Takes app w p point → run (naming_of p) (budget - w.spent) (w.steps p) point ≡ stop → IsFull stop → (n : ℕ) → steps_of stop ≤ n → local (naming_of p) (app.own p) n (received p w.journal) ≡ after (sent_by p w.journal) (bodies_of p w.stack) stop
 settled app budget w p point stop t e full n le =
-    let above = subst (λ s. w.steps p ≤ steps_of s) e (run_above (names_of p) (budget - w.spent) (w.steps p) point) in
-    let enough : steps_of (run (names_of p) (budget - w.spent) (w.steps p) point) ≤ w.steps p + (n - w.steps p) = subst (λ s. steps_of s ≤ w.steps p + (n - w.steps p)) (sym e) (omega (arith, above, le)) in
+    let above = subst (λ s. w.steps p ≤ steps_of s) e (run_above (naming_of p) (budget - w.spent) (w.steps p) point) in
+    let enough : steps_of (run (naming_of p) (budget - w.spent) (w.steps p) point) ≤ w.steps p + (n - w.steps p) = subst (λ s. steps_of s ≤ w.steps p + (n - w.steps p)) (sym e) (omega (arith, above, le)) in
     ran app w p point t n (omega (arith, above, le))
-    ∙ ap (after (sent_by p w.journal) (bodies_of p w.stack)) (run_enough (names_of p) (budget - w.spent) (n - w.steps p) (w.steps p) point (subst IsFull (sym e) full) enough ∙ e)
+    ∙ ap (after (sent_by p w.journal) (bodies_of p w.stack)) (run_enough (naming_of p) (budget - w.spent) (n - w.steps p) (w.steps p) point (subst IsFull (sym e) full) enough ∙ e)
 
 -- where each party rests once p has sent an ask
-rests_sent : (app : Application) (budget : ℕ) (w : World) (p : ℕ) (point : Point Ref) (o : Option Ref) (x : Ask Ref) (own : Party Ref) (ks : List (Next Ref)) (n1 : ℕ) → Running app w p point → run (names_of p) (budget - w.spent) (w.steps p) point ≡ Sent o x own ks n1 → (r q : ℕ) → q ≢ 0 → Rests app (asks_of p r o x ks (with_own p own (charged p n1 w))) q (received q w.journal)
+rests_sent : (app : Application) (budget : ℕ) (w : World) (p : ℕ) (point : Point Ref MadeSymbol) (o : Option Ref) (x : Ask Ref MadeSymbol) (own : Party Ref MadeSymbol) (ks : List (Next Ref MadeSymbol)) (n1 : ℕ) → Running app w p point → run (naming_of p) (budget - w.spent) (w.steps p) point ≡ Sent o x own ks n1 → (r q : ℕ) → q ≢ 0 → Rests app (asks_of p r o x ks (with_own p own (charged p n1 w))) q (received q w.journal)
 rests_sent app budget w p point o x own ks n1 run_at e r q q0 = record {
   by = λ n le.
-      choose p q (λ b. (if b then n1 else w.steps q) ≤ n → local (names_of q) (app.own q) n (received q w.journal) ≡ record { sent = if b then Asks o x ∷ sent_by q w.journal else sent_by q w.journal; steps = if b then n1 else w.steps q; standing = Waits (if b then own else w.own q) (if b then ks ∷ bodies_of q w.stack else bodies_of q w.stack) })
-      (λ pq. subst (λ q'. n1 ≤ n → local (names_of q') (app.own q') n (received q' w.journal) ≡ record { sent = Asks o x ∷ sent_by q' w.journal; steps = n1; standing = Waits own (ks ∷ bodies_of q' w.stack) }) pq (λ le1. settled app budget w p point (Sent o x own ks n1) run_at.takes e tt n le1))
+      choose p q (λ b. (if b then n1 else w.steps q) ≤ n → local (naming_of q) (app.own q) n (received q w.journal) ≡ record { sent = if b then Asks o x ∷ sent_by q w.journal else sent_by q w.journal; steps = if b then n1 else w.steps q; standing = Waits (if b then own else w.own q) (if b then ks ∷ bodies_of q w.stack else bodies_of q w.stack) })
+      (λ pq. subst (λ q'. n1 ≤ n → local (naming_of q') (app.own q') n (received q' w.journal) ≡ record { sent = Asks o x ∷ sent_by q' w.journal; steps = n1; standing = Waits own (ks ∷ bodies_of q' w.stack) }) pq (λ le1. settled app budget w p point (Sent o x own ks n1) run_at.takes e tt n le1))
       (λ ne le1. (run_at.others q q0 (λ qp. ne (sym qp))).by n le1)
       le;
 }
 
 -- where each party rests once p has replied, before the reply is taken
-rests_gave : (app : Application) (budget : ℕ) (w : World) (p : ℕ) (point : Point Ref) (c : Completion Ref) (own : Party Ref) (n1 : ℕ) → Running app w p point → run (names_of p) (budget - w.spent) (w.steps p) point ≡ Gave c own n1 → (q : ℕ) → q ≢ 0 → (n : ℕ) → put p n1 w.steps q ≤ n → local (names_of q) (app.own q) n (received q w.journal) ≡ record { sent = if nat_eq p q then Answers (reply_of c) ∷ sent_by q w.journal else sent_by q w.journal; steps = put p n1 w.steps q; standing = Waits (put p own w.own q) (bodies_of q w.stack) }
+rests_gave : (app : Application) (budget : ℕ) (w : World) (p : ℕ) (point : Point Ref MadeSymbol) (c : Completion Ref MadeSymbol) (own : Party Ref MadeSymbol) (n1 : ℕ) → Running app w p point → run (naming_of p) (budget - w.spent) (w.steps p) point ≡ Gave c own n1 → (q : ℕ) → q ≢ 0 → (n : ℕ) → put p n1 w.steps q ≤ n → local (naming_of q) (app.own q) n (received q w.journal) ≡ record { sent = if nat_eq p q then Answers (reply_of c) ∷ sent_by q w.journal else sent_by q w.journal; steps = put p n1 w.steps q; standing = Waits (put p own w.own q) (bodies_of q w.stack) }
 rests_gave app budget w p point c own n1 run_at e q q0 n le =
-    choose p q (λ b. (if b then n1 else w.steps q) ≤ n → local (names_of q) (app.own q) n (received q w.journal) ≡ record { sent = if b then Answers (reply_of c) ∷ sent_by q w.journal else sent_by q w.journal; steps = if b then n1 else w.steps q; standing = Waits (if b then own else w.own q) (bodies_of q w.stack) })
-    (λ pq. subst (λ q'. n1 ≤ n → local (names_of q') (app.own q') n (received q' w.journal) ≡ record { sent = Answers (reply_of c) ∷ sent_by q' w.journal; steps = n1; standing = Waits own (bodies_of q' w.stack) }) pq (λ le1. settled app budget w p point (Gave c own n1) run_at.takes e tt n le1))
+    choose p q (λ b. (if b then n1 else w.steps q) ≤ n → local (naming_of q) (app.own q) n (received q w.journal) ≡ record { sent = if b then Answers (reply_of c) ∷ sent_by q w.journal else sent_by q w.journal; steps = if b then n1 else w.steps q; standing = Waits (if b then own else w.own q) (bodies_of q w.stack) })
+    (λ pq. subst (λ q'. n1 ≤ n → local (naming_of q') (app.own q') n (received q' w.journal) ≡ record { sent = Answers (reply_of c) ∷ sent_by q' w.journal; steps = n1; standing = Waits own (bodies_of q' w.stack) }) pq (λ le1. settled app budget w p point (Gave c own n1) run_at.takes e tt n le1))
     (λ ne le1. (run_at.others q q0 (λ qp. ne (sym qp))).by n le1)
     le
 
@@ -117,7 +118,7 @@ pub self_eq : (p : ℕ) → nat_eq p p ≡ true
 self_eq p = eq-eqb p p refl
 
 -- an ask is handed over
-passes : (app : Application) (budget : ℕ) (w : World) (p : ℕ) (point : Point Ref) (o : Option Ref) (x : Ask Ref) (own : Party Ref) (ks : List (Next Ref)) (n1 : ℕ) → Running app w p point → run (names_of p) (budget - w.spent) (w.steps p) point ≡ Sent o x own ks n1 → (r : ℕ) → At app (asks_of p r o x ks (with_own p own (charged p n1 w))) (hand_over (put p own w.own) r o x)
+passes : (app : Application) (budget : ℕ) (w : World) (p : ℕ) (point : Point Ref MadeSymbol) (o : Option Ref) (x : Ask Ref MadeSymbol) (own : Party Ref MadeSymbol) (ks : List (Next Ref MadeSymbol)) (n1 : ℕ) → Running app w p point → run (naming_of p) (budget - w.spent) (w.steps p) point ≡ Sent o x own ks n1 → (r : ℕ) → At app (asks_of p r o x ks (with_own p own (charged p n1 w))) (hand_over (put p own w.own) r o x)
 passes app budget w p point o x own ks n1 run_at e zero = record {
   turn = refl;
   asks = ap (λ ps. p ∷ ps) run_at.asks;
@@ -143,37 +144,37 @@ passes app budget w p point o x own ks n1 run_at e (suc r) = record {
 }
 
 -- the reply of s is taken by the topmost body, where each party rests in the world w with what it has sent and the reply
-record Gives (app : Application) (w : World) (s : ℕ) (c : Reply Ref) (q : ℕ) : Type 0 where
-  by : (n : ℕ) → w.steps q ≤ n → local (names_of q) (app.own q) n (received q w.journal) ≡ record { sent = if nat_eq s q then Answers c ∷ sent_by q w.journal else sent_by q w.journal; steps = w.steps q; standing = Waits (w.own q) (bodies_of q w.stack) }
+record Gives (app : Application) (w : World) (s : ℕ) (c : Reply Ref MadeSymbol) (q : ℕ) : Type 0 where
+  by : (n : ℕ) → w.steps q ≤ n → local (naming_of q) (app.own q) n (received q w.journal) ≡ record { sent = if nat_eq s q then Answers c ∷ sent_by q w.journal else sent_by q w.journal; steps = w.steps q; standing = Waits (w.own q) (bodies_of q w.stack) }
 
 -- a party that waits waited before what it took last
-pub took : (names : Names Ref) (n : ℕ) (r : Local Ref) (st : Standing Ref) (x : CrossBody Ref) → r.standing ≡ st → IsWaiting (takes names n r st x).standing → IsWaiting st
+pub took : (names : Naming Ref MadeSymbol) (n : ℕ) (r : Local Ref MadeSymbol) (st : Standing Ref MadeSymbol) (x : CrossBody Ref MadeSymbol) → r.standing ≡ st → IsWaiting (takes names n r st x).standing → IsWaiting st
 took names n r (Waits own bodies) x is h = tt
 took names n r Is_short x is h = subst IsWaiting is h
 took names n r (Has_ended k) x is h = subst IsWaiting is h
 
-waited_rest : (app : Application) (q n : ℕ) (ins : List (CrossBody Ref)) → IsWaiting (local (names_of q) (app.own q) n ins).standing → (x : CrossBody Ref) (older : List (CrossBody Ref)) → ins ≡ x ∷ older → IsWaiting (local (names_of q) (app.own q) n older).standing
+waited_rest : (app : Application) (q n : ℕ) (ins : List (CrossBody Ref MadeSymbol)) → IsWaiting (local (naming_of q) (app.own q) n ins).standing → (x : CrossBody Ref MadeSymbol) (older : List (CrossBody Ref MadeSymbol)) → ins ≡ x ∷ older → IsWaiting (local (naming_of q) (app.own q) n older).standing
 waited_rest app q n ins h x older is =
-    let r = local (names_of q) (app.own q) n older in
-    took (names_of q) n r r.standing x refl (subst (λ (xs : List (CrossBody Ref)). IsWaiting (local (names_of q) (app.own q) n xs).standing) is h)
+    let r = local (naming_of q) (app.own q) n older in
+    took (naming_of q) n r r.standing x refl (subst (λ (xs : List (CrossBody Ref MadeSymbol)). IsWaiting (local (naming_of q) (app.own q) n xs).standing) is h)
 
-waited_run : (app : Application) (w : World) (p : ℕ) (point : Point Ref) → Takes app w p point → (n : ℕ) → w.steps p ≤ n → (x : CrossBody Ref) (older : List (CrossBody Ref)) → received p w.journal ≡ x ∷ older → IsWaiting (local (names_of p) (app.own p) n older).standing
+waited_run : (app : Application) (w : World) (p : ℕ) (point : Point Ref MadeSymbol) → Takes app w p point → (n : ℕ) → w.steps p ≤ n → (x : CrossBody Ref MadeSymbol) (older : List (CrossBody Ref MadeSymbol)) → received p w.journal ≡ x ∷ older → IsWaiting (local (naming_of p) (app.own p) n older).standing
 waited_run app w p point t n le x older is =
     let same : t.last ∷ t.older ≡ x ∷ older = sym t.is ∙ is in
     let e : t.older ≡ older = cc same in
-    subst (λ (xs : List (CrossBody Ref)). IsWaiting (local (names_of p) (app.own p) n xs).standing) e (subst (λ (r : Local Ref). IsWaiting r.standing) (sym (t.before n le)) tt)
+    subst (λ (xs : List (CrossBody Ref MadeSymbol)). IsWaiting (local (naming_of p) (app.own p) n xs).standing) e (subst (λ (r : Local Ref MadeSymbol). IsWaiting r.standing) (sym (t.before n le)) tt)
 
 -- where the host's import is answered, each party waits
-all_wait : (r : Reply Ref) (p : ℕ) (own : Party Ref) (bodies : List (List (Next Ref))) → StandsAt (ending_by r) p (Waits own bodies)
+all_wait : (r : Reply Ref MadeSymbol) (p : ℕ) (own : Party Ref MadeSymbol) (bodies : List (List (Next Ref MadeSymbol))) → StandsAt (ending_by r) p (Waits own bodies)
 all_wait (Value v) p own bodies = tt
 all_wait (Flag b) p own bodies = tt
 all_wait (Throw e) p own bodies = tt
 
 -- the world w1 is w with the stack's rest
-passes_back : (app : Application) (w : World) (s : ℕ) (c : Reply Ref) (stack : Stack) → w.stack ≡ stack → NoHost stack → open_asks w.journal ≡ askers stack → ((q : ℕ) → q ≢ 0 → Gives app w s c q) → At app (replies_of s c stack w) (replies_of s c stack w).control
+passes_back : (app : Application) (w : World) (s : ℕ) (c : Reply Ref MadeSymbol) (stack : Stack) → w.stack ≡ stack → NoHost stack → open_asks w.journal ≡ askers stack → ((q : ℕ) → q ≢ 0 → Gives app w s c q) → At app (replies_of s c stack w) (replies_of s c stack w).control
 passes_back app w s c [] is none asks gives = λ q q0.
-    let back : (n : ℕ) → w.steps q ≤ n → local (names_of q) (app.own q) n (if nat_eq 0 q then Answers c ∷ received q w.journal else received q w.journal) ≡ record { sent = if nat_eq s q then Answers c ∷ sent_by q w.journal else sent_by q w.journal; steps = w.steps q; standing = Waits (w.own q) (bodies_of q w.stack) } = λ n le. ap (λ t. local (names_of q) (app.own q) n (if t then Answers c ∷ received q w.journal else received q w.journal)) (ne_eqb 0 q (λ z. q0 (sym z))) ∙ (gives q q0).by n le in
-    record { waited = waited_rest app q (w.steps q) _ (subst (λ (r : Local Ref). IsWaiting r.standing) (sym (back (w.steps q) (omega arith))) tt); stands = (Waits (w.own q) (bodies_of q w.stack), all_wait c q (w.own q) (bodies_of q w.stack), back (w.steps q) (omega arith)); larger = λ wait n le. back n le }
+    let back : (n : ℕ) → w.steps q ≤ n → local (naming_of q) (app.own q) n (if nat_eq 0 q then Answers c ∷ received q w.journal else received q w.journal) ≡ record { sent = if nat_eq s q then Answers c ∷ sent_by q w.journal else sent_by q w.journal; steps = w.steps q; standing = Waits (w.own q) (bodies_of q w.stack) } = λ n le. ap (λ t. local (naming_of q) (app.own q) n (if t then Answers c ∷ received q w.journal else received q w.journal)) (ne_eqb 0 q (λ z. q0 (sym z))) ∙ (gives q q0).by n le in
+    record { waited = waited_rest app q (w.steps q) _ (subst (λ (r : Local Ref MadeSymbol). IsWaiting r.standing) (sym (back (w.steps q) (omega arith))) tt); stands = (Waits (w.own q) (bodies_of q w.stack), all_wait c q (w.own q) (bodies_of q w.stack), back (w.steps q) (omega arith)); larger = λ wait n le. back n le }
 passes_back app w s c (b ∷ stack) is none asks gives = record {
   party = none.0;
   turn = refl;
@@ -189,55 +190,55 @@ passes_back app w s c (b ∷ stack) is none asks gives = record {
   others = λ q q0 qb. record {
     by = λ n le.
         let ne = ne_eqb b.0 q (λ z. qb (sym z)) in
-        ap (λ t. local (names_of q) (app.own q) n (if t then Answers c ∷ received q w.journal else received q w.journal)) ne
+        ap (λ t. local (naming_of q) (app.own q) n (if t then Answers c ∷ received q w.journal else received q w.journal)) ne
         ∙ ((gives q q0).by n le ∙ ap (λ bs. record { sent = if nat_eq s q then Answers c ∷ sent_by q w.journal else sent_by q w.journal; steps = w.steps q; standing = Waits (w.own q) bs }) (ap (bodies_of q) is ∙ ap (λ t. (if t then b.1 ∷ bodies_of q stack else bodies_of q stack)) ne));
   };
 }
 
-core_charged : (app : Application) (budget : ℕ) (w : World) (p : ℕ) (point : Point Ref) (stop : Stop Ref) → Core budget w → run (names_of p) (budget - w.spent) (w.steps p) point ≡ stop → (w.spent + (steps_of stop - w.steps p) ≤ budget) × ((q : ℕ) → put p (steps_of stop) w.steps q ≤ w.spent + (steps_of stop - w.steps p))
+core_charged : (app : Application) (budget : ℕ) (w : World) (p : ℕ) (point : Point Ref MadeSymbol) (stop : Stop Ref MadeSymbol) → Core budget w → run (naming_of p) (budget - w.spent) (w.steps p) point ≡ stop → (w.spent + (steps_of stop - w.steps p) ≤ budget) × ((q : ℕ) → put p (steps_of stop) w.steps q ≤ w.spent + (steps_of stop - w.steps p))
 core_charged app budget w p point stop core e =
-    let above = subst (λ s. w.steps p ≤ steps_of s) e (run_above (names_of p) (budget - w.spent) (w.steps p) point) in
-    let below = subst (λ s. steps_of s ≤ w.steps p + (budget - w.spent)) e (run_within (names_of p) (budget - w.spent) (w.steps p) point) in
+    let above = subst (λ s. w.steps p ≤ steps_of s) e (run_above (naming_of p) (budget - w.spent) (w.steps p) point) in
+    let below = subst (λ s. steps_of s ≤ w.steps p + (budget - w.spent)) e (run_within (naming_of p) (budget - w.spent) (w.steps p) point) in
     let within = core.within in
     let mine = core.share p in
     (omega (arith, above, below, within), λ q. choose p q (λ b. (if b then steps_of stop else w.steps q) ≤ w.spent + (steps_of stop - w.steps p)) (λ pq. omega (arith, above, mine)) (λ ne. let h = core.share q in omega (arith, h)))
 
-after_reply : (budget : ℕ) (w : World) (s : ℕ) (c : Reply Ref) (stack : Stack) → NoHost stack → Core budget w → w.stack ≡ stack → Core budget (replies_of s c stack w)
+after_reply : (budget : ℕ) (w : World) (s : ℕ) (c : Reply Ref MadeSymbol) (stack : Stack) → NoHost stack → Core budget w → w.stack ≡ stack → Core budget (replies_of s c stack w)
 after_reply budget w s c [] none core is = record { within = core.within; share = core.share; callers = core.callers }
 after_reply budget w s c (b ∷ stack) none core is = record { within = core.within; share = core.share; callers = none.1 }
 
 -- where the run of p ends the run of all
-rests_ended : (app : Application) (budget : ℕ) (w : World) (p : ℕ) (point : Point Ref) (k : EndKind) (n1 : ℕ) → Running app w p point → run (names_of p) (budget - w.spent) (w.steps p) point ≡ Stopped k n1 → (q : ℕ) → q ≢ 0 → Has_run app (record (charged p n1 w) { control = Over_with (Fault p k) }) (Fault p k) q
+rests_ended : (app : Application) (budget : ℕ) (w : World) (p : ℕ) (point : Point Ref MadeSymbol) (k : EndKind) (n1 : ℕ) → Running app w p point → run (naming_of p) (budget - w.spent) (w.steps p) point ≡ Stopped k n1 → (q : ℕ) → q ≢ 0 → Has_run app (record (charged p n1 w) { control = Over_with (Fault p k) }) (Fault p k) q
 rests_ended app budget w p point k n1 run_at e q q0 =
     ⊎_elim
     (λ pq.
-    let P : ℕ → Type 0 = λ q'. (n : ℕ) → put p n1 w.steps q' ≤ n → local (names_of q') (app.own q') n (received q' w.journal) ≡ record { sent = sent_by q' w.journal; steps = put p n1 w.steps q'; standing = Has_ended k } in
+    let P : ℕ → Type 0 = λ q'. (n : ℕ) → put p n1 w.steps q' ≤ n → local (naming_of q') (app.own q') n (received q' w.journal) ≡ record { sent = sent_by q' w.journal; steps = put p n1 w.steps q'; standing = Has_ended k } in
     let mine : put p n1 w.steps p ≡ n1 = ap (λ b. (if b then n1 else w.steps p)) (self_eq p) in
     let all : P q = subst P pq (λ n le. settled app budget w p point (Stopped k n1) run_at.takes e tt n (subst (λ (m : ℕ). m ≤ n) mine le) ∙ ap (λ m. record { sent = sent_by p w.journal; steps = m; standing = Has_ended k }) (sym mine)) in
     record {
-      waited = (let Q : ℕ → Type 0 = λ q'. (x : CrossBody Ref) (older : List (CrossBody Ref)) → received q' w.journal ≡ x ∷ older → IsWaiting (local (names_of q') (app.own q') (put p n1 w.steps q') older).standing in
-          subst Q pq (λ x older is. waited_run app w p point run_at.takes (put p n1 w.steps p) (subst (λ (m : ℕ). w.steps p ≤ m) (sym mine) (subst (λ (t : Stop Ref). w.steps p ≤ steps_of t) e (run_above (names_of p) (budget - w.spent) (w.steps p) point))) x older is));
+      waited = (let Q : ℕ → Type 0 = λ q'. (x : CrossBody Ref MadeSymbol) (older : List (CrossBody Ref MadeSymbol)) → received q' w.journal ≡ x ∷ older → IsWaiting (local (naming_of q') (app.own q') (put p n1 w.steps q') older).standing in
+          subst Q pq (λ x older is. waited_run app w p point run_at.takes (put p n1 w.steps p) (subst (λ (m : ℕ). w.steps p ≤ m) (sym mine) (subst (λ (t : Stop Ref MadeSymbol). w.steps p ≤ steps_of t) e (run_above (naming_of p) (budget - w.spent) (w.steps p) point))) x older is));
       stands = (Has_ended k, (λ z. refl, λ z. absurd (z pq)), all _ (omega arith));
       larger = λ wait n le. elim wait [ ];
     })
     (λ ne.
     let other : put p n1 w.steps q ≡ w.steps q = ap (λ b. (if b then n1 else w.steps q)) (ne_eqb p q ne) in
     let rests = run_at.others q q0 (λ z. ne (sym z)) in
-    let all : (n : ℕ) → put p n1 w.steps q ≤ n → local (names_of q) (app.own q) n (received q w.journal) ≡ record { sent = sent_by q w.journal; steps = put p n1 w.steps q; standing = Waits (w.own q) (bodies_of q w.stack) } = λ n le. rests.by n (subst (λ (m : ℕ). m ≤ n) other le) ∙ ap (λ m. record { sent = sent_by q w.journal; steps = m; standing = Waits (w.own q) (bodies_of q w.stack) }) (sym other) in
-    record { waited = waited_rest app q (put p n1 w.steps q) _ (subst (λ (r : Local Ref). IsWaiting r.standing) (sym (all _ (omega arith))) tt); stands = (Waits (w.own q) (bodies_of q w.stack), (λ z. absurd (ne z), λ z. tt), all _ (omega arith)); larger = λ wait n le. all n le })
+    let all : (n : ℕ) → put p n1 w.steps q ≤ n → local (naming_of q) (app.own q) n (received q w.journal) ≡ record { sent = sent_by q w.journal; steps = put p n1 w.steps q; standing = Waits (w.own q) (bodies_of q w.stack) } = λ n le. rests.by n (subst (λ (m : ℕ). m ≤ n) other le) ∙ ap (λ m. record { sent = sent_by q w.journal; steps = m; standing = Waits (w.own q) (bodies_of q w.stack) }) (sym other) in
+    record { waited = waited_rest app q (put p n1 w.steps q) _ (subst (λ (r : Local Ref MadeSymbol). IsWaiting r.standing) (sym (all _ (omega arith))) tt); stands = (Waits (w.own q) (bodies_of q w.stack), (λ z. absurd (ne z), λ z. tt), all _ (omega arith)); larger = λ wait n le. all n le })
     (cases_eq p q)
 
-rests_short : (app : Application) (budget : ℕ) (w : World) (p : ℕ) (point : Point Ref) (n1 : ℕ) → Running app w p point → run (names_of p) (budget - w.spent) (w.steps p) point ≡ Short n1 → (q : ℕ) → q ≢ 0 → Has_run app (record (charged p n1 w) { control = Over_with (Budget p) }) (Budget p) q
+rests_short : (app : Application) (budget : ℕ) (w : World) (p : ℕ) (point : Point Ref MadeSymbol) (n1 : ℕ) → Running app w p point → run (naming_of p) (budget - w.spent) (w.steps p) point ≡ Short n1 → (q : ℕ) → q ≢ 0 → Has_run app (record (charged p n1 w) { control = Over_with (Budget p) }) (Budget p) q
 rests_short app budget w p point n1 run_at e q q0 =
     ⊎_elim
     (λ pq.
-    let P : ℕ → Type 0 = λ q'. local (names_of q') (app.own q') (put p n1 w.steps q') (received q' w.journal) ≡ record { sent = sent_by q' w.journal; steps = put p n1 w.steps q'; standing = Is_short } in
+    let P : ℕ → Type 0 = λ q'. local (naming_of q') (app.own q') (put p n1 w.steps q') (received q' w.journal) ≡ record { sent = sent_by q' w.journal; steps = put p n1 w.steps q'; standing = Is_short } in
     let mine : put p n1 w.steps p ≡ n1 = ap (λ b. (if b then n1 else w.steps p)) (self_eq p) in
-    let above = subst (λ (t : Stop Ref). w.steps p ≤ steps_of t) e (run_above (names_of p) (budget - w.spent) (w.steps p) point) in
-    let here : local (names_of p) (app.own p) n1 (received p w.journal) ≡ record { sent = sent_by p w.journal; steps = n1; standing = Is_short } = ran app w p point run_at.takes n1 above ∙ ap (after (sent_by p w.journal) (bodies_of p w.stack)) (run_cut (names_of p) (budget - w.spent) (w.steps p) n1 point e) in
-    let all : P q = subst P pq (subst (λ m. local (names_of p) (app.own p) m (received p w.journal) ≡ record { sent = sent_by p w.journal; steps = m; standing = Is_short }) (sym mine) here) in
+    let above = subst (λ (t : Stop Ref MadeSymbol). w.steps p ≤ steps_of t) e (run_above (naming_of p) (budget - w.spent) (w.steps p) point) in
+    let here : local (naming_of p) (app.own p) n1 (received p w.journal) ≡ record { sent = sent_by p w.journal; steps = n1; standing = Is_short } = ran app w p point run_at.takes n1 above ∙ ap (after (sent_by p w.journal) (bodies_of p w.stack)) (run_cut (naming_of p) (budget - w.spent) (w.steps p) n1 point e) in
+    let all : P q = subst P pq (subst (λ m. local (naming_of p) (app.own p) m (received p w.journal) ≡ record { sent = sent_by p w.journal; steps = m; standing = Is_short }) (sym mine) here) in
     record {
-      waited = (let Q : ℕ → Type 0 = λ q'. (x : CrossBody Ref) (older : List (CrossBody Ref)) → received q' w.journal ≡ x ∷ older → IsWaiting (local (names_of q') (app.own q') (put p n1 w.steps q') older).standing in
+      waited = (let Q : ℕ → Type 0 = λ q'. (x : CrossBody Ref MadeSymbol) (older : List (CrossBody Ref MadeSymbol)) → received q' w.journal ≡ x ∷ older → IsWaiting (local (naming_of q') (app.own q') (put p n1 w.steps q') older).standing in
           subst Q pq (λ x older is. waited_run app w p point run_at.takes (put p n1 w.steps p) (subst (λ (m : ℕ). w.steps p ≤ m) (sym mine) above) x older is));
       stands = (Is_short, (λ z. refl, λ z. absurd (z pq)), all);
       larger = λ wait n le. elim wait [ ];
@@ -245,11 +246,11 @@ rests_short app budget w p point n1 run_at e q q0 =
     (λ ne.
     let other : put p n1 w.steps q ≡ w.steps q = ap (λ b. (if b then n1 else w.steps q)) (ne_eqb p q ne) in
     let rests = run_at.others q q0 (λ z. ne (sym z)) in
-    let all : (n : ℕ) → put p n1 w.steps q ≤ n → local (names_of q) (app.own q) n (received q w.journal) ≡ record { sent = sent_by q w.journal; steps = put p n1 w.steps q; standing = Waits (w.own q) (bodies_of q w.stack) } = λ n le. rests.by n (subst (λ (m : ℕ). m ≤ n) other le) ∙ ap (λ m. record { sent = sent_by q w.journal; steps = m; standing = Waits (w.own q) (bodies_of q w.stack) }) (sym other) in
-    record { waited = waited_rest app q (put p n1 w.steps q) _ (subst (λ (r : Local Ref). IsWaiting r.standing) (sym (all _ (omega arith))) tt); stands = (Waits (w.own q) (bodies_of q w.stack), (λ z. absurd (ne z), λ z. tt), all _ (omega arith)); larger = λ wait n le. all n le })
+    let all : (n : ℕ) → put p n1 w.steps q ≤ n → local (naming_of q) (app.own q) n (received q w.journal) ≡ record { sent = sent_by q w.journal; steps = put p n1 w.steps q; standing = Waits (w.own q) (bodies_of q w.stack) } = λ n le. rests.by n (subst (λ (m : ℕ). m ≤ n) other le) ∙ ap (λ m. record { sent = sent_by q w.journal; steps = m; standing = Waits (w.own q) (bodies_of q w.stack) }) (sym other) in
+    record { waited = waited_rest app q (put p n1 w.steps q) _ (subst (λ (r : Local Ref MadeSymbol). IsWaiting r.standing) (sym (all _ (omega arith))) tt); stands = (Waits (w.own q) (bodies_of q w.stack), (λ z. absurd (ne z), λ z. tt), all _ (omega arith)); larger = λ wait n le. all n le })
     (cases_eq p q)
 
-keeps_run : (app : Application) (budget : ℕ) (w : World) (p : ℕ) (point : Point Ref) → Core budget w → Running app w p point → (stop : Stop Ref) → run (names_of p) (budget - w.spent) (w.steps p) point ≡ stop → Holds app budget (has_run app p w stop)
+keeps_run : (app : Application) (budget : ℕ) (w : World) (p : ℕ) (point : Point Ref MadeSymbol) → Core budget w → Running app w p point → (stop : Stop Ref MadeSymbol) → run (naming_of p) (budget - w.spent) (w.steps p) point ≡ stop → Holds app budget (has_run app p w stop)
 keeps_run app budget w p point core run_at (Sent o x own ks n) e =
     let h = core_charged app budget w p point (Sent o x own ks n) core e in
     record {
@@ -291,7 +292,7 @@ begins_so app budget = record {
     asks = refl;
     takes = record { last = Asks None host_import; older = []; bodies = []; is = refl; before = λ n le. refl; serves = refl };
     others = λ q q0 q1. record {
-      by = λ n le. ap (λ b. local (names_of q) (app.own q) n (if b then Asks None host_import ∷ [] else [])) (ne_eqb 1 q (λ z. q1 (sym z))) ∙ ap (λ b. record { sent = if b then Asks None host_import ∷ [] else []; steps = 0; standing = Waits (app.own q) [] }) (sym (ne_eqb 0 q (λ z. q0 (sym z))));
+      by = λ n le. ap (λ b. local (naming_of q) (app.own q) n (if b then Asks None host_import ∷ [] else [])) (ne_eqb 1 q (λ z. q1 (sym z))) ∙ ap (λ b. record { sent = if b then Asks None host_import ∷ [] else []; steps = 0; standing = Waits (app.own q) [] }) (sym (ne_eqb 0 q (λ z. q0 (sym z))));
     };
   };
 }
@@ -304,24 +305,24 @@ holds app budget (suc m) = let h = holds app budget m in let w = heap app budget
 abbrev told : World → Net
 told w = record { journal = w.journal; steps = w.steps; spent = w.spent; ending = ending_of w.control }
 
-turn_of_party : (app : Application) (budget : ℕ) (n : Net) (p : ℕ) → p ≢ 0 → turn_of app budget n p ≡ tells app n p (local (names_of p) (app.own p) (budget - (n.spent - n.steps p)) (received p n.journal))
+turn_of_party : (app : Application) (budget : ℕ) (n : Net) (p : ℕ) → p ≢ 0 → turn_of app budget n p ≡ tells app n p (local (naming_of p) (app.own p) (budget - (n.spent - n.steps p)) (received p n.journal))
 turn_of_party app budget n zero p0 = absurd (p0 refl)
 turn_of_party app budget n (suc p) p0 = refl
 
 one_more_is : {A : Type 0} (x : A) (xs : List A) → one_more (x ∷ xs) xs ≡ Some x
 one_more_is x xs = ap (λ b. (if b then Some x else None)) (self_eq (suc (length xs)))
 
-runs_on : (own : ℕ → Party Ref) (p r : ℕ) (o : Option Ref) (x : Ask Ref) → ending_of (hand_over own r o x) ≡ None
+runs_on : (own : ℕ → Party Ref MadeSymbol) (p r : ℕ) (o : Option Ref) (x : Ask Ref MadeSymbol) → ending_of (hand_over own r o x) ≡ None
 runs_on own p zero o x = refl
 runs_on own p (suc r) o x = refl
 
 -- a reply is added alike
-replied : (app : Application) (w : World) (p : ℕ) (c : Reply Ref) (stack : Stack) → open_asks w.journal ≡ askers stack → adds app (record { journal = w.journal; steps = w.steps; spent = w.spent; ending = None }) p (Some (Answers c)) ≡ told (replies_of p c stack w)
+replied : (app : Application) (w : World) (p : ℕ) (c : Reply Ref MadeSymbol) (stack : Stack) → open_asks w.journal ≡ askers stack → adds app (record { journal = w.journal; steps = w.steps; spent = w.spent; ending = None }) p (Some (Answers c)) ≡ told (replies_of p c stack w)
 replied app w p c [] asks = ap (λ ps. record { journal = record { sender = p; receiver = first_or_host ps; body = Answers c } ∷ w.journal; steps = w.steps; spent = w.spent; ending = ended_by (Answers c) ps }) asks
 replied app w p c (b ∷ []) asks = ap (λ ps. record { journal = record { sender = p; receiver = first_or_host ps; body = Answers c } ∷ w.journal; steps = w.steps; spent = w.spent; ending = ended_by (Answers c) ps }) asks
 replied app w p c (b ∷ d ∷ stack) asks = ap (λ ps. record { journal = record { sender = p; receiver = first_or_host ps; body = Answers c } ∷ w.journal; steps = w.steps; spent = w.spent; ending = ended_by (Answers c) ps }) asks
 
-tells_run : (app : Application) (w : World) (p : ℕ) (bodies : List (List (Next Ref))) (stop : Stop Ref) → open_asks w.journal ≡ askers w.stack → tells app (record { journal = w.journal; steps = w.steps; spent = w.spent; ending = None }) p (after (sent_by p w.journal) bodies stop) ≡ told (has_run app p w stop)
+tells_run : (app : Application) (w : World) (p : ℕ) (bodies : List (List (Next Ref MadeSymbol))) (stop : Stop Ref MadeSymbol) → open_asks w.journal ≡ askers w.stack → tells app (record { journal = w.journal; steps = w.steps; spent = w.spent; ending = None }) p (after (sent_by p w.journal) bodies stop) ≡ told (has_run app p w stop)
 tells_run app w p bodies (Sent o x own ks n) asks =
     ap (adds app (record { journal = w.journal; steps = put p n w.steps; spent = w.spent + (n - w.steps p); ending = None }) p) (one_more_is (Asks o x) (sent_by p w.journal))
     ∙ ap (λ e. record { journal = record { sender = p; receiver = asked_party app p o x; body = Asks o x } ∷ w.journal; steps = put p n w.steps; spent = w.spent + (n - w.steps p); ending = e }) (sym (runs_on (put p own w.own) p (asked_party app p o x) o x))
@@ -341,8 +342,8 @@ goes_along app budget w core (Runs p point) is at =
     let left : n - w.steps p ≡ budget - w.spent = omega (arith, mine, within) in
     ap (turn_of app budget n0) at.turn
     ∙ (turn_of_party app budget n0 p at.party
-    ∙ (ap (tells app n0 p) (ran app w p point at.takes n le ∙ ap (λ l. after (sent_by p w.journal) (bodies_of p w.stack) (run (names_of p) l (w.steps p) point)) left)
-    ∙ tells_run app w p (bodies_of p w.stack) (run (names_of p) (budget - w.spent) (w.steps p) point) at.asks))
+    ∙ (ap (tells app n0 p) (ran app w p point at.takes n le ∙ ap (λ l. after (sent_by p w.journal) (bodies_of p w.stack) (run (naming_of p) l (w.steps p) point)) left)
+    ∙ tells_run app w p (bodies_of p w.stack) (run (naming_of p) (budget - w.spent) (w.steps p) point) at.asks))
 goes_along app budget w core Host_replies is at =
     ap (turn_of app budget (record { journal = w.journal; steps = w.steps; spent = w.spent; ending = None })) at.turn
     ∙ replied app w 0 (app.host (received 0 w.journal)) w.stack at.asks
@@ -364,10 +365,10 @@ its_own : (app : Application) (w : World) (e : Ending) (p : ℕ) → Has_run app
 its_own app w e p h =
     let is = h.stands.2 in
     record {
-      sent = ap (λ (r : Local Ref). r.sent) is;
-      steps = ap (λ (r : Local Ref). r.steps) is;
-      stands = subst (λ (r : Local Ref). StandsAt e p r.standing) (sym is) h.stands.1;
-      larger = λ wait n le. h.larger (subst (λ (r : Local Ref). IsWaiting r.standing) is wait) n le ∙ sym is;
+      sent = ap (λ (r : Local Ref MadeSymbol). r.sent) is;
+      steps = ap (λ (r : Local Ref MadeSymbol). r.steps) is;
+      stands = subst (λ (r : Local Ref MadeSymbol). StandsAt e p r.standing) (sym is) h.stands.1;
+      larger = λ wait n le. h.larger (subst (λ (r : Local Ref MadeSymbol). IsWaiting r.standing) is wait) n le ∙ sym is;
     }
 
 ended : (app : Application) (w : World) (e : Ending) (p : ℕ) → p ≢ 0 → (c : Control) → At app w c → ending_of c ≡ Some e → Has_run app w e p

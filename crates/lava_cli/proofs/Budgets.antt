@@ -1,8 +1,9 @@
 -- A run that has ended stays as it is, and two budgets give one run up to where the smaller one is used up.
 use Rattle.std.proofs.Common.{◌≡◌, ℕ, zero, suc, ◌+◌, ◌-◌, ◌≤◌, ◌⊎◌, inl, inr, Option, Some, None, refl, sym, ap, ◌∙◌, subst, ⊎_elim, arith}
 use Rattle.std.proofs.lemmas.Bool.{cases_lt}
+use Rattle.lava_base.specs.declared.ids.MadeSymbol.{MadeSymbol}
 use Rattle.lava_base.specs.declared.ids.Ref.{Ref}
-use Rattle.js_text.specs.Names.{names_of}
+use Rattle.js_text.specs.Naming.{naming_of}
 use Rattle.lava_cli.specs.Run.{Stop, Sent, Gave, Stopped, Short, run}
 use Rattle.lava_cli.specs.Journal.{Application, Ending}
 use Rattle.lava_cli.specs.Heap.{Control, Runs, Host_replies, Over_with, World, has_run, cross, heap}
@@ -59,7 +60,7 @@ ended_net_is_one app budget m n d e first second =
 
 -- TWO BUDGETS
 
-full_or_short : (stop : Stop Ref) → IsFull stop ⊎ ((n : ℕ) × (stop ≡ Short n))
+full_or_short : (stop : Stop Ref MadeSymbol) → IsFull stop ⊎ ((n : ℕ) × (stop ≡ Short n))
 full_or_short (Sent o x p ks n) = inl tt
 full_or_short (Gave c p n) = inl tt
 full_or_short (Stopped e n) = inl tt
@@ -67,12 +68,12 @@ full_or_short (Short n) = inr (n, refl)
 
 cross_two : (app : Application) (small large : ℕ) (w : World) → small ≤ large → (c : Control) → Ends_short (cross app small w c) small ⊎ (cross app small w c ≡ cross app large w c)
 cross_two app small large w le (Runs p point) =
-    let stop = run (names_of p) (small - w.spent) (w.steps p) point in
+    let stop = run (naming_of p) (small - w.spent) (w.steps p) point in
     ⊎_elim
     (λ full.
-    let within = run_within (names_of p) (small - w.spent) (w.steps p) point in
-    inr (ap (has_run app p w) (sym (run_enough (names_of p) (small - w.spent) (large - w.spent) (w.steps p) point full (omega (arith, within, le))))))
-    (λ short. inl (record { party = p; ending = ap (λ (s : Stop Ref). ending_of (has_run app p w s).control) short.1 }))
+    let within = run_within (naming_of p) (small - w.spent) (w.steps p) point in
+    inr (ap (has_run app p w) (sym (run_enough (naming_of p) (small - w.spent) (large - w.spent) (w.steps p) point full (omega (arith, within, le))))))
+    (λ short. inl (record { party = p; ending = ap (λ (s : Stop Ref MadeSymbol). ending_of (has_run app p w s).control) short.1 }))
     (full_or_short stop)
 cross_two app small large w le Host_replies = inr refl
 cross_two app small large w le (Over_with e) = inr refl

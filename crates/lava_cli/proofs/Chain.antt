@@ -1,7 +1,8 @@
 -- The chain of control.
 use Rattle.std.proofs.Common.{◌≡◌, ℕ, zero, suc, ◌-◌, List, [], ◌∷◌, Option, Some, None, refl, sym, ap, ◌∙◌, subst}
+use Rattle.lava_base.specs.declared.ids.MadeSymbol.{MadeSymbol}
 use Rattle.lava_base.specs.declared.ids.Ref.{Ref}
-use Rattle.js_text.specs.Names.{names_of}
+use Rattle.js_text.specs.Naming.{naming_of}
 use Rattle.lava_cli.specs.Asks.{Ask, Reply, Asks}
 use Rattle.lava_cli.specs.Party.{Party}
 use Rattle.lava_cli.specs.Acts.{Next}
@@ -14,7 +15,7 @@ use Rattle.lava_cli.specs.Chain.{open_pairs, GoesRight, IsLinked, IsChain, Journ
 
 -- the bodies that wait, each with its party, the last one first
 abbrev Stack : Type 0
-Stack = List (ℕ × List (Next Ref))
+Stack = List (ℕ × List (Next Ref MadeSymbol))
 
 -- who asked, and whom, where p runs over this stack
 abbrev pairs : ℕ → Stack → List (ℕ × ℕ)
@@ -38,26 +39,26 @@ record Linked (app : Application) (w : World) : Type 0 where
   turn : TurnOf w w.control
 
 -- a crossing more, where an ask is open
-longer : (app : Application) (x : Crossing Ref) (older : List (Crossing Ref)) (p : ℕ) (stack : Stack) → open_pairs older ≡ pairs p stack → IsLinked app x older → IsChain app older → IsChain app (x ∷ older)
+longer : (app : Application) (x : Crossing Ref MadeSymbol) (older : List (Crossing Ref MadeSymbol)) (p : ℕ) (stack : Stack) → open_pairs older ≡ pairs p stack → IsLinked app x older → IsChain app older → IsChain app (x ∷ older)
 longer app x [] p [] e h k = absurd cc
 longer app x [] p (b ∷ stack) e h k = absurd cc
 longer app x (y ∷ older) p stack e h k = (h, k)
 
-goes_ask : (app : Application) (p : ℕ) (o : Option Ref) (x : Ask Ref) (older : List (Crossing Ref)) → GoesRight app (Asks o x) p (asked_party app p o x) older
+goes_ask : (app : Application) (p : ℕ) (o : Option Ref) (x : Ask Ref MadeSymbol) (older : List (Crossing Ref MadeSymbol)) → GoesRight app (Asks o x) p (asked_party app p o x) older
 goes_ask app p None x older = refl
 goes_ask app p (Some o) x older = refl
 
-handed : (w : World) (own : ℕ → Party Ref) (r : ℕ) (o : Option Ref) (x : Ask Ref) → Turn w r → TurnOf w (hand_over own r o x)
+handed : (w : World) (own : ℕ → Party Ref MadeSymbol) (r : ℕ) (o : Option Ref) (x : Ask Ref MadeSymbol) → Turn w r → TurnOf w (hand_over own r o x)
 handed w own zero o x h = h
 handed w own (suc r) o x h = h
 
-sent : (app : Application) (w : World) (p : ℕ) (o : Option Ref) (x : Ask Ref) (ks : List (Next Ref)) → IsChain app w.journal → Turn w p → Linked app (asks_of p (asked_party app p o x) o x ks w)
+sent : (app : Application) (w : World) (p : ℕ) (o : Option Ref) (x : Ask Ref MadeSymbol) (ks : List (Next Ref MadeSymbol)) → IsChain app w.journal → Turn w p → Linked app (asks_of p (asked_party app p o x) o x ks w)
 sent app w p o x ks chain t = record {
   chain = longer app _ w.journal p w.stack t.pairs_are (record { control = sym t.last; goes = goes_ask app p o x w.journal }) chain;
   turn = handed (asks_of p (asked_party app p o x) o x ks w) w.own (asked_party app p o x) o x (record { last = refl; pairs_are = ap (λ l. (p, asked_party app p o x) ∷ l) t.pairs_are });
 }
 
-gave : (app : Application) (w : World) (p : ℕ) (c : Reply Ref) (stack : Stack) → w.stack ≡ stack → IsChain app w.journal → Turn w p → Linked app (replies_of p c stack w)
+gave : (app : Application) (w : World) (p : ℕ) (c : Reply Ref MadeSymbol) (stack : Stack) → w.stack ≡ stack → IsChain app w.journal → Turn w p → Linked app (replies_of p c stack w)
 gave app w p c [] is chain t =
     let pairs_now : open_pairs w.journal ≡ pairs p [] = t.pairs_are ∙ ap (pairs p) is in
     record { chain = longer app _ w.journal p [] pairs_now (record { control = sym t.last; goes = ap first pairs_now }) chain; turn = tt }
@@ -68,14 +69,14 @@ gave app w p c (b ∷ stack) is chain t =
       turn = record { last = refl; pairs_are = ap rest pairs_now };
     }
 
-ran : (app : Application) (w : World) (p : ℕ) → IsChain app w.journal → Turn w p → (stop : Stop Ref) → Linked app (has_run app p w stop)
+ran : (app : Application) (w : World) (p : ℕ) → IsChain app w.journal → Turn w p → (stop : Stop Ref MadeSymbol) → Linked app (has_run app p w stop)
 ran app w p chain t (Sent o x own ks n) = sent app (with_own p own (charged p n w)) p o x ks chain (record { last = t.last; pairs_are = t.pairs_are })
 ran app w p chain t (Gave c own n) = gave app (with_own p own (charged p n w)) p (reply_of c) w.stack refl chain (record { last = t.last; pairs_are = t.pairs_are })
 ran app w p chain t (Stopped k n) = record { chain = chain; turn = tt }
 ran app w p chain t (Short n) = record { chain = chain; turn = tt }
 
 crossed : (app : Application) (budget : ℕ) (w : World) (c : Control) → c ≡ w.control → IsChain app w.journal → TurnOf w c → Linked app (cross app budget w c)
-crossed app budget w (Runs p point) is chain t = ran app w p chain t (run (names_of p) (budget - w.spent) (w.steps p) point)
+crossed app budget w (Runs p point) is chain t = ran app w p chain t (run (naming_of p) (budget - w.spent) (w.steps p) point)
 crossed app budget w Host_replies is chain t = gave app w 0 (app.host (received 0 w.journal)) w.stack refl chain t
 crossed app budget w (Over_with e) is chain t = record { chain = chain; turn = subst (TurnOf w) is t }
 

@@ -1,20 +1,20 @@
 -- A body over others runs as by itself, and then the others go on.
 use Rattle.std.proofs.Common.{◌≡◌, ℕ, zero, suc, ◌+◌, ◌-◌, ◌≤◌, List, [], ◌∷◌, ◌++◌, refl, ap, ◌∙◌, arith}
-use Rattle.js_text.specs.Names.{Names}
+use Rattle.js_text.specs.Naming.{Naming}
 use Rattle.lava_cli.specs.Acts.{Act, Give, Evaluate, Become, Decide_at, Pay, Send, End, Next, go_on}
 use Rattle.lava_cli.specs.Run.{Begin, work, Point, Due, Sends, Over, Ended, settle, Stop, Sent, Gave, Stopped, Short, run_for, run}
 use Rattle.lava_cli.specs.Compose.{and_then, Rows_compose}
 use Rattle.lava_cli.proofs.Steps.{steps_of, above_for, room, charged}
 
 -- where a body stands, with more left of it
-abbrev under : {R : Type 0} → List (Next R) → Point R → Point R
+abbrev under : {R S : Type 0} → List (Next R S) → Point R S → Point R S
 under ks (Due n j p fs) = Due n j p (fs ++ ks)
 under ks (Sends o x p fs) = Sends o x p (fs ++ ks)
 under ks (Over c p) = settle ks (Give c p)
 under ks (Ended e) = Ended e
 
-module _ {R : Type 0} (names : Names R) where
-  settle_under : (fs ks : List (Next R)) (a : Act R) → settle (fs ++ ks) a ≡ under ks (settle fs a)
+module _ {R S : Type 0} (names : Naming R S) where
+  settle_under : (fs ks : List (Next R S)) (a : Act R S) → settle (fs ++ ks) a ≡ under ks (settle fs a)
   settle_under [] ks (Give c p) = refl
   settle_under [] ks (Evaluate t s p k) = refl
   settle_under [] ks (Become t s p) = refl
@@ -30,7 +30,7 @@ module _ {R : Type 0} (names : Names R) where
   settle_under (f ∷ fs) ks (Send o x p k) = refl
   settle_under (f ∷ fs) ks (End e) = refl
 
-  charges_same : (charges charges' left steps : ℕ) (point : Point R) → left ≤ charges → left ≤ charges' → run_for names charges left steps point ≡ run_for names charges' left steps point
+  charges_same : (charges charges' left steps : ℕ) (point : Point R S) → left ≤ charges → left ≤ charges' → run_for names charges left steps point ≡ run_for names charges' left steps point
   charges_same charges charges' left steps (Sends o x p ks) h h' = refl
   charges_same charges charges' left steps (Over c p) h h' = refl
   charges_same charges charges' left steps (Ended e) h h' = refl
@@ -44,7 +44,7 @@ module _ {R : Type 0} (names : Names R) where
       (λ k. charges_same charges charges' (left - suc n) (steps + suc n) (settle ks (work names j p)) (omega (arith, h)) (omega (arith, h')))
       (λ k. refl)
 
-  shifts : (ks : List (Next R)) (left steps n : ℕ) (stop : Stop R) → steps + suc n ≤ steps_of stop → and_then names ks (left - suc n) (steps + suc n) stop ≡ and_then names ks left steps stop
+  shifts : (ks : List (Next R S)) (left steps n : ℕ) (stop : Stop R S) → steps + suc n ≤ steps_of stop → and_then names ks (left - suc n) (steps + suc n) stop ≡ and_then names ks left steps stop
   shifts ks left steps n (Sent o x p fs m) h = refl
   shifts ks left steps n (Gave c p m) h =
       let e : left - suc n - (m - (steps + suc n)) ≡ left - (m - steps) = omega (arith, h) in
@@ -52,7 +52,7 @@ module _ {R : Type 0} (names : Names R) where
   shifts ks left steps n (Stopped e m) h = refl
   shifts ks left steps n (Short m) h = refl
 
-  and_then_is : (ks : List (Next R)) (charges left steps : ℕ) (point : Point R) → left ≤ charges → run_for names charges left steps (under ks point) ≡ and_then names ks left steps (run_for names charges left steps point)
+  and_then_is : (ks : List (Next R S)) (charges left steps : ℕ) (point : Point R S) → left ≤ charges → run_for names charges left steps (under ks point) ≡ and_then names ks left steps (run_for names charges left steps point)
   and_then_is ks charges left steps (Sends o x p fs) h = refl
   and_then_is ks charges left steps (Over c p) h =
       let e : left ≡ left - (steps - steps) = omega arith in

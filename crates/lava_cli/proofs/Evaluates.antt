@@ -6,8 +6,10 @@ use Rattle.std.proofs.Math.ListN.{get_or-map as map_reads}
 use Rattle.std.proofs.lemmas.Bool.{eqb-true}
 use Rattle.std.proofs.Math.Seq.{get_or-append_seam}
 use Rattle.std.specs.Option.{option_map}
+use Rattle.lava_base.specs.declared.ids.MadeSymbol.{MadeSymbol}
 use Rattle.lava_base.specs.declared.ids.Ref.{Ref}
-use Rattle.js_text.specs.Maps.{map_value}
+use Rattle.js_text.specs.Maps.{map_symbol, map_value}
+use Rattle.js_text.specs.declared.value.Symbol.{Symbol}
 use Rattle.js_text.specs.declared.value.Value.{Value}
 use Rattle.js_text.specs.declared.value.Value.TheVariants as value
 use Rattle.lava_cli.specs.declared.program.Constant.{Constant}
@@ -20,6 +22,7 @@ use Rattle.lava_cli.specs.declared.binding.Binding.{Binding}
 use Rattle.lava_cli.specs.declared.binding.Binding.TheVariants as binding
 use Rattle.lava_cli.specs.declared.binding.Answer.{Answer}
 use Rattle.lava_cli.specs.declared.binding.Answer.TheVariants.{Argument, Fixed}
+use Rattle.js_store.specs.Frozen.{no_symbol}
 use Rattle.lava_cli.specs.Terms.{Term, Lit, Local, Call, Return, No_more, Template}
 use Rattle.lava_cli.specs.Objects.{Object, CommonPart}
 use Rattle.lava_cli.specs.Asks as ask
@@ -27,7 +30,7 @@ use Rattle.lava_cli.specs.Party.{Party, Scope, slot_of}
 use Rattle.lava_cli.specs.Decide.{called}
 use Rattle.lava_cli.specs.Acts.{Act, Next, give, read_slot, all_values, with_value, call_function, call_with, act_by, as_it_is, body_ending, return_value, in_order}
 use Rattle.lava_cli.specs.Run.{Begin, Decide, Due, settle}
-use Rattle.js_text.specs.Names.{Own}
+use Rattle.js_text.specs.Naming.{Own}
 use Rattle.lava_cli.specs.Names.{find, place_in}
 use Rattle.lava_cli.specs.Lower.{value_of, operand_term, operand_terms, module_name, expression_term, expression_terms, result_term, function_body}
 use Rattle.lava_cli.specs.Lines.{Environment, chained, value_in, operand_value, operand_values, answer_of, if_as_many, called_in, expression_value, expression_values}
@@ -35,9 +38,9 @@ use Rattle.lava_cli.proofs.Goes.{own_names, Goes, none, one, and, to, from, at_c
 use Rattle.lava_cli.proofs.States.{Slots, state, Has_value, Gives, Holds}
 
 -- a literal is its own value, as it names nothing of the common part
-pub literal_is : {A B : Type 0} (f : A → B) (c : Constant) → map_value f (value_of c) ≡ value_of c
-literal_is f (constant.Text u) = refl
-literal_is f (constant.Number n) = refl
+pub literal_is : {A B S T : Type 0} (f : A → B) (g : Symbol S → Symbol T) (c : Constant) → map_value f g (value_of c) ≡ value_of c
+literal_is f g (constant.Text u) = refl
+literal_is f g (constant.Number n) = refl
 
 pub some_is : {A : Type 0} {a b : A} → Some a ≡ Some b → a ≡ b
 some_is e = cc
@@ -68,7 +71,7 @@ mapped None f b e = absurd cc
 mapped (Some a) f b e = record { first = a; is = refl; gives = some_is e }
 
 -- a function's slots are its arguments
-argument_at : (m i : ℕ) (vs : List (Value Ref)) (d : Value Ref) → length vs ≡ m → i < m → get_or (take m (map Some vs ++ replicate m (Some value.Undefined)) ++ replicate (m - m) None) i None ≡ Some (get_or vs i d)
+argument_at : (m i : ℕ) (vs : List (Value Ref MadeSymbol)) (d : Value Ref MadeSymbol) → length vs ≡ m → i < m → get_or (take m (map Some vs ++ replicate m (Some value.Undefined)) ++ replicate (m - m) None) i None ≡ Some (get_or vs i d)
 argument_at m i vs d e h =
     let n : length (map Some vs) ≡ m = length-map vs Some ∙ e in
     let whole : take m (map Some vs ++ replicate m (Some value.Undefined)) ≡ map Some vs = take-append-le m (map Some vs) (replicate m (Some value.Undefined)) (omega (arith, n)) ∙ take_all m (map Some vs) (omega (arith, n)) in
@@ -105,22 +108,22 @@ abbrev pub expressions_cost : List Expression → ℕ
 expressions_cost [] = 0
 expressions_cost (e ∷ es) = expression_cost e + expressions_cost es
 
-module _ (common : CommonPart) (main : Template) (names : List (List ℕ)) (objects : List (Object Ref)) (slots : Slots) (count : ℕ) (env : Environment) (holds : Holds names objects slots count env) where
-  abbrev at : List (Scope Ref) → Party Ref
+module _ (common : CommonPart) (main : Template) (names : List (List ℕ)) (objects : List (Object Ref MadeSymbol)) (slots : Slots) (count : ℕ) (env : Environment) (holds : Holds names objects slots count env) where
+  abbrev at : List (Scope Ref MadeSymbol) → Party Ref MadeSymbol
   at more = state common main objects slots more
 
-  local_goes : (x : List ℕ) (v : Value Ref) → Has_value names slots count x v → (more : List (Scope Ref)) (ks : List (Next Ref)) → Goes 1 (Due 0 (Begin (module_name 0 x (place_in x names)) 0) (at more) ks) (settle ks (give v (at more)))
+  local_goes : (x : List ℕ) (v : Value Ref MadeSymbol) → Has_value names slots count x v → (more : List (Scope Ref MadeSymbol)) (ks : List (Next Ref MadeSymbol)) → Goes 1 (Due 0 (Begin (module_name 0 x (place_in x names)) 0) (at more) ks) (settle ks (give v (at more)))
   local_goes x v h more ks =
       from (ap (λ o. Due 0 (Begin (module_name 0 x o) 0) (at more) ks) h.is_place)
       (to (one (Begin (Local 0 (3 + h.place)) 0) (at more) ks) (ap (λ o. settle ks (read_slot o (at more))) h.holds))
 
-  pub operand_goes : (o : Operand) (c : Constant) → operand_value env o ≡ Some c → (more : List (Scope Ref)) (ks : List (Next Ref)) → Goes 1 (Due 0 (Begin (operand_term names o) 0) (at more) ks) (settle ks (give (value_of c) (at more)))
+  pub operand_goes : (o : Operand) (c : Constant) → operand_value env o ≡ Some c → (more : List (Scope Ref MadeSymbol)) (ks : List (Next Ref MadeSymbol)) → Goes 1 (Due 0 (Begin (operand_term names o) 0) (at more) ks) (settle ks (give (value_of c) (at more)))
   operand_goes (operand.Name x) c e more ks = local_goes x (value_of c) (holds.value x c (value_found (find x env) c e)) more ks
   operand_goes (operand.Constant d) c e more ks =
-      to (one (Begin (Lit (value_of d)) 0) (at more) ks) (ap (λ v. settle ks (give v (at more))) (literal_is own_names.common d ∙ ap value_of (some_is e)))
+      to (one (Begin (Lit (value_of d)) 0) (at more) ks) (ap (λ v. settle ks (give v (at more))) (literal_is own_names.common (map_symbol no_symbol) d ∙ ap value_of (some_is e)))
 
   -- operands from left to right
-  pub operands_go : (os : List Operand) (cs : List Constant) → operand_values env os ≡ Some cs → (more : List (Scope Ref)) (acc : List (Value Ref)) (go : List (Value Ref) → Party Ref → Act Ref) (ks : List (Next Ref)) → Goes (length os) (settle ks (all_values (operand_terms names os) 0 acc go (at more))) (settle ks (go (acc ++ map value_of cs) (at more)))
+  pub operands_go : (os : List Operand) (cs : List Constant) → operand_values env os ≡ Some cs → (more : List (Scope Ref MadeSymbol)) (acc : List (Value Ref MadeSymbol)) (go : List (Value Ref MadeSymbol) → Party Ref MadeSymbol → Act Ref MadeSymbol) (ks : List (Next Ref MadeSymbol)) → Goes (length os) (settle ks (all_values (operand_terms names os) 0 acc go (at more))) (settle ks (go (acc ++ map value_of cs) (at more)))
   operands_go [] cs e more acc go ks =
       let f : acc ≡ acc ++ map value_of cs = sym (append-nil acc) ∙ ap (λ xs. acc ++ map value_of xs) (some_is e) in
       to (none (settle ks (go acc (at more)))) (ap (λ vs. settle ks (go vs (at more))) f)
@@ -134,49 +137,49 @@ module _ (common : CommonPart) (main : Template) (names : List (List ℕ)) (obje
 
   -- A CALL
 
-  abbrev scope_of_call : (parameters : List (List ℕ)) → List (Value Ref) → Scope Ref
+  abbrev scope_of_call : (parameters : List (List ℕ)) → List (Value Ref MadeSymbol) → Scope Ref MadeSymbol
   scope_of_call xs vs = record { outer = 0; slots = take (length xs) (map Some vs ++ replicate (length xs) (Some value.Undefined)) ++ replicate (length xs - length xs) None }
 
-  abbrev with_call : List (Scope Ref) → (parameters : List (List ℕ)) → List (Value Ref) → List (Scope Ref)
+  abbrev with_call : List (Scope Ref MadeSymbol) → (parameters : List (List ℕ)) → List (Value Ref MadeSymbol) → List (Scope Ref MadeSymbol)
   with_call more xs vs = more ++ scope_of_call xs vs ∷ []
 
   -- a function's result in the scope of a call
-  result_goes : (t : Term) (xs : List (List ℕ)) (a : Answer) (cs : List Constant) → length cs ≡ length xs → Gives slots count (length xs) a t → (more : List (Scope Ref)) (ks : List (Next Ref)) → Goes 1 (Due 0 (Begin t (suc (length more))) (at (with_call more xs (map value_of cs))) ks) (settle ks (give (value_of (answer_of a cs)) (at (with_call more xs (map value_of cs)))))
+  result_goes : (t : Term) (xs : List (List ℕ)) (a : Answer) (cs : List Constant) → length cs ≡ length xs → Gives slots count (length xs) a t → (more : List (Scope Ref MadeSymbol)) (ks : List (Next Ref MadeSymbol)) → Goes 1 (Due 0 (Begin t (suc (length more))) (at (with_call more xs (map value_of cs))) ks) (settle ks (give (value_of (answer_of a cs)) (at (with_call more xs (map value_of cs)))))
   result_goes t xs (Argument i) cs e g more ks =
-      let vs : List (Value Ref) = map value_of cs in
+      let vs : List (Value Ref MadeSymbol) = map value_of cs in
       let q = at (with_call more xs vs) in
       let call = scope_of_call xs vs in
       let d = constant.Number (pos 0) in
       let there = get_or-append_seam more call [] (record { outer = 0; slots = [] }) in
       let n : length vs ≡ length xs = length-map cs value_of ∙ e in
       let is : slot_of q 0 (suc (length more)) i ≡ Some (value_of (get_or cs i d)) =
-      ap (λ (s : Scope Ref). get_or s.slots i None) there ∙ (argument_at (length xs) i vs (value_of d) n g.1 ∙ ap Some (map_reads value_of cs i d)) in
+      ap (λ (s : Scope Ref MadeSymbol). get_or s.slots i None) there ∙ (argument_at (length xs) i vs (value_of d) n g.1 ∙ ap Some (map_reads value_of cs i d)) in
       from (ap (λ u. Due 0 (Begin u (suc (length more))) q ks) g.0)
       (to (one (Begin (Local 0 i) (suc (length more))) q ks) (ap (λ o. settle ks (read_slot o q)) is))
   result_goes t xs (Fixed c) cs e (inl is) more ks =
       let q = at (with_call more xs (map value_of cs)) in
       from (ap (λ u. Due 0 (Begin u (suc (length more))) q ks) is)
-      (to (one (Begin (Lit (value_of c)) (suc (length more))) q ks) (ap (λ v. settle ks (give v q)) (literal_is own_names.common c)))
+      (to (one (Begin (Lit (value_of c)) (suc (length more))) q ks) (ap (λ v. settle ks (give v q)) (literal_is own_names.common (map_symbol no_symbol) c)))
   result_goes t xs (Fixed c) cs e (inr o) more ks =
-      let vs : List (Value Ref) = map value_of cs in
+      let vs : List (Value Ref MadeSymbol) = map value_of cs in
       let q = at (with_call more xs vs) in
       let call = scope_of_call xs vs in
       let there = get_or-append_seam more call [] (record { outer = 0; slots = [] }) in
       let is : slot_of q 1 (suc (length more)) (3 + o.place) ≡ Some (value_of c) =
-      ap (λ (s : Scope Ref). slot_of q 0 s.outer (3 + o.place)) there ∙ o.holds in
+      ap (λ (s : Scope Ref MadeSymbol). slot_of q 0 s.outer (3 + o.place)) there ∙ o.holds in
       from (ap (λ u. Due 0 (Begin u (suc (length more))) q ks) o.is_local)
       (to (one (Begin (Local 1 (3 + o.place)) (suc (length more))) q ks) (ap (λ w. settle ks (read_slot w q)) is))
 
-  call_goes : (f : List ℕ) (os : List Operand) (n : ℕ) (a : Answer) (cs : List Constant) → find f env ≡ Some (binding.Function n a) → operand_values env os ≡ Some cs → n ≡ length cs → (more : List (Scope Ref)) → (later : List (Scope Ref)) × ((ks : List (Next Ref)) → Goes (6 + length os) (Due 0 (Begin (Call (module_name 0 f (place_in f names)) (operand_terms names os)) 0) (at more) ks) (settle ks (give (value_of (answer_of a cs)) (at later))))
+  call_goes : (f : List ℕ) (os : List Operand) (n : ℕ) (a : Answer) (cs : List Constant) → find f env ≡ Some (binding.Function n a) → operand_values env os ≡ Some cs → n ≡ length cs → (more : List (Scope Ref MadeSymbol)) → (later : List (Scope Ref MadeSymbol)) × ((ks : List (Next Ref MadeSymbol)) → Goes (6 + length os) (Due 0 (Begin (Call (module_name 0 f (place_in f names)) (operand_terms names os)) 0) (at more) ks) (settle ks (give (value_of (answer_of a cs)) (at later))))
   call_goes f os n a cs found values as_many more =
       let h = holds.function f n a found in
       let xs = h.parameters in
-      let vs : List (Value Ref) = map value_of cs in
+      let vs : List (Value Ref MadeSymbol) = map value_of cs in
       let later = with_call more xs vs in
       let ts = operand_terms names os in
       let t = result_term names xs h.result in
-      let this : Value Ref = value.Undefined in
-      let callee : Value Ref = value.Ref (own_names.own h.id) in
+      let this : Value Ref MadeSymbol = value.Undefined in
+      let callee : Value Ref MadeSymbol = value.Ref (own_names.own h.id) in
       let k : 1 + (1 + (length os + (1 + (1 + (1 + 1))))) ≡ 6 + length os = omega arith in
       let gives : Gives slots count (length xs) a t = subst (λ m. Gives slots count m a t) h.as_many h.gives in (
         later,
@@ -193,7 +196,7 @@ module _ (common : CommonPart) (main : Template) (names : List (List ℕ)) (obje
 
   -- EXPRESSIONS
 
-  pub expression_goes : (x : Expression) (c : Constant) → expression_value env x ≡ Some c → (more : List (Scope Ref)) → (later : List (Scope Ref)) × ((ks : List (Next Ref)) → Goes (expression_cost x) (Due 0 (Begin (expression_term names x) 0) (at more) ks) (settle ks (give (value_of c) (at later))))
+  pub expression_goes : (x : Expression) (c : Constant) → expression_value env x ≡ Some c → (more : List (Scope Ref MadeSymbol)) → (later : List (Scope Ref MadeSymbol)) × ((ks : List (Next Ref MadeSymbol)) → Goes (expression_cost x) (Due 0 (Begin (expression_term names x) 0) (at more) ks) (settle ks (give (value_of c) (at later))))
   expression_goes (expression.Operand o) c e more = (more, λ ks. operand_goes o c e more ks)
   expression_goes (expression.Call f os) c e more =
       let w = went (operand_values env os) (λ cs. called_in (find f env) cs) c e in
@@ -201,7 +204,7 @@ module _ (common : CommonPart) (main : Template) (names : List (List ℕ)) (obje
       let g = call_goes f os b.parameters b.answer w.first b.is w.is b.as_many more in
       (g.0, λ ks. to (g.1 ks) (ap (λ d. settle ks (give (value_of d) (at g.0))) b.gives))
 
-  pub expressions_go : (xs : List Expression) (cs : List Constant) → expression_values env xs ≡ Some cs → (more : List (Scope Ref)) → (later : List (Scope Ref)) × ((acc : List (Value Ref)) (go : List (Value Ref) → Party Ref → Act Ref) (ks : List (Next Ref)) → Goes (expressions_cost xs) (settle ks (all_values (expression_terms names xs) 0 acc go (at more))) (settle ks (go (acc ++ map value_of cs) (at later))))
+  pub expressions_go : (xs : List Expression) (cs : List Constant) → expression_values env xs ≡ Some cs → (more : List (Scope Ref MadeSymbol)) → (later : List (Scope Ref MadeSymbol)) × ((acc : List (Value Ref MadeSymbol)) (go : List (Value Ref MadeSymbol) → Party Ref MadeSymbol → Act Ref MadeSymbol) (ks : List (Next Ref MadeSymbol)) → Goes (expressions_cost xs) (settle ks (all_values (expression_terms names xs) 0 acc go (at more))) (settle ks (go (acc ++ map value_of cs) (at later))))
   expressions_go [] cs e more = (
     more,
     λ acc go ks.

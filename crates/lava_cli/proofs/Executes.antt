@@ -3,8 +3,9 @@ use Rattle.std.proofs.Common.{◌≡◌, ◌≢◌, ℕ, suc, ◌+◌, ◌<◌, 
 use Rattle.std.proofs.lemmas.List.{length-append, length-set, get_or-set_same, get_or-set_other}
 use Rattle.std.specs.Prelude.{codes}
 use Rattle.std.specs.Option.{option_map, is_none}
+use Rattle.lava_base.specs.declared.ids.MadeSymbol.{MadeSymbol}
 use Rattle.lava_base.specs.declared.ids.Ref.{Ref}
-use Rattle.js_text.specs.Names.{Own}
+use Rattle.js_text.specs.Naming.{Own}
 use Rattle.js_text.specs.declared.value.Value.{Value}
 use Rattle.js_text.specs.declared.value.Value.TheVariants as value
 use Rattle.js_text.specs.declared.value.Key.TheVariants as key
@@ -66,7 +67,7 @@ lets env lines x e new h = lets_by env lines x e new (find x env) refl h
 
 -- what a function gives
 
-result_gives_by : (names : List (List ℕ)) (objects : List (Object Ref)) (slots : Slots) (count : ℕ) (env : Environment) (xs : List (List ℕ)) (x : List ℕ) (a : Answer) (o : Option ℕ) → Holds names objects slots count env → place_in x xs ≡ o → answer_at o (value_in (find x env)) ≡ Some a → Gives slots count (length xs) a (inner_name names x o)
+result_gives_by : (names : List (List ℕ)) (objects : List (Object Ref MadeSymbol)) (slots : Slots) (count : ℕ) (env : Environment) (xs : List (List ℕ)) (x : List ℕ) (a : Answer) (o : Option ℕ) → Holds names objects slots count env → place_in x xs ≡ o → answer_at o (value_in (find x env)) ≡ Some a → Gives slots count (length xs) a (inner_name names x o)
 result_gives_by names objects slots count env xs x a (Some i) holds t e =
     let h : i < 0 + length xs = within x 0 xs i t in
     subst (λ b. Gives slots count (length xs) b (Local 0 i)) (some_is e) (refl, omega (arith, h))
@@ -76,7 +77,7 @@ result_gives_by names objects slots count env xs x a None holds t e =
     subst (λ b. Gives slots count (length xs) b (module_name 1 x (place_in x names))) m.gives
     (inr (record { place = v.place; is_local = ap (module_name 1 x) v.is_place; below = v.below; holds = v.holds }))
 
-result_gives : (names : List (List ℕ)) (objects : List (Object Ref)) (slots : Slots) (count : ℕ) (env : Environment) (xs : List (List ℕ)) (r : Operand) (a : Answer) → Holds names objects slots count env → answer_in env xs r ≡ Some a → Gives slots count (length xs) a (result_term names xs r)
+result_gives : (names : List (List ℕ)) (objects : List (Object Ref MadeSymbol)) (slots : Slots) (count : ℕ) (env : Environment) (xs : List (List ℕ)) (r : Operand) (a : Answer) → Holds names objects slots count env → answer_in env xs r ≡ Some a → Gives slots count (length xs) a (result_term names xs r)
 result_gives names objects slots count env xs (operand.Name x) a holds e = result_gives_by names objects slots count env xs x a (place_in x xs) holds refl e
 result_gives names objects slots count env xs (operand.Constant c) a holds e = subst (λ b. Gives slots count (length xs) b (Lit (value_of c))) (some_is e) (inl refl)
 
@@ -116,7 +117,7 @@ same_parameters e = cc
 same_answer : {n k : ℕ} {a b : Answer} → binding.Function n a ≡ binding.Function k b → a ≡ b
 same_answer e = cc
 
-function_comes : {Q : Type 0} {names : List (List ℕ)} {objects : List (Object Ref)} {slots : Slots} {count n : ℕ} {f : List ℕ} {a : Answer} (g : List ℕ) (k : ℕ) (b : Answer) → ((f ≡ g) × (binding.Function n a ≡ binding.Function k b)) ⊎ Q → Has_function names objects slots count f n a → (Q → Has_function names objects slots count g k b) → Has_function names objects slots count g k b
+function_comes : {Q : Type 0} {names : List (List ℕ)} {objects : List (Object Ref MadeSymbol)} {slots : Slots} {count n : ℕ} {f : List ℕ} {a : Answer} (g : List ℕ) (k : ℕ) (b : Answer) → ((f ≡ g) × (binding.Function n a ≡ binding.Function k b)) ⊎ Q → Has_function names objects slots count f n a → (Q → Has_function names objects slots count g k b) → Has_function names objects slots count g k b
 function_comes {Q} {names} {objects} {slots} {count} {n} {f} {a} g k b (inl h) new old =
     let one = subst (λ m. Has_function names objects slots count f m a) (same_parameters h.1) new in
     let two = subst (λ c. Has_function names objects slots count f k c) (same_answer h.1) one in
@@ -124,21 +125,21 @@ function_comes {Q} {names} {objects} {slots} {count} {n} {f} {a} g k b (inl h) n
 function_comes g k b (inr h) new old = old h
 
 module _ (common : CommonPart) (main : Template) (names : List (List ℕ)) (show : Ref → List ℕ) (budget : ℕ) where
-  abbrev at : List (Object Ref) → Slots → List (Scope Ref) → Party Ref
+  abbrev at : List (Object Ref MadeSymbol) → Slots → List (Scope Ref MadeSymbol) → Party Ref MadeSymbol
   at objects slots more = state common main objects slots more
 
-  abbrev below : List (Next Ref)
+  abbrev below : List (Next Ref MadeSymbol)
   below = module_ending own_names 2 ∷ []
 
   -- the point before these terms of the module's body
-  abbrev pub before_terms : Terms → List (Object Ref) → Slots → List (Scope Ref) → Point Ref
+  abbrev pub before_terms : Terms → List (Object Ref MadeSymbol) → Slots → List (Scope Ref MadeSymbol) → Point Ref MadeSymbol
   before_terms ts objects slots more = settle below (in_order ts 0 value.Undefined (at objects slots more))
 
-  abbrev module_object : Object Ref
+  abbrev module_object : Object Ref MadeSymbol
   module_object = object_with own_names (at [] [] []) (open_property exports_key (value.Ref (own_names.own 1)) ∷ [])
 
   -- what holds before a statement
-  pub record Stands (passed : List (List ℕ)) (env : Environment) (ss : List Statement) (objects : List (Object Ref)) (slots : Slots) : Type 0 where
+  pub record Stands (passed : List (List ℕ)) (env : Environment) (ss : List Statement) (objects : List (Object Ref MadeSymbol)) (slots : Slots) : Type 0 where
     pub all : names ≡ passed ++ declared_names ss
     pub holds : Holds names objects slots (length passed) env
     pub covers : (y : List ℕ) → find y env ≡ None → place_from y 0 passed ≡ None
@@ -149,7 +150,7 @@ module _ (common : CommonPart) (main : Template) (names : List (List ℕ)) (show
 
   -- A LET
 
-  let_stands : (passed : List (List ℕ)) (env : Environment) (x : List ℕ) (e : Expression) (ss : List Statement) (objects : List (Object Ref)) (slots : Slots) (c : Constant) → find x env ≡ None → Stands passed env (Let x e ∷ ss) objects slots
+  let_stands : (passed : List (List ℕ)) (env : Environment) (x : List ℕ) (e : Expression) (ss : List Statement) (objects : List (Object Ref MadeSymbol)) (slots : Slots) (c : Constant) → find x env ≡ None → Stands passed env (Let x e ∷ ss) objects slots
       → Stands (passed ++ x ∷ []) ((x, binding.Value c) ∷ env) ss objects (set slots (3 + length passed) (Some (value_of c)))
   let_stands passed env x e ss objects slots c absent s =
       let n = length passed in
@@ -180,7 +181,7 @@ module _ (common : CommonPart) (main : Template) (names : List (List ℕ)) (show
 
   -- A FUNCTION
 
-  function_stands : (passed : List (List ℕ)) (env new : Environment) (f : List ℕ) (xs : List (List ℕ)) (r : Operand) (ss : List Statement) (objects : List (Object Ref)) (slots : Slots) (a : Answer) → declared (f ∷ xs) env ≡ Some new → answer_in env xs r ≡ Some a → Stands passed env (Function f xs r ∷ ss) objects slots
+  function_stands : (passed : List (List ℕ)) (env new : Environment) (f : List ℕ) (xs : List (List ℕ)) (r : Operand) (ss : List Statement) (objects : List (Object Ref MadeSymbol)) (slots : Slots) (a : Answer) → declared (f ∷ xs) env ≡ Some new → answer_in env xs r ≡ Some a → Stands passed env (Function f xs r ∷ ss) objects slots
       → Stands (passed ++ f ∷ []) ((f, binding.Function (length xs) a) ∷ new) ss objects slots
   function_stands passed env new f xs r ss objects slots a d e s =
       let n = length passed in
@@ -223,23 +224,23 @@ module _ (common : CommonPart) (main : Template) (names : List (List ℕ)) (show
 
   -- A CALL OF console.log
 
-  abbrev console_key : ask.Ask Ref
+  abbrev console_key : ask.Ask Ref MadeSymbol
   console_key = ask.HasProperty (key.Text (codes "console"))
 
-  abbrev get_console : ask.Ask Ref
+  abbrev get_console : ask.Ask Ref MadeSymbol
   get_console = ask.Get (key.Text (codes "console")) (value.Ref (own_names.own 0))
 
-  abbrev get_log : ask.Ask Ref
+  abbrev get_log : ask.Ask Ref MadeSymbol
   get_log = ask.Get (key.Text (codes "log")) (value.Ref (host_ref 0))
 
-  abbrev call_log : List (Value Ref) → ask.Ask Ref
+  abbrev call_log : List (Value Ref MadeSymbol) → ask.Ask Ref MadeSymbol
   call_log vs = ask.Call (value.Ref (host_ref 0)) vs
 
-  abbrev after_this : Terms → List (Next Ref)
+  abbrev after_this : Terms → List (Next Ref MadeSymbol)
   after_this rest = with_value (λ w q. in_order rest 0 w q) ∷ below
 
   -- to the Get of `log`
-  to_console : (ts rest : Terms) (objects : List (Object Ref)) (slots : Slots) (more : List (Scope Ref)) → object_at objects 0 ≡ global_object common
+  to_console : (ts rest : Terms) (objects : List (Object Ref MadeSymbol)) (slots : Slots) (more : List (Scope Ref MadeSymbol)) → object_at objects 0 ≡ global_object common
       → Goes 5 (before_terms (And_then (CallOn (Global (codes "console") false) (Lit (value.Text (codes "log"))) ts) rest) objects slots more)
       (Sends (Some (host_ref 0)) get_log (at objects slots more) (with_value (call_on_function own_names (value.Ref (host_ref 0)) ts 0) ∷ after_this rest))
   to_console ts rest objects slots more global =
@@ -247,7 +248,7 @@ module _ (common : CommonPart) (main : Template) (names : List (List ℕ)) (show
       let log : Term = Lit (value.Text (codes "log")) in
       let called = with_value (call_on_object own_names log ts 0) in
       let then_get = global_found own_names (key.Text (codes "console")) false in
-      let decides : ask.Ask Ref → List (Next Ref) → Object Ref → Point Ref = λ x ks o. settle ks (act_by own_names (decision_of own_names.same o x) p) in
+      let decides : ask.Ask Ref MadeSymbol → List (Next Ref MadeSymbol) → Object Ref MadeSymbol → Point Ref MadeSymbol = λ x ks o. settle ks (act_by own_names (decision_of own_names.same_symbol o x) p) in
       let five : 1 + (1 + (1 + (1 + 1))) ≡ 5 = refl in
       at_cost five
       (and (one (Begin (CallOn (Global (codes "console") false) log ts) 0) p (after_this rest))
@@ -258,21 +259,21 @@ module _ (common : CommonPart) (main : Template) (names : List (List ℕ)) (show
 
   -- how the run ends from here
   pub record Ends (steps : ℕ) (all : List (List Constant)) : Type 0 where
-    pub journal : List (Crossing Ref)
+    pub journal : List (Crossing Ref MadeSymbol)
     pub done : Is_done (application common main) budget steps journal
     pub text : printed show journal ≡ lines_text all
 
   same_ends : {steps other : ℕ} {all : List (List Constant)} → steps ≡ other → Ends steps all → Ends other all
   same_ends {steps} {other} {all} e x = subst (λ n. Ends n all) e x
 
-  pub run_statements : (ss : List Statement) (passed : List (List ℕ)) (env : Environment) (lines all : List (List Constant)) (objects : List (Object Ref)) (slots : Slots) (more : List (Scope Ref)) (steps : ℕ) (journal : List (Crossing Ref))
+  pub run_statements : (ss : List Statement) (passed : List (List ℕ)) (env : Environment) (lines all : List (List Constant)) (objects : List (Object Ref MadeSymbol)) (slots : Slots) (more : List (Scope Ref MadeSymbol)) (steps : ℕ) (journal : List (Crossing Ref MadeSymbol))
       → after_statements env lines ss ≡ Some all → Stands passed env ss objects slots → steps + (statements_cost ss + 1) ≤ budget → printed show journal ≡ lines_text lines
       → On_way (application common main) budget steps journal (before_terms (statement_terms names (length passed) ss) objects slots more) → Ends (steps + (statements_cost ss + 1)) all
   run_statements [] passed env lines all objects slots more steps journal is s room text way =
       let p = at objects slots more in
       let get = ask.Get exports_key (value.Ref (own_names.own 2)) in
       let ends : Goes 1 (before_terms No_more objects slots more) (Over (Replied (Give_value (value.Ref (own_names.own 1)))) p) =
-      to (one (Decide (Own 2) get) p (as_it_is ∷ [])) (ap (λ (o : Object Ref). settle (as_it_is ∷ []) (act_by own_names (decision_of own_names.same o get) p)) s.exports) in
+      to (one (Decide (Own 2) get) p (as_it_is ∷ [])) (ap (λ (o : Object Ref MadeSymbol). settle (as_it_is ∷ []) (act_by own_names (decision_of own_names.same_symbol o get) p)) s.exports) in
       let one_is : steps + 1 ≡ steps + (0 + 1) = omega arith in
       let there = same_steps one_is (walks way ends) in
       record {
@@ -308,7 +309,7 @@ module _ (common : CommonPart) (main : Template) (names : List (List ℕ)) (show
       let w = went (after_statement env lines (Log es)) (λ next. after_statements next.0 next.1 ss) all is in
       let m = mapped (expression_values env es) (λ cs. (env, lines ++ cs ∷ [])) w.first w.is in
       let cs = m.first in
-      let vs : List (Value Ref) = map value_of cs in
+      let vs : List (Value Ref MadeSymbol) = map value_of cs in
       let n = length passed in
       let rest = statement_terms names n ss in
       let ts = expression_terms names es in

@@ -2,6 +2,7 @@
 use Rattle.std.proofs.Common.{◌≡◌, ◌≢◌, ℕ, suc, ◌+◌, ◌<◌, ◌≤◌, List, [], ◌∷◌, ◌++◌, length, get_or, set, Option, Some, None, refl, ap, ◌∙◌, arith}
 use Rattle.std.proofs.lemmas.List.{length-append, length-set, get_or_append_left, get_or-set_same, get_or-set_other}
 use Rattle.std.proofs.Math.Seq.{get_or-append_seam}
+use Rattle.lava_base.specs.declared.ids.MadeSymbol.{MadeSymbol}
 use Rattle.lava_base.specs.declared.ids.Ref.{Ref}
 use Rattle.js_text.specs.declared.value.Value.{Value}
 use Rattle.js_text.specs.declared.value.Value.TheVariants as value
@@ -23,21 +24,21 @@ hoisting_cost (Function f xs r ∷ ss) = 2 + hoisting_cost ss
 hoisting_cost (Log es ∷ ss) = hoisting_cost ss
 
 module _ (common : CommonPart) (main : Template) (names : List (List ℕ)) where
-  abbrev at : List (Object Ref) → Slots → Party Ref
+  abbrev at : List (Object Ref MadeSymbol) → Slots → Party Ref MadeSymbol
   at objects slots = state common main objects slots []
 
   -- what the Inits of these statements' functions leave
-  pub record Hoists (n : ℕ) (ss : List Statement) (objects : List (Object Ref)) (slots : Slots) : Type 0 where
-    pub new_objects : List (Object Ref)
+  pub record Hoists (n : ℕ) (ss : List Statement) (objects : List (Object Ref MadeSymbol)) (slots : Slots) : Type 0 where
+    pub new_objects : List (Object Ref MadeSymbol)
     pub new_slots : Slots
     pub longer : length objects ≤ length new_objects
     pub keeps_objects : (i : ℕ) → i < length objects → object_at new_objects i ≡ object_at objects i
     pub as_long : length new_slots ≡ length slots
     pub keeps : (i : ℕ) → i < 3 + n → get_or new_slots i None ≡ get_or slots i None
     pub hoisted : Hoisted names new_objects new_slots n ss
-    pub goes : (after : Terms) (ks : List (Next Ref)) → Goes (hoisting_cost ss) (settle ks (in_order (function_terms names n ss after) 0 value.Undefined (at objects slots))) (settle ks (in_order after 0 value.Undefined (at new_objects new_slots)))
+    pub goes : (after : Terms) (ks : List (Next Ref MadeSymbol)) → Goes (hoisting_cost ss) (settle ks (in_order (function_terms names n ss after) 0 value.Undefined (at objects slots))) (settle ks (in_order after 0 value.Undefined (at new_objects new_slots)))
 
-  pub hoists : (n : ℕ) (ss : List Statement) (objects : List (Object Ref)) (slots : Slots) → 3 + (n + length (declared_names ss)) ≤ length slots → Hoists n ss objects slots
+  pub hoists : (n : ℕ) (ss : List Statement) (objects : List (Object Ref MadeSymbol)) (slots : Slots) → 3 + (n + length (declared_names ss)) ≤ length slots → Hoists n ss objects slots
   hoists n [] objects slots room =
       record {
         new_objects = objects;
@@ -75,16 +76,16 @@ module _ (common : CommonPart) (main : Template) (names : List (List ℕ)) where
       }
   hoists n (Function f xs r ∷ ss) objects slots room =
       let t = template_of names f xs r in
-      let o : Object Ref = function_object own_names t 0 (at objects slots) in
+      let o : Object Ref MadeSymbol = function_object own_names t 0 (at objects slots) in
       let id = length objects in
-      let v : Option (Value Ref) = Some (value.Ref (own_names.own id)) in
-      let more : List (Object Ref) = objects ++ o ∷ [] in
+      let v : Option (Value Ref MadeSymbol) = Some (value.Ref (own_names.own id)) in
+      let more : List (Object Ref MadeSymbol) = objects ++ o ∷ [] in
       let filled : Slots = set slots (3 + n) v in
       let longer : length more ≡ length objects + 1 = length-append objects (o ∷ []) in
       let as_long : length filled ≡ length slots = length-set slots (3 + n) v in
       let there : 3 + n < length slots = omega (arith, room) in
       let rest = hoists (suc n) ss more filled (omega (arith, room, as_long)) in
-      let nothing : Object Ref = ordinary None [] in
+      let nothing : Object Ref MadeSymbol = ordinary None [] in
       let is_object : object_at rest.new_objects id ≡ o = rest.keeps_objects id (omega (arith, longer)) ∙ get_or-append_seam objects o [] nothing in
       record {
         new_objects = rest.new_objects;
@@ -97,7 +98,7 @@ module _ (common : CommonPart) (main : Template) (names : List (List ℕ)) where
           record {
             id = id;
             holds = rest.keeps (3 + n) (omega arith) ∙ get_or-set_same slots (3 + n) v None there;
-            closure = record { below = let h = rest.longer in omega (arith, h, longer); slot = ap (λ (o : Object Ref). o.slot) is_object };
+            closure = record { below = let h = rest.longer in omega (arith, h, longer); slot = ap (λ (o : Object Ref MadeSymbol). o.slot) is_object };
           },
           rest.hoisted,
         );

@@ -3,6 +3,7 @@ use Rattle.std.proofs.Common.{◌≡◌, ◌≢◌, ℕ, suc, ◌+◌, ◌<◌, 
 use Rattle.std.proofs.lemmas.Cmp.{nat_list_eq_equiv}
 use Rattle.std.specs.Option.{is_none}
 use Rattle.std.specs.Cmp.Lexicographic.{same_text}
+use Rattle.lava_base.specs.declared.ids.MadeSymbol.{MadeSymbol}
 use Rattle.lava_base.specs.declared.ids.Ref.{Ref}
 use Rattle.js_text.specs.Texts.{same_units}
 use Rattle.js_text.specs.declared.value.Value.{Value}
@@ -118,7 +119,7 @@ within y n (x ∷ xs) i e =
 abbrev pub Keeps_below : Slots → Slots → ℕ → Type 0
 Keeps_below slots new n = (i : ℕ) → i < n → get_or new (3 + i) None ≡ get_or slots (3 + i) None
 
-pub keep_value : (names : List (List ℕ)) (slots new : Slots) (n m : ℕ) (x : List ℕ) (v : Value Ref) → Keeps_below slots new n → n ≤ m → Has_value names slots n x v → Has_value names new m x v
+pub keep_value : (names : List (List ℕ)) (slots new : Slots) (n m : ℕ) (x : List ℕ) (v : Value Ref MadeSymbol) → Keeps_below slots new n → n ≤ m → Has_value names slots n x v → Has_value names new m x v
 keep_value names slots new n m x v keeps h has = record { place = has.place; is_place = has.is_place; below = let b = has.below in omega (arith, b, h); holds = keeps has.place has.below ∙ has.holds }
 
 keep_gives : (slots new : Slots) (n m arguments : ℕ) (a : Answer) (t : Term) → Keeps_below slots new n → n ≤ m → Gives slots n arguments a t → Gives new m arguments a t
@@ -127,7 +128,7 @@ keep_gives slots new n m arguments (Fixed c) t keeps h (inl is) = inl is
 keep_gives slots new n m arguments (Fixed c) t keeps h (inr o) =
     inr (record { place = o.place; is_local = o.is_local; below = let b = o.below in omega (arith, b, h); holds = keeps o.place o.below ∙ o.holds })
 
-pub keep_function : (names : List (List ℕ)) (objects : List (Object Ref)) (slots new : Slots) (n m : ℕ) (f : List ℕ) (k : ℕ) (a : Answer) → Keeps_below slots new n → n ≤ m → Has_function names objects slots n f k a → Has_function names objects new m f k a
+pub keep_function : (names : List (List ℕ)) (objects : List (Object Ref MadeSymbol)) (slots new : Slots) (n m : ℕ) (f : List ℕ) (k : ℕ) (a : Answer) → Keeps_below slots new n → n ≤ m → Has_function names objects slots n f k a → Has_function names objects new m f k a
 keep_function names objects slots new n m f k a keeps h has = record {
   id = has.id;
   value = keep_value names slots new n m f _ keeps h has.value;
@@ -142,7 +143,7 @@ keep_function names objects slots new n m f k a keeps h has = record {
 abbrev pub Keeps_from : Slots → Slots → ℕ → Type 0
 Keeps_from slots new n = (i : ℕ) → n ≤ i → get_or new (3 + i) None ≡ get_or slots (3 + i) None
 
-pub keep_hoisted : (names : List (List ℕ)) (objects : List (Object Ref)) (slots new : Slots) (n : ℕ) (ss : List Statement) → Keeps_from slots new n → Hoisted names objects slots n ss → Hoisted names objects new n ss
+pub keep_hoisted : (names : List (List ℕ)) (objects : List (Object Ref MadeSymbol)) (slots new : Slots) (n : ℕ) (ss : List Statement) → Keeps_from slots new n → Hoisted names objects slots n ss → Hoisted names objects new n ss
 keep_hoisted names objects slots new n [] keeps h = tt
 keep_hoisted names objects slots new n (Let x e ∷ ss) keeps h = keep_hoisted names objects slots new (suc n) ss (λ i l. keeps i (omega (arith, l))) h
 keep_hoisted names objects slots new n (Function f xs r ∷ ss) keeps h =

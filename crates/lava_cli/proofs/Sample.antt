@@ -1,6 +1,7 @@
 -- One package that calls what its host gave it, computed.
 use Rattle.std.proofs.Common.{◌≡◌, ℕ, [], ◌∷◌, false, Some, refl}
 use Rattle.std.specs.Prelude.{pos, codes}
+use Rattle.lava_base.specs.declared.ids.MadeSymbol.{MadeSymbol}
 use Rattle.lava_base.specs.declared.ids.Ref.{Ref}
 use Rattle.lava_base.specs.declared.ids.Ref.TheVariants as ref
 use Rattle.js_text.specs.declared.value.Value.TheVariants as value
@@ -37,7 +38,7 @@ ends common = refl
 pub steps : (common : CommonPart) → (net (application common main) 100 7).steps 1 ≡ 16
 steps common = refl
 
-abbrev crossing : ℕ → ℕ → CrossBody Ref → Crossing Ref
+abbrev crossing : ℕ → ℕ → CrossBody Ref MadeSymbol → Crossing Ref MadeSymbol
 crossing p q x = record { sender = p; receiver = q; body = x }
 
 pub journal : (common : CommonPart) → (net (application common main) 100 7).journal ≡

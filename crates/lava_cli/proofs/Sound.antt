@@ -1,6 +1,7 @@
 -- A program of the first form that keeps the rules runs to its end, and the network run prints its lines.
 use Rattle.std.proofs.Common.{lit<, ◌≡◌, ◌⊎◌, inl, inr, ℕ, ◌+◌, ◌-◌, ◌<◌, ◌≤◌, List, [], ◌∷◌, length, replicate, Option, Some, None, refl, sym, ap, ◌∙◌, arith}
 use Rattle.std.proofs.lemmas.List.{length-replicate}
+use Rattle.lava_base.specs.declared.ids.MadeSymbol.{MadeSymbol}
 use Rattle.lava_base.specs.declared.ids.Ref.{Ref}
 use Rattle.js_text.specs.declared.value.Value.{Value}
 use Rattle.js_text.specs.declared.value.Value.TheVariants as value
@@ -41,20 +42,20 @@ module _ (common : CommonPart) (ss : List Statement) where
   abbrev app : Application
   app = application common main
 
-  abbrev start : Party Ref
+  abbrev start : Party Ref MadeSymbol
   start = package_start common main
 
   -- the objects and the slots of the module as it begins
-  abbrev objects : List (Object Ref)
+  abbrev objects : List (Object Ref MadeSymbol)
   objects = global_object common ∷ object_with own_names start [] ∷ object_with own_names start (open_property exports_key (value.Ref (own_names.own 1)) ∷ []) ∷ []
 
   abbrev slots : Slots
   slots = Some (value.Ref (own_names.own 1)) ∷ None ∷ Some (value.Ref (own_names.own 2)) ∷ replicate ((3 + length names) - 3) None
 
   size : length slots ≡ 3 + length names
-  size = let r = length-replicate {A = Option (Value Ref)} ((3 + length names) - 3) None in omega (arith, r)
+  size = let r = length-replicate {A = Option (Value Ref MadeSymbol)} ((3 + length names) - 3) None in omega (arith, r)
 
-  abbrev begin : Point Ref
+  abbrev begin : Point Ref MadeSymbol
   begin = Due 0 (Begin (module_body ss) 0) (state common main objects slots []) (module_ending own_names 2 ∷ [])
 
   -- the module begins: the host's import comes to party 1

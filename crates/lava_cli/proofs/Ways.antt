@@ -1,5 +1,6 @@
 -- The machine of all parties on its way through a module of the first form.
 use Rattle.std.proofs.Common.{◌≡◌, ℕ, suc, ◌+◌, ◌-◌, ◌≤◌, List, [], ◌∷◌, Some, ap, ◌∙◌, arith}
+use Rattle.lava_base.specs.declared.ids.MadeSymbol.{MadeSymbol}
 use Rattle.lava_base.specs.declared.ids.Ref.{Ref}
 use Rattle.js_text.specs.declared.value.Value as v
 use Rattle.lava_cli.specs.Terms.{Template}
@@ -17,9 +18,9 @@ use Rattle.lava_cli.specs.Application.{application}
 use Rattle.lava_cli.proofs.Goes.{own_names, Goes, none, and}
 
 -- party 1 runs and comes to this point after so many steps, where the journal is this
-pub record On_way (app : Application) (budget steps : ℕ) (journal : List (Crossing Ref)) (point : Point Ref) : Type 0 where
+pub record On_way (app : Application) (budget steps : ℕ) (journal : List (Crossing Ref MadeSymbol)) (point : Point Ref MadeSymbol) : Type 0 where
   pub crossings : ℕ
-  pub start : Point Ref
+  pub start : Point Ref MadeSymbol
   pub before : ℕ
   pub cost : ℕ
   pub control : (heap app budget crossings).control ≡ Runs 1 start
@@ -30,7 +31,7 @@ pub record On_way (app : Application) (budget steps : ℕ) (journal : List (Cros
   pub goes : Goes cost start point
   pub sum : before + cost ≡ steps
 
-pub walks : {app : Application} {budget steps cost : ℕ} {journal : List (Crossing Ref)} {a b : Point Ref} → On_way app budget steps journal a → Goes cost a b → On_way app budget (steps + cost) journal b
+pub walks : {app : Application} {budget steps cost : ℕ} {journal : List (Crossing Ref MadeSymbol)} {a b : Point Ref MadeSymbol} → On_way app budget steps journal a → Goes cost a b → On_way app budget (steps + cost) journal b
 walks {app} {budget} {steps} {cost} {journal} {a} {b} w g = record {
   crossings = w.crossings;
   start = w.start;
@@ -45,7 +46,7 @@ walks {app} {budget} {steps} {cost} {journal} {a} {b} w g = record {
   sum = let h = w.sum in omega (arith, h);
 }
 
-pub same_steps : {app : Application} {budget steps other : ℕ} {journal : List (Crossing Ref)} {a : Point Ref} → steps ≡ other → On_way app budget steps journal a → On_way app budget other journal a
+pub same_steps : {app : Application} {budget steps other : ℕ} {journal : List (Crossing Ref MadeSymbol)} {a : Point Ref MadeSymbol} → steps ≡ other → On_way app budget steps journal a → On_way app budget other journal a
 same_steps e w = record {
   crossings = w.crossings;
   start = w.start;
@@ -60,7 +61,7 @@ same_steps e w = record {
   sum = w.sum ∙ e;
 }
 
-pub same_point : {app : Application} {budget steps : ℕ} {journal : List (Crossing Ref)} {a b : Point Ref} → a ≡ b → On_way app budget steps journal a → On_way app budget steps journal b
+pub same_point : {app : Application} {budget steps : ℕ} {journal : List (Crossing Ref MadeSymbol)} {a b : Point Ref MadeSymbol} → a ≡ b → On_way app budget steps journal a → On_way app budget steps journal b
 same_point {app} {budget} {steps} {journal} {a} {b} e w = record {
   crossings = w.crossings;
   start = w.start;
@@ -76,21 +77,21 @@ same_point {app} {budget} {steps} {journal} {a} {b} e w = record {
 }
 
 -- the run from where a way begins, where the budget allows it
-comes_to : {app : Application} {budget steps : ℕ} {journal : List (Crossing Ref)} {a : Point Ref} (w : On_way app budget steps journal a) → steps ≤ budget → run own_names (budget - (heap app budget w.crossings).spent) ((heap app budget w.crossings).steps 1) w.start ≡ run own_names (budget - steps) steps a
+comes_to : {app : Application} {budget steps : ℕ} {journal : List (Crossing Ref MadeSymbol)} {a : Point Ref MadeSymbol} (w : On_way app budget steps journal a) → steps ≤ budget → run own_names (budget - (heap app budget w.crossings).spent) ((heap app budget w.crossings).steps 1) w.start ≡ run own_names (budget - steps) steps a
 comes_to {app} {budget} {steps} {journal} {a} w h =
     let s = w.sum in
     let e : budget - (heap app budget w.crossings).spent ≡ w.cost + (budget - steps) = let p = w.spent in omega (arith, p, s, h) in
     let f : w.cost + w.before ≡ steps = omega (arith, s) in
     (λ i. run own_names (e i) (w.own_steps i) w.start) ∙ (w.goes.goes (budget - steps) w.before ∙ (λ i. run own_names (budget - steps) (f i) a))
 
-abbrev pub asking : ℕ → ask.Ask Ref → Crossing Ref
+abbrev pub asking : ℕ → ask.Ask Ref MadeSymbol → Crossing Ref MadeSymbol
 asking k x = record { sender = 1; receiver = 0; body = Asks (Some (host_ref k)) x }
 
-abbrev pub answering : Reply Ref → Crossing Ref
+abbrev pub answering : Reply Ref MadeSymbol → Crossing Ref MadeSymbol
 answering r = record { sender = 0; receiver = 1; body = Answers r }
 
 -- an ask at the host, and its answer
-pub exchange : (common : CommonPart) (main : Template) (budget steps : ℕ) (journal : List (Crossing Ref)) (k : ℕ) (x : ask.Ask Ref) (p : Party Ref) (ks : List (Next Ref)) → steps ≤ budget → On_way (application common main) budget steps journal (Sends (Some (host_ref k)) x p ks) → On_way (application common main) budget steps (answering (host_answers k x) ∷ asking k x ∷ journal) (settle ks (Give (Replied (host_answers k x)) p))
+pub exchange : (common : CommonPart) (main : Template) (budget steps : ℕ) (journal : List (Crossing Ref MadeSymbol)) (k : ℕ) (x : ask.Ask Ref MadeSymbol) (p : Party Ref MadeSymbol) (ks : List (Next Ref MadeSymbol)) → steps ≤ budget → On_way (application common main) budget steps journal (Sends (Some (host_ref k)) x p ks) → On_way (application common main) budget steps (answering (host_answers k x) ∷ asking k x ∷ journal) (settle ks (Give (Replied (host_answers k x)) p))
 exchange common main budget steps journal k x p ks h w =
     let app : Application = application common main in
     let here : World = heap app budget w.crossings in
@@ -114,16 +115,16 @@ exchange common main budget steps journal k x p ks h w =
     }
 
 -- the run is done after so many steps, where the journal is this
-pub record Is_done (app : Application) (budget steps : ℕ) (journal : List (Crossing Ref)) : Type 0 where
+pub record Is_done (app : Application) (budget steps : ℕ) (journal : List (Crossing Ref MadeSymbol)) : Type 0 where
   pub crossings : ℕ
   pub ending : ending_of (heap app budget crossings).control ≡ Some Done
   pub so_far : (heap app budget crossings).journal ≡ journal
   pub spent : (heap app budget crossings).spent ≡ steps
 
-abbrev pub last_answer : v.Value Ref → Crossing Ref
+abbrev pub last_answer : v.Value Ref MadeSymbol → Crossing Ref MadeSymbol
 last_answer x = record { sender = 1; receiver = 0; body = Answers (Value x) }
 
-pub finish : (app : Application) (budget steps : ℕ) (journal : List (Crossing Ref)) (x : v.Value Ref) (p : Party Ref) → steps ≤ budget → On_way app budget steps journal (Over (Replied (Value x)) p) → Is_done app budget steps (last_answer x ∷ journal)
+pub finish : (app : Application) (budget steps : ℕ) (journal : List (Crossing Ref MadeSymbol)) (x : v.Value Ref MadeSymbol) (p : Party Ref MadeSymbol) → steps ≤ budget → On_way app budget steps journal (Over (Replied (Value x)) p) → Is_done app budget steps (last_answer x ∷ journal)
 finish app budget steps journal x p h w =
     let here : World = heap app budget w.crossings in
     let then : World = with_own 1 p (charged 1 steps here) in

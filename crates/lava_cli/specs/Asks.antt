@@ -3,27 +3,27 @@ use Rattle.std.specs.Prelude.{ℕ, Bool, List, Option}
 use Rattle.js_text.specs.declared.value.Value as v
 use Rattle.js_text.specs.declared.value.Key.{Key}
 
-pub data Ask (R : Type 0) : Type 0 where
-  HasProperty : Key R → Ask R
-  Get : Key R → (receiver : v.Value R) → Ask R
-  Call : (this : v.Value R) → (arguments : List (v.Value R)) → Ask R
+pub data Ask (R S : Type 0) : Type 0 where
+  HasProperty : Key S → Ask R S
+  Get : Key S → (receiver : v.Value R S) → Ask R S
+  Call : (this : v.Value R S) → (arguments : List (v.Value R S)) → Ask R S
   -- a module of a linked package, by the link and the path
-  Import : (link path : List ℕ) → Ask R
+  Import : (link path : List ℕ) → Ask R S
 
-pub data Reply (R : Type 0) : Type 0 where
-  Value : v.Value R → Reply R
-  Flag : Bool → Reply R
-  Throw : v.Value R → Reply R
+pub data Reply (R S : Type 0) : Type 0 where
+  Value : v.Value R S → Reply R S
+  Flag : Bool → Reply R S
+  Throw : v.Value R S → Reply R S
 
 -- how a form ends: with a reply, or by leaving its body with a value. ECMA-262: The Completion Record Specification Type
-pub data Completion (R : Type 0) : Type 0 where
-  Replied : Reply R → Completion R
-  Returned : v.Value R → Completion R
+pub data Completion (R S : Type 0) : Type 0 where
+  Replied : Reply R S → Completion R S
+  Returned : v.Value R S → Completion R S
 
 -- what crosses between parties: an ask at a foreign reference, or at a party, or a reply
-pub data CrossBody (R : Type 0) : Type 0 where
-  Asks : Option R → Ask R → CrossBody R
-  Answers : Reply R → CrossBody R
+pub data CrossBody (R S : Type 0) : Type 0 where
+  Asks : Option R → Ask R S → CrossBody R S
+  Answers : Reply R S → CrossBody R S
 
 -- the kinds of endings that a running party meets
 pub data EndKind : Type 0 where

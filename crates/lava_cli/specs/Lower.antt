@@ -15,7 +15,7 @@ use Rattle.lava_cli.specs.Names.{place_in}
 use Rattle.lava_cli.specs.Terms.{Term, Terms, Lit, Local, Global, Init, Call, CallOn, Func, Seq, Return, No_more, And_then, Plain, Module, Template}
 
 -- the value of a text or an integer
-abbrev pub value_of : {R : Type 0} → Constant → Value R
+abbrev pub value_of : {R S : Type 0} → Constant → Value R S
 value_of (constant.Text u) = value.Text u
 value_of (constant.Number n) = value.Int n
 

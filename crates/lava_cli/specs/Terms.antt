@@ -10,7 +10,7 @@ pub data TemplateKind : Type 0 where
 mutual
   pub data Term : Type 0 where
     -- a literal, whose references are of the common part
-    Lit : Value ℕ → Term
+    Lit : Value ℕ ⊥ → Term
     -- a slot of the scope so many hops outwards
     Local : (hops slot : ℕ) → Term
     -- a free name: a property of the running party's global; a soft one may be missing
