@@ -124,7 +124,6 @@ def run(folder):
     open(costs, "w", encoding="utf-8").close()
     with open(f"{folder}/ci.log", "wb") as log:
         rt = subprocess.Popen(["rt", "ci"], cwd=TOP, stdout=subprocess.PIPE, stderr=subprocess.STDOUT)
-        # Its own time may be looked at until it is waited for, and so it is waited for last.
         watcher = threading.Thread(target=watch, args=(rt.pid, costs), daemon=True)
         watcher.start()
         while part := rt.stdout.read1(1 << 16):
@@ -132,9 +131,12 @@ def run(folder):
             log.flush()
             sys.stdout.buffer.write(part)
             sys.stdout.flush()
-        status = rt.wait()
-        watcher.join(timeout=10 * PAUSE + 5)
-    return status
+        _, status, used = os.wait4(rt.pid, 0)
+    watcher.join()
+    with open(costs, "a", encoding="utf-8") as it:
+        it.write(f"{used.ru_utime + used.ru_stime:.2f}\t-\twhole\t\n")
+    status = os.waitstatus_to_exitcode(status)
+    return status if status >= 0 else 128 - status
 
 
 def order():
