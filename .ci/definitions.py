@@ -59,6 +59,13 @@ def files(crate, part, ending):
     return sorted(glob.glob(f"{TOP}/crates/{crate}/{part}/**/*{ending}", recursive=True))
 
 
+def public_sources(crate):
+    """Returns the files of the crate's public modules."""
+    sources = files(crate, "src", ".rt")
+    private = {name for path in sources for line in lines_of(path) for name in re.findall(r"^\s*mod (\w+);", line)}
+    return [path for path in sources if os.path.basename(path).removesuffix(".rt") not in private]
+
+
 def parted(words):
     """Returns the clause and the part that the words of a citation in code name."""
     found = re.fullmatch(CLAUSE, words)
@@ -137,7 +144,7 @@ def page():
                     own.append((name, clause, place(crate, path)))
                 else:
                     defined.setdefault((standard, clause, part), {}).setdefault(place(crate, path), []).append(name)
-        for path in files(crate, "src", ".rt"):
+        for path in public_sources(crate):
             for standard, clause, part, name in followers(path):
                 there = coded.setdefault((standard, clause, part), [])
                 there += [it for it in [f"{crate} `{name}`"] if it not in there]
