@@ -15,14 +15,14 @@ pub enum BitOp {
     ShrUnsigned,
 }
 
-/// ECMA-262's ToUint32, at an integer.
+/// The integer modulo 2^32 (ECMA-262, ToUint32).
 fn to_uint32(number: i64) -> u32
     ensures { result ≡ to_uint32 number }
 {
     number.rem_euclid(0x1_0000_0000) as u32
 }
 
-/// ECMA-262's ToInt32, at an integer.
+/// The same as an integer of 32 bits with a sign (ECMA-262, ToInt32).
 fn to_int32(number: i64) -> i32
     ensures { result ≡ to_int32 number }
 {

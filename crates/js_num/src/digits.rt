@@ -3,11 +3,11 @@
 ghost use Rattle.std.specs.Prelude.{◌≡◌, ◌+◌, ◌*◌, ◌<◌, ◌≤◌, ◌++◌, min, IfOk, OnErr};
 ghost use Rattle.std.specs.Char.{digit_value};
 ghost use Rattle.std.specs.Str.Parse.{AllDigits, digits_value, digits_value_after};
-ghost use Rattle.js_num.specs.SafeRange.{max_safe};
+ghost use Rattle.js_num.specs.SafeRange.{max_safe, IsSafeNatural};
+ghost use Rattle.js_num.specs.Numerals.{IsTooLarge};
 
 use crate::safe::NotSafe;
-
-const MAX_SAFE: u64 = 9_007_199_254_740_991;
+use lava_base::limits::MAX_SAFE_INTEGER;
 
 /// The value of a digit below 36, and 36 of any other unit.
 fn value_of_digit(unit: u16) -> u64
@@ -26,11 +26,11 @@ pub fn with_digit(number: u64, radix: u64, digit: u64) -> Result<u64, NotSafe>
     requires number { number ≤ max_safe }
     requires radix { radix ≤ 16 }
     requires digit { digit ≤ 36 }
-    ensures ok { IfOk result (λ n. (n ≡ number * radix + digit) × (n ≤ max_safe)) }
+    ensures ok { IfOk result (IsSafeNatural (number * radix + digit)) }
     ensures err { OnErr result (max_safe < number * radix + digit) }
 {
     let next = number * radix + digit;
-    if next > MAX_SAFE {
+    if next > MAX_SAFE_INTEGER {
         return Err(NotSafe);
     }
     Ok(next)
@@ -41,8 +41,8 @@ pub fn with_digits(number: u64, radix: u64, digits: &[u16]) -> Result<u64, NotSa
     requires number { number ≤ max_safe }
     requires radix { (2 ≤ radix) × (radix ≤ 16) }
     ensures digits { IfOk result (λ n. AllDigits radix digits.now) }
-    ensures ok { IfOk result (λ n. (n ≡ digits_value_after radix number digits.now) × (n ≤ max_safe)) }
-    ensures err { OnErr result (AllDigits radix digits.now → max_safe < digits_value_after radix number digits.now) }
+    ensures ok { IfOk result (IsSafeNatural (digits_value_after radix number digits.now)) }
+    ensures err { OnErr result (IsTooLarge radix number digits.now) }
 {
     let mut next = number;
     for unit in digits {
@@ -59,7 +59,7 @@ pub fn with_digits(number: u64, radix: u64, digits: &[u16]) -> Result<u64, NotSa
 pub fn joined(first: &[u16], second: &[u16]) -> Result<u64, NotSafe>
     requires first { AllDigits 10 first.now }
     requires second { AllDigits 10 second.now }
-    ensures ok { IfOk result (λ n. (n ≡ digits_value 10 (first.now ++ second.now)) × (n ≤ max_safe)) }
+    ensures ok { IfOk result (IsSafeNatural (digits_value 10 (first.now ++ second.now))) }
     ensures err { OnErr result (max_safe < digits_value 10 (first.now ++ second.now)) }
 {
     let number = with_digits(0, 10, first)?;

@@ -3,11 +3,11 @@
 ghost use Rattle.std.specs.Prelude.{◌≡◌, ℕ, ℤ, List};
 ghost use Rattle.std.specs.Fmt.{signed_decimal};
 ghost use Rattle.js_num.specs.SafeRange.{IsSafe};
-ghost use Rattle.js_num.specs.StringToNumber.{IsNumberOf};
+ghost use Rattle.js_num.specs.StringToNumber.{IsNumberOf, AtMostOne};
 
 /// A text stands for one number at most.
 pub fn one_number()
-    ensures { (text : List ℕ) (v w : ℤ) → IsNumberOf text v → IsNumberOf text w → v ≡ w }
+    ensures { (text : List ℕ) → AtMostOne (IsNumberOf text) }
 {}
 
 /// The decimal digits of a safe integer stand for it.

@@ -4,7 +4,7 @@ ghost use Rattle.std.specs.Prelude.{◌≡◌, ℕ, ℤ, ◌<◌, ◌≤◌, IfO
 ghost use Rattle.std.specs.Str.Parse.{AllDigits};
 ghost use Rattle.js_num.specs.Numerals.{IsMagnitude, signed};
 ghost use Rattle.js_num.specs.Views.{parts_view};
-ghost use Rattle.js_num.specs.SafeRange.{IsSafe, max_safe};
+ghost use Rattle.js_num.specs.SafeRange.{IsSafe, NoSafe, IsPastSafe, max_safe};
 ghost use Rattle.js_num.specs.StringToNumber.{IsDecimalOf, IsRadixOf, IsLiteralOf};
 ghost use Rattle.js_num.specs.Reading.{read_radix};
 
@@ -18,7 +18,7 @@ fn radix_number(text: &[u16], radix: u64, digits: &[u16]) -> Result<i64, NotSafe
     requires { read_radix text.now ≡ Some (radix, digits.now) }
     ensures ok { IfOk result (IsRadixOf text.now) }
     ensures safe { IfOk result IsSafe }
-    ensures err { OnErr result ((v : ℤ) → IsSafe v → IsRadixOf text.now v → ⊥) }
+    ensures err { OnErr result (NoSafe (IsRadixOf text.now)) }
 {
     if digits.is_empty() {
         return Err(NotSafe);
@@ -33,7 +33,7 @@ fn magnitude_of(parts: DecimalParts<'_>) -> Result<u64, NotSafe>
     requires exponent { AllDigits 10 parts.exponent.now }
     ensures ok { IfOk result (IsMagnitude (parts_view parts.entry)) }
     ensures safe { IfOk result (λ n. n ≤ max_safe) }
-    ensures err { OnErr result ((n : ℕ) → IsMagnitude (parts_view parts.entry) n → max_safe < n) }
+    ensures err { OnErr result (IsPastSafe (IsMagnitude (parts_view parts.entry))) }
 {
     if parts.down {
         lowered(parts.integer, parts.fraction, parts.exponent)
@@ -59,7 +59,7 @@ pub fn signed_integer(negative: bool, magnitude: u64) -> i64
 fn decimal_number(text: &[u16]) -> Result<i64, NotSafe>
     ensures ok { IfOk result (IsDecimalOf text.now) }
     ensures safe { IfOk result IsSafe }
-    ensures err { OnErr result ((v : ℤ) → IsSafe v → IsDecimalOf text.now v → ⊥) }
+    ensures err { OnErr result (NoSafe (IsDecimalOf text.now)) }
 {
     let Some(parts) = parts_of(text) else {
         return Err(NotSafe);
@@ -72,7 +72,7 @@ fn decimal_number(text: &[u16]) -> Result<i64, NotSafe>
 pub fn literal_number(text: &[u16]) -> Result<i64, NotSafe>
     ensures ok { IfOk result (IsLiteralOf text.now) }
     ensures safe { IfOk result IsSafe }
-    ensures err { OnErr result ((v : ℤ) → IsSafe v → IsLiteralOf text.now v → ⊥) }
+    ensures err { OnErr result (NoSafe (IsLiteralOf text.now)) }
 {
     if text.is_empty() {
         return Ok(0);

@@ -2,8 +2,8 @@
 
 ghost use Rattle.std.specs.Prelude.{◌≡◌, ℕ, ◌+◌, ◌*◌, ◌^◌, ◌<◌, ◌≤◌, ◌++◌, length, IfOk, OnErr};
 ghost use Rattle.std.specs.Str.Parse.{AllDigits, digits_value};
-ghost use Rattle.js_num.specs.Numerals.{IsScaled};
-ghost use Rattle.js_num.specs.SafeRange.{max_safe};
+ghost use Rattle.js_num.specs.Numerals.{IsRaised, IsLowered, AreZeros};
+ghost use Rattle.js_num.specs.SafeRange.{max_safe, IsSafeNatural, IsPastSafe};
 
 use crate::digits::{capped, joined, with_digit};
 use crate::safe::NotSafe;
@@ -14,7 +14,7 @@ const MOST_ZEROS: usize = 16;
 /// The number with zeros behind its digits, where that is safe.
 fn with_zeros(number: u64, zeros: usize) -> Result<u64, NotSafe>
     requires { number ≤ max_safe }
-    ensures ok { IfOk result (λ n. (n ≡ number * 10 ^ zeros) × (n ≤ max_safe)) }
+    ensures ok { IfOk result (IsSafeNatural (number * 10 ^ zeros)) }
     ensures err { OnErr result (max_safe < number * 10 ^ zeros) }
 {
     let mut next = number;
@@ -28,7 +28,7 @@ fn with_zeros(number: u64, zeros: usize) -> Result<u64, NotSafe>
 fn where_zeros(number: u64, first: &[u16], second: &[u16]) -> Result<u64, NotSafe>
     requires first { AllDigits 10 first.now }
     requires second { AllDigits 10 second.now }
-    ensures ok { IfOk result (λ n. (n ≡ number) × (digits_value 10 (first.now ++ second.now) ≡ 0)) }
+    ensures ok { IfOk result (λ n. (n ≡ number) × AreZeros (first.now ++ second.now)) }
     ensures err { OnErr result (0 < digits_value 10 (first.now ++ second.now)) }
 {
     if joined(first, second)? != 0 {
@@ -42,9 +42,9 @@ pub fn raised(integer: &[u16], fraction: &[u16], exponent: &[u16]) -> Result<u64
     requires integer { AllDigits 10 integer.now }
     requires fraction { AllDigits 10 fraction.now }
     requires exponent { AllDigits 10 exponent.now }
-    ensures ok { IfOk result (λ n. IsScaled (digits_value 10 (integer.now ++ fraction.now)) (digits_value 10 exponent.now) (length fraction.now) n) }
+    ensures ok { IfOk result (IsRaised integer.now fraction.now exponent.now) }
     ensures safe { IfOk result (λ n. n ≤ max_safe) }
-    ensures err { OnErr result ((n : ℕ) → IsScaled (digits_value 10 (integer.now ++ fraction.now)) (digits_value 10 exponent.now) (length fraction.now) n → max_safe < n) }
+    ensures err { OnErr result (IsPastSafe (IsRaised integer.now fraction.now exponent.now)) }
 {
     let places = capped(exponent, fraction.len() + MOST_ZEROS);
     if places <= fraction.len() {
@@ -59,9 +59,9 @@ pub fn lowered(integer: &[u16], fraction: &[u16], exponent: &[u16]) -> Result<u6
     requires integer { AllDigits 10 integer.now }
     requires fraction { AllDigits 10 fraction.now }
     requires exponent { AllDigits 10 exponent.now }
-    ensures ok { IfOk result (λ n. IsScaled (digits_value 10 (integer.now ++ fraction.now)) 0 (length fraction.now + digits_value 10 exponent.now) n) }
+    ensures ok { IfOk result (IsLowered integer.now fraction.now exponent.now) }
     ensures safe { IfOk result (λ n. n ≤ max_safe) }
-    ensures err { OnErr result ((n : ℕ) → IsScaled (digits_value 10 (integer.now ++ fraction.now)) 0 (length fraction.now + digits_value 10 exponent.now) n → max_safe < n) }
+    ensures err { OnErr result (IsPastSafe (IsLowered integer.now fraction.now exponent.now)) }
 {
     let places = capped(exponent, integer.len());
     let (before, after) = integer.split_at(integer.len() - places);

@@ -1,7 +1,7 @@
 // The parts of a literal, read off its text.
 
-ghost use Rattle.std.specs.Prelude.{◌≡◌, MatchOption};
-ghost use Rattle.js_num.specs.Views.{parts_view};
+ghost use Rattle.std.specs.Prelude.{◌≡◌};
+ghost use Rattle.js_num.specs.Views.{parts_view, IsViewOf};
 ghost use Rattle.js_num.specs.Reading.{front_digits, after_digits, read_sign, read_fraction, read_exponent, read_parts, read_radix};
 
 /// The parts of a decimal literal: its sign, its digits before and behind the point, and its exponent, whose digits are none where there is no exponent.
@@ -49,7 +49,7 @@ fn split_fraction(text: &[u16]) -> (&[u16], &[u16])
 
 /// Whether the exponent is negative, and its digits, where the text is an exponent or empty.
 fn exponent_of(text: &[u16]) -> Option<(bool, &[u16])>
-    ensures { MatchOption result (read_exponent text.now ≡ None) (λ x. read_exponent text.now ≡ Some (x.0, x.1.now)) }
+    ensures { IsViewOf result (λ x. (x.0, x.1.now)) (read_exponent text.now) }
 {
     match text {
         [] => Some((false, text)),
@@ -66,7 +66,7 @@ fn exponent_of(text: &[u16]) -> Option<(bool, &[u16])>
 
 /// The parts of the decimal literal that the whole text is.
 pub fn parts_of(text: &[u16]) -> Option<DecimalParts<'_>>
-    ensures { MatchOption result (read_parts text.now ≡ None) (λ p. read_parts text.now ≡ Some (parts_view p)) }
+    ensures { IsViewOf result parts_view (read_parts text.now) }
 {
     let (negative, unsigned) = split_sign(text);
     let (integer, rest) = split_digits(unsigned);
@@ -86,7 +86,7 @@ pub fn parts_of(text: &[u16]) -> Option<DecimalParts<'_>>
 
 /// The radix that `0x`, `0o` or `0b` in front gives, and what follows.
 pub fn split_radix(text: &[u16]) -> Option<(u64, &[u16])>
-    ensures { MatchOption result (read_radix text.now ≡ None) (λ x. read_radix text.now ≡ Some (x.0, x.1.now)) }
+    ensures { IsViewOf result (λ x. (x.0, x.1.now)) (read_radix text.now) }
 {
     match text {
         [0x30, 0x78 | 0x58, digits @ ..] => Some((16, digits)),

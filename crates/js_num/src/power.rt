@@ -3,20 +3,19 @@
 ghost use Rattle.std.specs.Prelude.{◌≡◌, ℤ, ◌*◌, ◌%◌, ◌^◌, ◌<◌, ◌≤◌, ◌&&◌, ◌==◌, IfOk, OnErr};
 ghost use Rattle.std.specs.Int.{is_negative};
 ghost use Rattle.js_num.specs.Arithmetic.{IsPower};
-ghost use Rattle.js_num.specs.SafeRange.{IsSafe, max_safe};
+ghost use Rattle.js_num.specs.SafeRange.{IsSafe, NoSafe, IsSafeNatural, max_safe};
 
 use crate::literal::signed_integer;
 use crate::safe::NotSafe;
-
-const MAX_SAFE: u64 = 9_007_199_254_740_991;
+use lava_base::limits::MAX_SAFE_INTEGER;
 
 /// The product, where it is safe.
 fn safe_product(left: u64, right: u64) -> Result<u64, NotSafe>
-    ensures ok { IfOk result (λ n. (n ≡ left * right) × (n ≤ max_safe)) }
+    ensures ok { IfOk result (IsSafeNatural (left * right)) }
     ensures err { OnErr result (max_safe < left * right) }
 {
     match left.checked_mul(right) {
-        Some(product) if product <= MAX_SAFE => Ok(product),
+        Some(product) if product <= MAX_SAFE_INTEGER => Ok(product),
         _ => Err(NotSafe),
     }
 }
@@ -24,7 +23,7 @@ fn safe_product(left: u64, right: u64) -> Result<u64, NotSafe>
 /// The power of a base of 2 at least, where it is safe. That it is past the limit shows after 53 steps at most.
 fn growing_power(base: u64, exponent: u64) -> Result<u64, NotSafe>
     requires { 2 ≤ base }
-    ensures ok { IfOk result (λ n. (n ≡ base ^ exponent) × (n ≤ max_safe)) }
+    ensures ok { IfOk result (IsSafeNatural (base ^ exponent)) }
     ensures err { OnErr result (max_safe < base ^ exponent) }
 {
     let mut power = 1;
@@ -36,7 +35,7 @@ fn growing_power(base: u64, exponent: u64) -> Result<u64, NotSafe>
 
 /// The power of a natural number, where it is safe.
 fn natural_power(base: u64, exponent: u64) -> Result<u64, NotSafe>
-    ensures ok { IfOk result (λ n. (n ≡ base ^ exponent) × (n ≤ max_safe)) }
+    ensures ok { IfOk result (IsSafeNatural (base ^ exponent)) }
     ensures err { OnErr result (max_safe < base ^ exponent) }
 {
     match (base, exponent) {
@@ -53,11 +52,11 @@ fn is_negative_power(base: i64, exponent: u64) -> bool
     base < 0 && exponent % 2 == 1
 }
 
-/// The exact power, where it is a safe integer (ECMA-262's Number::exponentiate). At a negative exponent only 1 and -1 have one, and there it is that of the exponent without its sign.
+/// The exact power, where it is a safe integer (ECMA-262, Number::exponentiate). At a negative exponent only 1 and -1 have one, and there it is that of the exponent without its sign.
 pub fn power(base: i64, exponent: i64) -> Result<i64, NotSafe>
     ensures ok { IfOk result (IsPower base exponent) }
     ensures safe { IfOk result IsSafe }
-    ensures err { OnErr result ((v : ℤ) → IsSafe v → IsPower base exponent v → ⊥) }
+    ensures err { OnErr result (NoSafe (IsPower base exponent)) }
 {
     let magnitude = base.unsigned_abs();
     if exponent < 0 && magnitude != 1 {

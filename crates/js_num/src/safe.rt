@@ -4,7 +4,7 @@ ghost use Rattle.std.specs.Prelude.{◌≡◌, ℤ, pos, ◌+ℤ◌, ◌-ℤ◌,
 ghost use Rattle.std.specs.Fmt.{signed_decimal};
 ghost use Rattle.js_num.specs.Arithmetic.{IsQuotient, IsRemainder, IsPower};
 ghost use Rattle.js_num.specs.Bits.{bitwise};
-ghost use Rattle.js_num.specs.SafeRange.{IsSafe};
+ghost use Rattle.js_num.specs.SafeRange.{IsSafe, NoSafe};
 ghost use Rattle.js_num.specs.StringToNumber.{IsNumberOf};
 
 use crate::bits::{BitOp, bitwise};
@@ -12,20 +12,17 @@ use crate::literal::literal_number;
 use crate::power::power;
 use crate::white::{without_leading_white, without_trailing_white};
 use itoa::Buffer;
+use lava_base::limits::MAX_SAFE_INTEGER;
 use lava_base::list::List;
 use lava_base::memory::OutOfMemory;
 use std::alloc::Global;
 use std::marker::Model;
 
-const MIN_SAFE: i64 = -9_007_199_254_740_991;
-
-const MAX_SAFE: i64 = 9_007_199_254_740_991;
-
 /// The exact result is no safe integer, or there is none.
 #[derive(Clone, Copy, Debug, PartialEq, Eq)]
 pub struct NotSafe;
 
-/// A safe integer: from -(2^53 - 1) to 2^53 - 1.
+/// A safe integer: from -(2^53 - 1) to 2^53 - 1 (ECMA-262, Number.isSafeInteger).
 #[derive(Clone, Copy, Debug, PartialEq, Eq)]
 pub struct Safe {
     integer: i64,
@@ -51,7 +48,7 @@ impl Safe {
         ensures safe { OnOk result (IsSafe n) }
         ensures err { OnErr result (¬ IsSafe n) }
     {
-        if n < MIN_SAFE || n > MAX_SAFE {
+        if n.unsigned_abs() > MAX_SAFE_INTEGER {
             return Err(NotSafe);
         }
         Ok(Safe { integer: n })
@@ -65,11 +62,11 @@ impl Safe {
         self.integer
     }
 
-    /// The integer that a text stands for, by ECMA-262's StringToNumber: exactly, or `NotSafe` where there is none or it is not safe.
+    /// The integer that a text stands for, exactly, or `NotSafe` where there is none or it is not safe (ECMA-262, StringToNumber).
     pub fn from_text(units: &[u16]) -> Result<Safe, NotSafe>
         ensures ok { IfOk result (λ s. IsNumberOf units.now s) }
         ensures safe { IfOk result IsSafe }
-        ensures err { OnErr result ((v : ℤ) → IsSafe v → IsNumberOf units.now v → ⊥) }
+        ensures err { OnErr result (NoSafe (IsNumberOf units.now)) }
     {
         let literal = without_trailing_white(without_leading_white(units));
         Ok(Safe {
@@ -77,7 +74,7 @@ impl Safe {
         })
     }
 
-    /// Its decimal digits, after a `-` where it is negative (ECMA-262's Number::toString).
+    /// Its decimal digits, after a `-` where it is negative (ECMA-262, Number::toString).
     pub fn to_text(self, alloc: Global) -> Result<List<u16>, OutOfMemory>
         ensures { IfOk result (λ text. text ≡ signed_decimal self) }
     {
@@ -90,7 +87,7 @@ impl Safe {
         Ok(List::from_vec(text))
     }
 
-    /// The sum (ECMA-262's Number::add); `NotSafe` exactly where it is past a limit.
+    /// The sum (ECMA-262, Number::add); `NotSafe` exactly where it is past a limit.
     pub fn add(self, b: Safe) -> Result<Safe, NotSafe>
         ensures ok { IfOk result (λ r. r ≡ self +ℤ b) }
         ensures safe { OnOk result (IsSafe (self +ℤ b)) }
@@ -99,7 +96,7 @@ impl Safe {
         Safe::new(self.integer + b.integer)
     }
 
-    /// The difference (ECMA-262's Number::subtract); `NotSafe` exactly where it is past a limit.
+    /// The difference (ECMA-262, Number::subtract); `NotSafe` exactly where it is past a limit.
     pub fn sub(self, b: Safe) -> Result<Safe, NotSafe>
         ensures ok { IfOk result (λ r. r ≡ self -ℤ b) }
         ensures safe { OnOk result (IsSafe (self -ℤ b)) }
@@ -108,7 +105,7 @@ impl Safe {
         Safe::new(self.integer - b.integer)
     }
 
-    /// The product (ECMA-262's Number::multiply); `NotSafe` exactly where it is past a limit.
+    /// The product (ECMA-262, Number::multiply); `NotSafe` exactly where it is past a limit.
     pub fn mul(self, b: Safe) -> Result<Safe, NotSafe>
         ensures ok { IfOk result (λ r. r ≡ self *ℤ b) }
         ensures safe { OnOk result (IsSafe (self *ℤ b)) }
@@ -120,7 +117,7 @@ impl Safe {
         }
     }
 
-    /// The quotient (ECMA-262's Number::divide); `NotSafe` exactly where `b` is 0 or does not divide the integer.
+    /// The quotient (ECMA-262, Number::divide); `NotSafe` exactly where `b` is 0 or does not divide the integer.
     pub fn div(self, b: Safe) -> Result<Safe, NotSafe>
         ensures ok { IfOk result (IsQuotient self b) }
         ensures safe { IfOk result IsSafe }
@@ -132,7 +129,7 @@ impl Safe {
         Safe::new(self.integer / b.integer)
     }
 
-    /// The remainder, with the sign of the dividend (ECMA-262's Number::remainder); `NotSafe` exactly where `b` is 0.
+    /// The remainder, with the sign of the dividend (ECMA-262, Number::remainder); `NotSafe` exactly where `b` is 0.
     pub fn rem(self, b: Safe) -> Result<Safe, NotSafe>
         ensures ok { IfOk result (IsRemainder self b) }
         ensures safe { IfOk result IsSafe }
@@ -144,18 +141,18 @@ impl Safe {
         Safe::new(self.integer % b.integer)
     }
 
-    /// The power with the exponent `b` (ECMA-262's Number::exponentiate); `NotSafe` exactly where it is past a limit or no integer, and where the base is 0 and the exponent negative. `0 ** 0` is 1.
+    /// The power with the exponent `b` (ECMA-262, Number::exponentiate); `NotSafe` exactly where it is past a limit or no integer, and where the base is 0 and the exponent negative. `0 ** 0` is 1.
     pub fn pow(self, b: Safe) -> Result<Safe, NotSafe>
         ensures ok { IfOk result (IsPower self b) }
         ensures safe { IfOk result IsSafe }
-        ensures err { OnErr result ((v : ℤ) → IsSafe v → IsPower self b v → ⊥) }
+        ensures err { OnErr result (NoSafe (IsPower self b)) }
     {
         Ok(Safe {
             integer: power(self.integer, b.integer)?,
         })
     }
 
-    /// What an operator on 32 bits gives (ECMA-262's NumberBitwiseOp, Number::leftShift, Number::signedRightShift and Number::unsignedRightShift).
+    /// What an operator on 32 bits gives (ECMA-262, NumberBitwiseOp) (ECMA-262, Number::leftShift) (ECMA-262, Number::signedRightShift) (ECMA-262, Number::unsignedRightShift).
     pub fn bits(self, op: BitOp, b: Safe) -> Safe
         ensures value { result ≡ bitwise op self b }
         ensures safe { IsSafe result }

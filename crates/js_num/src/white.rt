@@ -4,7 +4,7 @@ ghost use Rattle.std.specs.Prelude.{◌≡◌, ◌-◌, length, take, drop};
 ghost use Rattle.std.specs.List.{prefix_len, suffix_len};
 ghost use Rattle.js_num.specs.White.{is_white};
 
-/// Whether a unit is ECMA-262's WhiteSpace or LineTerminator.
+/// Whether a unit is white space or a line terminator (ECMA-262, StrWhiteSpaceChar).
 fn is_white_unit(unit: u16) -> bool
     ensures { result ≡ is_white unit }
 {
