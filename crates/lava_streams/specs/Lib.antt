@@ -2,6 +2,7 @@ pub mod Counts
 pub mod Failures
 pub mod Files
 pub mod Folders
+pub mod Left
 pub mod Lines
 pub mod Listings
 pub mod Moments

@@ -2,6 +2,7 @@
 
 ghost use Rattle.std.specs.Prelude.{◌≡◌, ◌^◌, ◌<◌, ◌++◌, ◌∷◌, [], ◌≤◌, Some, is_ok, IfOk, OnOk, OnErr};
 ghost use Rattle.lava_streams.specs.Counts.{CountsFailed};
+ghost use Rattle.lava_streams.specs.Left.{LeavesEnd};
 ghost use Rattle.lava_streams.specs.Moments.{IsNext};
 ghost use Rattle.lava_streams.specs.States.{gives_moment, after_now};
 
@@ -83,6 +84,7 @@ impl Clock for MemoryClock {
     fn now(&mut self) -> Result<u64, Failed>
         ensures counts { CountsFailed self.old.failing.faults self.new.failing.faults result }
         ensures gives { IfOk result (λ moment. IsNext self.old.moments moment (Some self.new.moments)) }
+        ensures err { OnErr result (LeavesEnd self.old.moments (Some self.new.moments)) }
         ensures within { IfOk result (λ moment. moment < 2 ^ 53) }
         ensures takes { is_ok result ≡ gives_moment self.old }
         ensures after { self.new ≡ after_now self.old }

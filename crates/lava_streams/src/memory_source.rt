@@ -4,6 +4,7 @@ ghost use Rattle.std.specs.Prelude.{◌≡◌, ◌++◌, ◌∷◌, [], ◌≤�
 ghost use Rattle.std.specs.List.{position_or_len};
 ghost use Rattle.lava_streams.specs.Counts.{Counts};
 ghost use Rattle.lava_streams.specs.Failures.{fails_next, after_call};
+ghost use Rattle.lava_streams.specs.Left.{LeavesEnd};
 ghost use Rattle.lava_streams.specs.Lines.{line_of, IsWithinLine};
 
 use crate::failing::Failing;
@@ -81,6 +82,7 @@ impl Source for MemorySource {
         ensures counts { Counts self.old.failing.faults self.new.failing.faults result }
         ensures gives { IfOk result (λ line. (line ≡ (line_of self.old.bytes).0) × (self.new.bytes ≡ (line_of self.old.bytes).1)) }
         ensures within { IfOk result IsWithinLine }
+        ensures err { OnErr result (LeavesEnd self.old.bytes (Some self.new.bytes)) }
         ensures keeps { OnErr result (self.new.bytes ≡ self.old.bytes) }
         ensures after { self.new.failing ≡ after_call self.old.failing }
         ensures fails { IsErrOf result ReadFault.Failed ↔ IsTrue (fails_next self.old.failing) }

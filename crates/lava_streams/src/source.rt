@@ -20,8 +20,9 @@ pub enum Line {
 
 /// An input, which may fail. It counts its faults, and may tell what is left.
 pub trait Source {
-    ghost use Rattle.std.specs.Prelude.{◌≡◌, ℕ, List as Listed, Option, IfOk};
+    ghost use Rattle.std.specs.Prelude.{◌≡◌, ℕ, List as Listed, Option, IfOk, OnErr};
     ghost use Rattle.lava_streams.specs.Counts.{Counts, ForTold};
+    ghost use Rattle.lava_streams.specs.Left.{LeavesEnd};
     ghost use Rattle.lava_streams.specs.Lines.{GivesLine, IsWithinLine};
 
     // The faults so far.
@@ -34,9 +35,10 @@ pub trait Source {
     fn faults(&self) -> u64
         ensures { result ≡ count self.now };
 
-    /// Takes the next line.
+    /// Takes the next line. After a fault or for want of memory an end of what was left is left.
     fn line(&mut self, alloc: Global) -> Result<Line, ReadFault>
         ensures counts { Counts (count self.old) (count self.new) result }
         ensures gives { ForTold (told self.old) (λ left. IfOk result (λ line. GivesLine left line (told self.new))) }
+        ensures err { ForTold (told self.old) (λ left. OnErr result (LeavesEnd left (told self.new))) }
         ensures within { IfOk result IsWithinLine };
 }
