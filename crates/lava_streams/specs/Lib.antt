@@ -6,6 +6,7 @@ pub mod Left
 pub mod Lines
 pub mod Listings
 pub mod Moments
+pub mod Outside
 pub mod Pieces
 pub mod States
 pub mod Steps
