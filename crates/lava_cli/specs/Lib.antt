@@ -32,4 +32,4 @@ pub mod Compose
 pub mod View
 pub mod Parsing
 pub mod Reading
-pub mod Outside
+pub mod Adapters

@@ -107,3 +107,8 @@ IsProgram ts program =
 abbrev pub IsFirstFormText : List ℕ → List Statement → Type 0
 IsFirstFormText bytes program =
     (ss : List SourceToken) × IsTokens bytes ss × ((ts : List Token) × IsWritten bytes 0 ss ts × IsProgram ts program)
+
+-- the bytes spell one program at most
+abbrev pub One_program : Type 0
+One_program =
+    (bytes : List ℕ) (a b : List Statement) → IsFirstFormText bytes a → IsFirstFormText bytes b → a ≡ b

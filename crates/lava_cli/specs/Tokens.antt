@@ -3,6 +3,7 @@ use Rattle.std.specs.Prelude.{◌≡◌, ◌≤◌, ◌+◌, ◌-◌, ◌*◌, �
 use Rattle.std.specs.List.{list_all}
 use Rattle.std.specs.Char.{is_ascii_alphabetic, is_ascii_digit, is_ascii_alphanumeric}
 use Rattle.js_lexer.specs.declared.token.Token.{Token as SourceToken}
+use Rattle.lava_base.specs.declared.limits.TheConstants.{MAX_SAFE_INTEGER}
 use Rattle.lava_cli.specs.declared.token.Mark.{Mark}
 use Rattle.lava_cli.specs.declared.token.Mark.TheVariants as marks
 use Rattle.lava_cli.specs.declared.token.Token.{Token}
@@ -52,7 +53,7 @@ IsSpelling (tokens.Word name) bs = (bs ≡ name) × IsWord name
 IsSpelling (tokens.Text units) bs =
     (quote : ℕ) × (is_quote quote ≡ true) × (list_all (is_text_byte quote) units ≡ true) × (bs ≡ quote ∷ (units ++ quote ∷ []))
 IsSpelling (tokens.Number value) bs =
-    IsDecimal bs × (value ≡ pos (decimal_from 0 bs)) × (decimal_from 0 bs ≤ 9007199254740991)
+    IsDecimal bs × (value ≡ pos (decimal_from 0 bs)) × (decimal_from 0 bs ≤ MAX_SAFE_INTEGER)
 IsSpelling (tokens.Mark mark) bs = bs ≡ mark_byte mark ∷ []
 
 -- the text of a token of a source

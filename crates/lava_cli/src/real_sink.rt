@@ -35,9 +35,7 @@ impl<W: Write + Drop> RealSink<W> {
 }
 
 impl<W: Write + Drop> Sink for RealSink<W> {
-    ghost count = { λ s. s };
-
-    ghost told = { λ _. None };
+    ghost stand = { λ s. record { count = s; told = None } };
 
     fn faults(&self) -> u64 {
         self.faults
