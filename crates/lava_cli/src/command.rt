@@ -98,9 +98,10 @@ fn answer<F: Folder, O: Sink, E: Sink>(
     out: &mut O,
     err: &mut E,
 ) -> u8
-    ensures answers { let before = outside (F.stand folder.old) (O.stand out.old) (E.stand err.old) in
+    ensures answers { let said = map string_bytes words.now in
+        let before = outside (F.stand folder.old) (O.stand out.old) (E.stand err.old) in
         let after = outside (F.stand folder.new) (O.stand out.new) (E.stand err.new) in
-        Answers (map string_bytes words.now) before after result }
+        Answers said before after result }
     ensures folder { (F.stand folder.new).told ≡ (F.stand folder.old).told }
 {
     let outcome = outcome_of(alloc, words, folder, out);
@@ -121,32 +122,38 @@ pub fn lava<F: Folder, I: Input, O: Sink, E: Sink, C: Clock>(
     clock: &mut C,
 ) -> u8
     // Some outcome has its cause, and is reported.
-    ensures answers { let before = outside (F.stand folder.old) (O.stand out.old) (E.stand err.old) in
+    ensures answers { let said = map string_bytes words.now in
+        let before = outside (F.stand folder.old) (O.stand out.old) (E.stand err.old) in
         let after = outside (F.stand folder.new) (O.stand out.new) (E.stand err.new) in
-        Answers (map string_bytes words.now) before after result }
+        Answers said before after result }
 
     // Done: the output has grown by the printed text of the network run, and the errors by nothing.
-    ensures done { let before = outside (F.stand folder.old) (O.stand out.old) (E.stand err.old) in
+    ensures done { result ≡ DONE_STATUS →
+        let before = outside (F.stand folder.old) (O.stand out.old) (E.stand err.old) in
         let after = outside (F.stand folder.new) (O.stand out.new) (E.stand err.new) in
-        result ≡ DONE_STATUS → IsDone (map string_bytes words.now) before after }
+        IsDone (map string_bytes words.now) before after }
 
     // A fault of the outside: the count of an object rose in this call.
-    ensures failed { let before = outside (F.stand folder.old) (O.stand out.old) (E.stand err.old) in
+    ensures failed { result ≡ OUTSIDE_STATUS →
+        let before = outside (F.stand folder.old) (O.stand out.old) (E.stand err.old) in
         let after = outside (F.stand folder.new) (O.stand out.new) (E.stand err.new) in
-        result ≡ OUTSIDE_STATUS → SomeFailed before after }
+        SomeFailed before after }
 
     // Each cause has its answer.
     ensures usage { directory_of (map string_bytes words.now) ≡ None →
         Writes Outcome.Usage (E.stand err.old) (E.stand err.new) result }
-    ensures missing { let before = outside (F.stand folder.old) (O.stand out.old) (E.stand err.old) in
+    ensures missing { let said = map string_bytes words.now in
+        let before = outside (F.stand folder.old) (O.stand out.old) (E.stand err.old) in
         let after = outside (F.stand folder.new) (O.stand out.new) (E.stand err.new) in
-        MissingComes (map string_bytes words.now) before after result }
-    ensures unsupported { let before = outside (F.stand folder.old) (O.stand out.old) (E.stand err.old) in
+        MissingComes said before after result }
+    ensures unsupported { let said = map string_bytes words.now in
+        let before = outside (F.stand folder.old) (O.stand out.old) (E.stand err.old) in
         let after = outside (F.stand folder.new) (O.stand out.new) (E.stand err.new) in
-        UnsupportedComes (map string_bytes words.now) before after result }
-    ensures runs { let before = outside (F.stand folder.old) (O.stand out.old) (E.stand err.old) in
+        UnsupportedComes said before after result }
+    ensures runs { let said = map string_bytes words.now in
+        let before = outside (F.stand folder.old) (O.stand out.old) (E.stand err.old) in
         let after = outside (F.stand folder.new) (O.stand out.new) (E.stand err.new) in
-        RunComes (map string_bytes words.now) before after result }
+        RunComes said before after result }
 
     // The folder tells what it told, and the input and the clock are not touched.
     ensures folder { (F.stand folder.new).told ≡ (F.stand folder.old).told }

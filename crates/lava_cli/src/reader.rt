@@ -22,9 +22,12 @@ use std::alloc::Global;
 /// The program that the bytes are, or none where they are not of the first form.
 pub fn read(alloc: Global, bytes: &[u8]) -> Result<Option<List<Statement>>, OutOfMemory>
     requires { length bytes.now ≤ FILE_LIMIT }
-    ensures read { IfOk result (λ answer. IfSome answer (λ program. IsFirstFormText bytes.now program)) }
-    ensures only { IfOk result (λ answer. IfSome answer (λ program. (other : Listed Statement) → IsFirstFormText bytes.now other → other ≡ program)) }
-    ensures refused { IfOk result (λ answer. IfNone answer ((program : Listed Statement) → IsFirstFormText bytes.now program → ⊥)) }
+    ensures read { IfOk result (λ answer. IfSome answer (λ program.
+        IsFirstFormText bytes.now program)) }
+    ensures only { IfOk result (λ answer. IfSome answer (λ program.
+        (other : Listed Statement) → IsFirstFormText bytes.now other → other ≡ program)) }
+    ensures refused { IfOk result (λ answer. IfNone answer (
+        (program : Listed Statement) → IsFirstFormText bytes.now program → ⊥)) }
 {
     match tokens(alloc, bytes) {
         Ok(tokens) => read_tokens(alloc, bytes, tokens.as_slice()),
@@ -65,7 +68,8 @@ fn take_next(
     token: SourceToken,
 ) -> Result<Option<Parser>, OutOfMemory>
     requires short { length bytes.now ≤ FILE_LIMIT }
-    requires in_order { (from ≤ token.from) × (token.from ≤ token.to) × (token.to ≤ length bytes.now) }
+    requires in_order { (from ≤ token.from) × (token.from ≤ token.to)
+        × (token.to ≤ length bytes.now) }
     ensures { IfOk result (λ next. next ≡ next_taken bytes.now from parser token) }
 {
     let gap = &bytes[from as usize..token.from as usize];

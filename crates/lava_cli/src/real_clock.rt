@@ -63,7 +63,8 @@ fn moment(clock: &impl rt::Clock) -> Result<u64, Failed>
 // A moment that is a safe integer.
 fn within_limit(millis: u128) -> Result<u64, Failed>
     ensures { MatchResult result
-        (λ moment. (moment ≡ millis) × (millis ≤ MAX_SAFE_INTEGER)) (λ _. MAX_SAFE_INTEGER < millis) }
+        (λ moment. (moment ≡ millis) × (millis ≤ MAX_SAFE_INTEGER))
+        (λ _. MAX_SAFE_INTEGER < millis) }
 {
     if millis <= u128::from(MAX_SAFE_INTEGER) {
         Ok(millis as u64)
