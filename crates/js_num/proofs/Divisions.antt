@@ -4,7 +4,8 @@ use Rattle.std.specs.Int.{is_negative}
 use Rattle.std.specs.Int.Signed.{mag_rem}
 use Rattle.std.proofs.lemmas.Int.{ints, to_z-of_z, quot_is, rem_is, quot-rem, rem_below, unsigned_abs-mul}
 use Rattle.std.proofs.Math.Nat.{div-le_self, mul-mod_left}
-use Rattle.js_num.specs.SafeRange.{IsSafe, max_safe}
+use Rattle.lava_base.specs.SafeIntegers.{IsSafe}
+use Rattle.js_num.specs.SafeRange.{max_safe}
 use Rattle.js_num.specs.Arithmetic.{IsQuotient, IsRemainder, HasSignOf}
 
 pub fits : (v : ℤ) → IsSafe v → FitsSigned w64 v

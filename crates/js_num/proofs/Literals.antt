@@ -7,7 +7,8 @@ use Rattle.std.specs.Option.{option_map}
 use Rattle.std.specs.Str.Parse.{AllDigits}
 use Rattle.js_num.specs.Numerals.{Exponent, NoExponent, Lower, Upper, HasExponentDigits, exponent_digits, Parts, parts_of, IsMagnitude, HasValue, signed, radix_of}
 use Rattle.js_num.specs.Reading.{read_parts, read_radix}
-use Rattle.js_num.specs.SafeRange.{IsSafe, max_safe}
+use Rattle.lava_base.specs.SafeIntegers.{IsSafe}
+use Rattle.js_num.specs.SafeRange.{max_safe}
 use Rattle.js_num.specs.StringToNumber.{IsDecimalOf}
 use Rattle.js_num.proofs.Grammar.{spelled_so, read_again}
 

@@ -9,7 +9,7 @@ use Rattle.std.specs.List.{prefix_len, suffix_len}
 use Rattle.std.specs.Str.Parse.{AllDigits, digits_value}
 use Rattle.js_num.specs.Numerals.{Sign, Unsigned, Minus, NoPoint, NoExponent, Decimal, IsDecimal, Parts, parts_of, HasValue, tens_down, signed, radix_of}
 use Rattle.js_num.specs.Reading.{read_parts}
-use Rattle.js_num.specs.SafeRange.{IsSafe}
+use Rattle.lava_base.specs.SafeIntegers.{IsSafe}
 use Rattle.js_num.specs.StringToNumber.{IsDecimalOf, IsRadixOf, IsLiteralOf, IsNumberOf}
 use Rattle.js_num.specs.White.{is_white}
 use Rattle.js_num.proofs.Grammar.{read_again}

@@ -6,7 +6,8 @@ use Rattle.std.proofs.Math.Nat.{pow-suc, pow-le-pow_right}
 use Rattle.std.proofs.lemmas.Bool.{cases_lt}
 use Rattle.js_num.specs.Arithmetic.{IsPower}
 use Rattle.js_num.specs.Numerals.{signed}
-use Rattle.js_num.specs.SafeRange.{IsSafe, max_safe}
+use Rattle.lava_base.specs.SafeIntegers.{IsSafe}
+use Rattle.js_num.specs.SafeRange.{max_safe}
 use Rattle.js_num.proofs.Divisions.{not_negative}
 
 -- one factor more

@@ -2,7 +2,7 @@
 
 ghost use Rattle.std.specs.Prelude.{◌≡◌};
 ghost use Rattle.js_num.specs.Bits.{to_uint32, to_int32, bitwise};
-ghost use Rattle.js_num.specs.SafeRange.{IsSafe};
+ghost use Rattle.lava_base.specs.SafeIntegers.{IsSafe};
 
 /// An operator on 32 bits: `&`, `|`, `^`, `<<`, `>>` and `>>>`.
 #[derive(Clone, Copy, Debug, PartialEq, Eq)]

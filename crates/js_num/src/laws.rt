@@ -2,7 +2,7 @@
 
 ghost use Rattle.std.specs.Prelude.{◌≡◌, ℕ, ℤ, List};
 ghost use Rattle.std.specs.Fmt.{signed_decimal};
-ghost use Rattle.js_num.specs.SafeRange.{IsSafe};
+ghost use Rattle.lava_base.specs.SafeIntegers.{IsSafe};
 ghost use Rattle.js_num.specs.StringToNumber.{IsNumberOf, AtMostOne};
 
 /// A text stands for one number at most.

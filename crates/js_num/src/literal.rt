@@ -4,7 +4,8 @@ ghost use Rattle.std.specs.Prelude.{◌≡◌, ℕ, ℤ, ◌<◌, ◌≤◌, IfO
 ghost use Rattle.std.specs.Str.Parse.{AllDigits};
 ghost use Rattle.js_num.specs.Numerals.{IsMagnitude, signed};
 ghost use Rattle.js_num.specs.Views.{parts_view};
-ghost use Rattle.js_num.specs.SafeRange.{IsSafe, NoSafe, IsPastSafe, max_safe};
+ghost use Rattle.lava_base.specs.SafeIntegers.{IsSafe};
+ghost use Rattle.js_num.specs.SafeRange.{NoSafe, IsPastSafe, max_safe};
 ghost use Rattle.js_num.specs.StringToNumber.{IsDecimalOf, IsRadixOf, IsLiteralOf};
 ghost use Rattle.js_num.specs.Reading.{read_radix};
 

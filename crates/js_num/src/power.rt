@@ -3,7 +3,8 @@
 ghost use Rattle.std.specs.Prelude.{◌≡◌, ℤ, ◌*◌, ◌%◌, ◌^◌, ◌<◌, ◌≤◌, ◌&&◌, ◌==◌, IfOk, OnErr};
 ghost use Rattle.std.specs.Int.{is_negative};
 ghost use Rattle.js_num.specs.Arithmetic.{IsPower};
-ghost use Rattle.js_num.specs.SafeRange.{IsSafe, NoSafe, IsSafeNatural, max_safe};
+ghost use Rattle.lava_base.specs.SafeIntegers.{IsSafe};
+ghost use Rattle.js_num.specs.SafeRange.{NoSafe, IsSafeNatural, max_safe};
 
 use crate::literal::signed_integer;
 use crate::safe::NotSafe;

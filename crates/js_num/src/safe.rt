@@ -4,7 +4,8 @@ ghost use Rattle.std.specs.Prelude.{◌≡◌, ℤ, pos, ◌+ℤ◌, ◌-ℤ◌,
 ghost use Rattle.std.specs.Fmt.{signed_decimal};
 ghost use Rattle.js_num.specs.Arithmetic.{IsQuotient, IsRemainder, IsPower};
 ghost use Rattle.js_num.specs.Bits.{bitwise};
-ghost use Rattle.js_num.specs.SafeRange.{IsSafe, NoSafe};
+ghost use Rattle.lava_base.specs.SafeIntegers.{IsSafe};
+ghost use Rattle.js_num.specs.SafeRange.{NoSafe};
 ghost use Rattle.js_num.specs.StringToNumber.{IsNumberOf};
 
 use crate::bits::{BitOp, bitwise};
@@ -30,7 +31,7 @@ pub struct Safe {
 
 impl Model for Safe {
     ghost use Rattle.std.specs.Prelude.{ℤ};
-    ghost use Rattle.js_num.specs.SafeRange.{IsSafe};
+    ghost use Rattle.lava_base.specs.SafeIntegers.{IsSafe};
 
     ghost Value = { ℤ };
 

@@ -20,6 +20,10 @@ use Rattle.lava_cli.proofs.Steps.{steps_of, IsFull, run_above, run_within, run_e
 pub choose : (p q : ℕ) (P : Bool → Type 0) → (p ≡ q → P true) → (p ≢ q → P false) → P (nat_eq p q)
 choose p q P equal other = ⊎_elim (λ h. subst P (sym h.0) (equal h.1)) (λ h. subst P (sym h.0) (other h.1)) (eqb_tells p q)
 
+-- the run of a party by itself, with so many steps, on what came to it
+abbrev pub alone : (app : Application) (p n : ℕ) → List (CrossBody Ref MadeSymbol) → Local Ref MadeSymbol
+alone app p n ins = local (naming_of p) (app.own p) n ins
+
 abbrev pub Stack : Type 0
 Stack = List (ℕ × List (Next Ref MadeSymbol))
 
@@ -38,7 +42,7 @@ NoHost (b ∷ stack) = (b.0 ≢ 0) × NoHost stack
 
 -- the party's own run on these comes to where the party is in the world
 pub record Rests (app : Application) (w : World) (q : ℕ) (ins : List (CrossBody Ref MadeSymbol)) : Type 0 where
-  pub by : (n : ℕ) → w.steps q ≤ n → local (naming_of q) (app.own q) n ins ≡ record { sent = sent_by q w.journal; steps = w.steps q; standing = Waits (w.own q) (bodies_of q w.stack) }
+  pub by : (n : ℕ) → w.steps q ≤ n → alone app q n ins ≡ record { sent = sent_by q w.journal; steps = w.steps q; standing = Waits (w.own q) (bodies_of q w.stack) }
 
 -- the party has taken the last of what it received, and is at this point
 pub record Takes (app : Application) (w : World) (p : ℕ) (point : Point Ref MadeSymbol) : Type 0 where
@@ -46,7 +50,7 @@ pub record Takes (app : Application) (w : World) (p : ℕ) (point : Point Ref Ma
   pub older : List (CrossBody Ref MadeSymbol)
   pub bodies : List (List (Next Ref MadeSymbol))
   pub is : received p w.journal ≡ last ∷ older
-  pub before : (n : ℕ) → w.steps p ≤ n → local (naming_of p) (app.own p) n older ≡ record { sent = sent_by p w.journal; steps = w.steps p; standing = Waits (w.own p) bodies }
+  pub before : (n : ℕ) → w.steps p ≤ n → alone app p n older ≡ record { sent = sent_by p w.journal; steps = w.steps p; standing = Waits (w.own p) bodies }
   pub serves : served (naming_of p) (w.own p) bodies last ≡ Some (point, bodies_of p w.stack)
 
 pub record Core (budget : ℕ) (w : World) : Type 0 where
@@ -68,9 +72,9 @@ pub record At_host (app : Application) (w : World) : Type 0 where
 
 -- how the party's own run stands at the end
 pub record Has_run (app : Application) (w : World) (e : Ending) (p : ℕ) : Type 0 where
-  pub waited : (x : CrossBody Ref MadeSymbol) (older : List (CrossBody Ref MadeSymbol)) → received p w.journal ≡ x ∷ older → IsWaiting (local (naming_of p) (app.own p) (w.steps p) older).standing
-  pub stands : (s : Standing Ref MadeSymbol) × StandsAt e p s × (local (naming_of p) (app.own p) (w.steps p) (received p w.journal) ≡ record { sent = sent_by p w.journal; steps = w.steps p; standing = s })
-  pub larger : IsWaiting stands.0 → (n : ℕ) → w.steps p ≤ n → local (naming_of p) (app.own p) n (received p w.journal) ≡ record { sent = sent_by p w.journal; steps = w.steps p; standing = stands.0 }
+  pub waited : (x : CrossBody Ref MadeSymbol) (older : List (CrossBody Ref MadeSymbol)) → received p w.journal ≡ x ∷ older → IsWaiting (alone app p (w.steps p) older).standing
+  pub stands : (s : Standing Ref MadeSymbol) × StandsAt e p s × (alone app p (w.steps p) (received p w.journal) ≡ record { sent = sent_by p w.journal; steps = w.steps p; standing = s })
+  pub larger : IsWaiting stands.0 → (n : ℕ) → w.steps p ≤ n → alone app p n (received p w.journal) ≡ record { sent = sent_by p w.journal; steps = w.steps p; standing = stands.0 }
 
 abbrev pub At : Application → World → Control → Type 0
 At app w (Runs p point) = Running app w p point
@@ -82,14 +86,14 @@ pub record Holds (app : Application) (budget : ℕ) (w : World) : Type 0 where
   pub at : At app w w.control
 
 -- the party's own run with the last crossing is the run of its body
-ran : (app : Application) (w : World) (p : ℕ) (point : Point Ref MadeSymbol) → Takes app w p point → (n : ℕ) → w.steps p ≤ n → local (naming_of p) (app.own p) n (received p w.journal) ≡ after (sent_by p w.journal) (bodies_of p w.stack) (run (naming_of p) (n - w.steps p) (w.steps p) point)
+ran : (app : Application) (w : World) (p : ℕ) (point : Point Ref MadeSymbol) → Takes app w p point → (n : ℕ) → w.steps p ≤ n → alone app p n (received p w.journal) ≡ after (sent_by p w.journal) (bodies_of p w.stack) (run (naming_of p) (n - w.steps p) (w.steps p) point)
 ran app w p point t n le =
-    ap (local (naming_of p) (app.own p) n) t.is
+    ap (alone app p n) t.is
     ∙ (ap (λ (r : Local Ref MadeSymbol). takes (naming_of p) n r r.standing t.last) (t.before n le)
     ∙ ap (taken_up (naming_of p) n (record { sent = sent_by p w.journal; steps = w.steps p; standing = Waits (w.own p) t.bodies })) t.serves)
 
 -- under each limit that has its steps
-pub settled : (app : Application) (budget : ℕ) (w : World) (p : ℕ) (point : Point Ref MadeSymbol) (stop : Stop Ref MadeSymbol) → Takes app w p point → run (naming_of p) (budget - w.spent) (w.steps p) point ≡ stop → IsFull stop → (n : ℕ) → steps_of stop ≤ n → local (naming_of p) (app.own p) n (received p w.journal) ≡ after (sent_by p w.journal) (bodies_of p w.stack) stop
+pub settled : (app : Application) (budget : ℕ) (w : World) (p : ℕ) (point : Point Ref MadeSymbol) (stop : Stop Ref MadeSymbol) → Takes app w p point → run (naming_of p) (budget - w.spent) (w.steps p) point ≡ stop → IsFull stop → (n : ℕ) → steps_of stop ≤ n → alone app p n (received p w.journal) ≡ after (sent_by p w.journal) (bodies_of p w.stack) stop
 settled app budget w p point stop t e full n le =
     let above = subst (λ s. w.steps p ≤ steps_of s) e (run_above (naming_of p) (budget - w.spent) (w.steps p) point) in
     let enough : steps_of (run (naming_of p) (budget - w.spent) (w.steps p) point) ≤ w.steps p + (n - w.steps p) = subst (λ s. steps_of s ≤ w.steps p + (n - w.steps p)) (sym e) (omega (arith, above, le)) in
@@ -100,17 +104,17 @@ settled app budget w p point stop t e full n le =
 rests_sent : (app : Application) (budget : ℕ) (w : World) (p : ℕ) (point : Point Ref MadeSymbol) (o : Option Ref) (x : Ask Ref MadeSymbol) (own : Party Ref MadeSymbol) (ks : List (Next Ref MadeSymbol)) (n1 : ℕ) → Running app w p point → run (naming_of p) (budget - w.spent) (w.steps p) point ≡ Sent o x own ks n1 → (r q : ℕ) → q ≢ 0 → Rests app (asks_of p r o x ks (with_own p own (charged p n1 w))) q (received q w.journal)
 rests_sent app budget w p point o x own ks n1 run_at e r q q0 = record {
   by = λ n le.
-      choose p q (λ b. (if b then n1 else w.steps q) ≤ n → local (naming_of q) (app.own q) n (received q w.journal) ≡ record { sent = if b then Asks o x ∷ sent_by q w.journal else sent_by q w.journal; steps = if b then n1 else w.steps q; standing = Waits (if b then own else w.own q) (if b then ks ∷ bodies_of q w.stack else bodies_of q w.stack) })
-      (λ pq. subst (λ q'. n1 ≤ n → local (naming_of q') (app.own q') n (received q' w.journal) ≡ record { sent = Asks o x ∷ sent_by q' w.journal; steps = n1; standing = Waits own (ks ∷ bodies_of q' w.stack) }) pq (λ le1. settled app budget w p point (Sent o x own ks n1) run_at.takes e tt n le1))
+      choose p q (λ b. (if b then n1 else w.steps q) ≤ n → alone app q n (received q w.journal) ≡ record { sent = if b then Asks o x ∷ sent_by q w.journal else sent_by q w.journal; steps = if b then n1 else w.steps q; standing = Waits (if b then own else w.own q) (if b then ks ∷ bodies_of q w.stack else bodies_of q w.stack) })
+      (λ pq. subst (λ q'. n1 ≤ n → alone app q' n (received q' w.journal) ≡ record { sent = Asks o x ∷ sent_by q' w.journal; steps = n1; standing = Waits own (ks ∷ bodies_of q' w.stack) }) pq (λ le1. settled app budget w p point (Sent o x own ks n1) run_at.takes e tt n le1))
       (λ ne le1. (run_at.others q q0 (λ qp. ne (sym qp))).by n le1)
       le;
 }
 
 -- where each party rests once p has replied, before the reply is taken
-rests_gave : (app : Application) (budget : ℕ) (w : World) (p : ℕ) (point : Point Ref MadeSymbol) (c : Completion Ref MadeSymbol) (own : Party Ref MadeSymbol) (n1 : ℕ) → Running app w p point → run (naming_of p) (budget - w.spent) (w.steps p) point ≡ Gave c own n1 → (q : ℕ) → q ≢ 0 → (n : ℕ) → put p n1 w.steps q ≤ n → local (naming_of q) (app.own q) n (received q w.journal) ≡ record { sent = if nat_eq p q then Answers (reply_of c) ∷ sent_by q w.journal else sent_by q w.journal; steps = put p n1 w.steps q; standing = Waits (put p own w.own q) (bodies_of q w.stack) }
+rests_gave : (app : Application) (budget : ℕ) (w : World) (p : ℕ) (point : Point Ref MadeSymbol) (c : Completion Ref MadeSymbol) (own : Party Ref MadeSymbol) (n1 : ℕ) → Running app w p point → run (naming_of p) (budget - w.spent) (w.steps p) point ≡ Gave c own n1 → (q : ℕ) → q ≢ 0 → (n : ℕ) → put p n1 w.steps q ≤ n → alone app q n (received q w.journal) ≡ record { sent = if nat_eq p q then Answers (reply_of c) ∷ sent_by q w.journal else sent_by q w.journal; steps = put p n1 w.steps q; standing = Waits (put p own w.own q) (bodies_of q w.stack) }
 rests_gave app budget w p point c own n1 run_at e q q0 n le =
-    choose p q (λ b. (if b then n1 else w.steps q) ≤ n → local (naming_of q) (app.own q) n (received q w.journal) ≡ record { sent = if b then Answers (reply_of c) ∷ sent_by q w.journal else sent_by q w.journal; steps = if b then n1 else w.steps q; standing = Waits (if b then own else w.own q) (bodies_of q w.stack) })
-    (λ pq. subst (λ q'. n1 ≤ n → local (naming_of q') (app.own q') n (received q' w.journal) ≡ record { sent = Answers (reply_of c) ∷ sent_by q' w.journal; steps = n1; standing = Waits own (bodies_of q' w.stack) }) pq (λ le1. settled app budget w p point (Gave c own n1) run_at.takes e tt n le1))
+    choose p q (λ b. (if b then n1 else w.steps q) ≤ n → alone app q n (received q w.journal) ≡ record { sent = if b then Answers (reply_of c) ∷ sent_by q w.journal else sent_by q w.journal; steps = if b then n1 else w.steps q; standing = Waits (if b then own else w.own q) (bodies_of q w.stack) })
+    (λ pq. subst (λ q'. n1 ≤ n → alone app q' n (received q' w.journal) ≡ record { sent = Answers (reply_of c) ∷ sent_by q' w.journal; steps = n1; standing = Waits own (bodies_of q' w.stack) }) pq (λ le1. settled app budget w p point (Gave c own n1) run_at.takes e tt n le1))
     (λ ne le1. (run_at.others q q0 (λ qp. ne (sym qp))).by n le1)
     le
 
@@ -145,7 +149,7 @@ passes app budget w p point o x own ks n1 run_at e (suc r) = record {
 
 -- the reply of s is taken by the topmost body, where each party rests in the world w with what it has sent and the reply
 record Gives (app : Application) (w : World) (s : ℕ) (c : Reply Ref MadeSymbol) (q : ℕ) : Type 0 where
-  by : (n : ℕ) → w.steps q ≤ n → local (naming_of q) (app.own q) n (received q w.journal) ≡ record { sent = if nat_eq s q then Answers c ∷ sent_by q w.journal else sent_by q w.journal; steps = w.steps q; standing = Waits (w.own q) (bodies_of q w.stack) }
+  by : (n : ℕ) → w.steps q ≤ n → alone app q n (received q w.journal) ≡ record { sent = if nat_eq s q then Answers c ∷ sent_by q w.journal else sent_by q w.journal; steps = w.steps q; standing = Waits (w.own q) (bodies_of q w.stack) }
 
 -- a party that waits waited before what it took last
 pub took : (names : Naming Ref MadeSymbol) (n : ℕ) (r : Local Ref MadeSymbol) (st : Standing Ref MadeSymbol) (x : CrossBody Ref MadeSymbol) → r.standing ≡ st → IsWaiting (takes names n r st x).standing → IsWaiting st
@@ -153,16 +157,16 @@ took names n r (Waits own bodies) x is h = tt
 took names n r Is_short x is h = subst IsWaiting is h
 took names n r (Has_ended k) x is h = subst IsWaiting is h
 
-waited_rest : (app : Application) (q n : ℕ) (ins : List (CrossBody Ref MadeSymbol)) → IsWaiting (local (naming_of q) (app.own q) n ins).standing → (x : CrossBody Ref MadeSymbol) (older : List (CrossBody Ref MadeSymbol)) → ins ≡ x ∷ older → IsWaiting (local (naming_of q) (app.own q) n older).standing
+waited_rest : (app : Application) (q n : ℕ) (ins : List (CrossBody Ref MadeSymbol)) → IsWaiting (alone app q n ins).standing → (x : CrossBody Ref MadeSymbol) (older : List (CrossBody Ref MadeSymbol)) → ins ≡ x ∷ older → IsWaiting (alone app q n older).standing
 waited_rest app q n ins h x older is =
-    let r = local (naming_of q) (app.own q) n older in
-    took (naming_of q) n r r.standing x refl (subst (λ (xs : List (CrossBody Ref MadeSymbol)). IsWaiting (local (naming_of q) (app.own q) n xs).standing) is h)
+    let r = alone app q n older in
+    took (naming_of q) n r r.standing x refl (subst (λ (xs : List (CrossBody Ref MadeSymbol)). IsWaiting (alone app q n xs).standing) is h)
 
-waited_run : (app : Application) (w : World) (p : ℕ) (point : Point Ref MadeSymbol) → Takes app w p point → (n : ℕ) → w.steps p ≤ n → (x : CrossBody Ref MadeSymbol) (older : List (CrossBody Ref MadeSymbol)) → received p w.journal ≡ x ∷ older → IsWaiting (local (naming_of p) (app.own p) n older).standing
+waited_run : (app : Application) (w : World) (p : ℕ) (point : Point Ref MadeSymbol) → Takes app w p point → (n : ℕ) → w.steps p ≤ n → (x : CrossBody Ref MadeSymbol) (older : List (CrossBody Ref MadeSymbol)) → received p w.journal ≡ x ∷ older → IsWaiting (alone app p n older).standing
 waited_run app w p point t n le x older is =
     let same : t.last ∷ t.older ≡ x ∷ older = sym t.is ∙ is in
     let e : t.older ≡ older = cc same in
-    subst (λ (xs : List (CrossBody Ref MadeSymbol)). IsWaiting (local (naming_of p) (app.own p) n xs).standing) e (subst (λ (r : Local Ref MadeSymbol). IsWaiting r.standing) (sym (t.before n le)) tt)
+    subst (λ (xs : List (CrossBody Ref MadeSymbol)). IsWaiting (alone app p n xs).standing) e (subst (λ (r : Local Ref MadeSymbol). IsWaiting r.standing) (sym (t.before n le)) tt)
 
 -- where the host's import is answered, each party waits
 all_wait : (r : Reply Ref MadeSymbol) (p : ℕ) (own : Party Ref MadeSymbol) (bodies : List (List (Next Ref MadeSymbol))) → StandsAt (ending_by r) p (Waits own bodies)
@@ -173,7 +177,7 @@ all_wait (Throw e) p own bodies = tt
 -- the world w1 is w with the stack's rest
 passes_back : (app : Application) (w : World) (s : ℕ) (c : Reply Ref MadeSymbol) (stack : Stack) → w.stack ≡ stack → NoHost stack → open_asks w.journal ≡ askers stack → ((q : ℕ) → q ≢ 0 → Gives app w s c q) → At app (replies_of s c stack w) (replies_of s c stack w).control
 passes_back app w s c [] is none asks gives = λ q q0.
-    let back : (n : ℕ) → w.steps q ≤ n → local (naming_of q) (app.own q) n (if nat_eq 0 q then Answers c ∷ received q w.journal else received q w.journal) ≡ record { sent = if nat_eq s q then Answers c ∷ sent_by q w.journal else sent_by q w.journal; steps = w.steps q; standing = Waits (w.own q) (bodies_of q w.stack) } = λ n le. ap (λ t. local (naming_of q) (app.own q) n (if t then Answers c ∷ received q w.journal else received q w.journal)) (ne_eqb 0 q (λ z. q0 (sym z))) ∙ (gives q q0).by n le in
+    let back : (n : ℕ) → w.steps q ≤ n → alone app q n (if nat_eq 0 q then Answers c ∷ received q w.journal else received q w.journal) ≡ record { sent = if nat_eq s q then Answers c ∷ sent_by q w.journal else sent_by q w.journal; steps = w.steps q; standing = Waits (w.own q) (bodies_of q w.stack) } = λ n le. ap (λ t. alone app q n (if t then Answers c ∷ received q w.journal else received q w.journal)) (ne_eqb 0 q (λ z. q0 (sym z))) ∙ (gives q q0).by n le in
     record { waited = waited_rest app q (w.steps q) _ (subst (λ (r : Local Ref MadeSymbol). IsWaiting r.standing) (sym (back (w.steps q) (omega arith))) tt); stands = (Waits (w.own q) (bodies_of q w.stack), all_wait c q (w.own q) (bodies_of q w.stack), back (w.steps q) (omega arith)); larger = λ wait n le. back n le }
 passes_back app w s c (b ∷ stack) is none asks gives = record {
   party = none.0;
@@ -190,7 +194,7 @@ passes_back app w s c (b ∷ stack) is none asks gives = record {
   others = λ q q0 qb. record {
     by = λ n le.
         let ne = ne_eqb b.0 q (λ z. qb (sym z)) in
-        ap (λ t. local (naming_of q) (app.own q) n (if t then Answers c ∷ received q w.journal else received q w.journal)) ne
+        ap (λ t. alone app q n (if t then Answers c ∷ received q w.journal else received q w.journal)) ne
         ∙ ((gives q q0).by n le ∙ ap (λ bs. record { sent = if nat_eq s q then Answers c ∷ sent_by q w.journal else sent_by q w.journal; steps = w.steps q; standing = Waits (w.own q) bs }) (ap (bodies_of q) is ∙ ap (λ t. (if t then b.1 ∷ bodies_of q stack else bodies_of q stack)) ne));
   };
 }
@@ -212,11 +216,11 @@ rests_ended : (app : Application) (budget : ℕ) (w : World) (p : ℕ) (point : 
 rests_ended app budget w p point k n1 run_at e q q0 =
     ⊎_elim
     (λ pq.
-    let P : ℕ → Type 0 = λ q'. (n : ℕ) → put p n1 w.steps q' ≤ n → local (naming_of q') (app.own q') n (received q' w.journal) ≡ record { sent = sent_by q' w.journal; steps = put p n1 w.steps q'; standing = Has_ended k } in
+    let P : ℕ → Type 0 = λ q'. (n : ℕ) → put p n1 w.steps q' ≤ n → alone app q' n (received q' w.journal) ≡ record { sent = sent_by q' w.journal; steps = put p n1 w.steps q'; standing = Has_ended k } in
     let mine : put p n1 w.steps p ≡ n1 = ap (λ b. (if b then n1 else w.steps p)) (self_eq p) in
     let all : P q = subst P pq (λ n le. settled app budget w p point (Stopped k n1) run_at.takes e tt n (subst (λ (m : ℕ). m ≤ n) mine le) ∙ ap (λ m. record { sent = sent_by p w.journal; steps = m; standing = Has_ended k }) (sym mine)) in
     record {
-      waited = (let Q : ℕ → Type 0 = λ q'. (x : CrossBody Ref MadeSymbol) (older : List (CrossBody Ref MadeSymbol)) → received q' w.journal ≡ x ∷ older → IsWaiting (local (naming_of q') (app.own q') (put p n1 w.steps q') older).standing in
+      waited = (let Q : ℕ → Type 0 = λ q'. (x : CrossBody Ref MadeSymbol) (older : List (CrossBody Ref MadeSymbol)) → received q' w.journal ≡ x ∷ older → IsWaiting (alone app q' (put p n1 w.steps q') older).standing in
           subst Q pq (λ x older is. waited_run app w p point run_at.takes (put p n1 w.steps p) (subst (λ (m : ℕ). w.steps p ≤ m) (sym mine) (subst (λ (t : Stop Ref MadeSymbol). w.steps p ≤ steps_of t) e (run_above (naming_of p) (budget - w.spent) (w.steps p) point))) x older is));
       stands = (Has_ended k, (λ z. refl, λ z. absurd (z pq)), all _ (omega arith));
       larger = λ wait n le. elim wait [ ];
@@ -224,7 +228,7 @@ rests_ended app budget w p point k n1 run_at e q q0 =
     (λ ne.
     let other : put p n1 w.steps q ≡ w.steps q = ap (λ b. (if b then n1 else w.steps q)) (ne_eqb p q ne) in
     let rests = run_at.others q q0 (λ z. ne (sym z)) in
-    let all : (n : ℕ) → put p n1 w.steps q ≤ n → local (naming_of q) (app.own q) n (received q w.journal) ≡ record { sent = sent_by q w.journal; steps = put p n1 w.steps q; standing = Waits (w.own q) (bodies_of q w.stack) } = λ n le. rests.by n (subst (λ (m : ℕ). m ≤ n) other le) ∙ ap (λ m. record { sent = sent_by q w.journal; steps = m; standing = Waits (w.own q) (bodies_of q w.stack) }) (sym other) in
+    let all : (n : ℕ) → put p n1 w.steps q ≤ n → alone app q n (received q w.journal) ≡ record { sent = sent_by q w.journal; steps = put p n1 w.steps q; standing = Waits (w.own q) (bodies_of q w.stack) } = λ n le. rests.by n (subst (λ (m : ℕ). m ≤ n) other le) ∙ ap (λ m. record { sent = sent_by q w.journal; steps = m; standing = Waits (w.own q) (bodies_of q w.stack) }) (sym other) in
     record { waited = waited_rest app q (put p n1 w.steps q) _ (subst (λ (r : Local Ref MadeSymbol). IsWaiting r.standing) (sym (all _ (omega arith))) tt); stands = (Waits (w.own q) (bodies_of q w.stack), (λ z. absurd (ne z), λ z. tt), all _ (omega arith)); larger = λ wait n le. all n le })
     (cases_eq p q)
 
@@ -232,13 +236,13 @@ rests_short : (app : Application) (budget : ℕ) (w : World) (p : ℕ) (point : 
 rests_short app budget w p point n1 run_at e q q0 =
     ⊎_elim
     (λ pq.
-    let P : ℕ → Type 0 = λ q'. local (naming_of q') (app.own q') (put p n1 w.steps q') (received q' w.journal) ≡ record { sent = sent_by q' w.journal; steps = put p n1 w.steps q'; standing = Is_short } in
+    let P : ℕ → Type 0 = λ q'. alone app q' (put p n1 w.steps q') (received q' w.journal) ≡ record { sent = sent_by q' w.journal; steps = put p n1 w.steps q'; standing = Is_short } in
     let mine : put p n1 w.steps p ≡ n1 = ap (λ b. (if b then n1 else w.steps p)) (self_eq p) in
     let above = subst (λ (t : Stop Ref MadeSymbol). w.steps p ≤ steps_of t) e (run_above (naming_of p) (budget - w.spent) (w.steps p) point) in
-    let here : local (naming_of p) (app.own p) n1 (received p w.journal) ≡ record { sent = sent_by p w.journal; steps = n1; standing = Is_short } = ran app w p point run_at.takes n1 above ∙ ap (after (sent_by p w.journal) (bodies_of p w.stack)) (run_cut (naming_of p) (budget - w.spent) (w.steps p) n1 point e) in
-    let all : P q = subst P pq (subst (λ m. local (naming_of p) (app.own p) m (received p w.journal) ≡ record { sent = sent_by p w.journal; steps = m; standing = Is_short }) (sym mine) here) in
+    let here : alone app p n1 (received p w.journal) ≡ record { sent = sent_by p w.journal; steps = n1; standing = Is_short } = ran app w p point run_at.takes n1 above ∙ ap (after (sent_by p w.journal) (bodies_of p w.stack)) (run_cut (naming_of p) (budget - w.spent) (w.steps p) n1 point e) in
+    let all : P q = subst P pq (subst (λ m. alone app p m (received p w.journal) ≡ record { sent = sent_by p w.journal; steps = m; standing = Is_short }) (sym mine) here) in
     record {
-      waited = (let Q : ℕ → Type 0 = λ q'. (x : CrossBody Ref MadeSymbol) (older : List (CrossBody Ref MadeSymbol)) → received q' w.journal ≡ x ∷ older → IsWaiting (local (naming_of q') (app.own q') (put p n1 w.steps q') older).standing in
+      waited = (let Q : ℕ → Type 0 = λ q'. (x : CrossBody Ref MadeSymbol) (older : List (CrossBody Ref MadeSymbol)) → received q' w.journal ≡ x ∷ older → IsWaiting (alone app q' (put p n1 w.steps q') older).standing in
           subst Q pq (λ x older is. waited_run app w p point run_at.takes (put p n1 w.steps p) (subst (λ (m : ℕ). w.steps p ≤ m) (sym mine) above) x older is));
       stands = (Is_short, (λ z. refl, λ z. absurd (z pq)), all);
       larger = λ wait n le. elim wait [ ];
@@ -246,7 +250,7 @@ rests_short app budget w p point n1 run_at e q q0 =
     (λ ne.
     let other : put p n1 w.steps q ≡ w.steps q = ap (λ b. (if b then n1 else w.steps q)) (ne_eqb p q ne) in
     let rests = run_at.others q q0 (λ z. ne (sym z)) in
-    let all : (n : ℕ) → put p n1 w.steps q ≤ n → local (naming_of q) (app.own q) n (received q w.journal) ≡ record { sent = sent_by q w.journal; steps = put p n1 w.steps q; standing = Waits (w.own q) (bodies_of q w.stack) } = λ n le. rests.by n (subst (λ (m : ℕ). m ≤ n) other le) ∙ ap (λ m. record { sent = sent_by q w.journal; steps = m; standing = Waits (w.own q) (bodies_of q w.stack) }) (sym other) in
+    let all : (n : ℕ) → put p n1 w.steps q ≤ n → alone app q n (received q w.journal) ≡ record { sent = sent_by q w.journal; steps = put p n1 w.steps q; standing = Waits (w.own q) (bodies_of q w.stack) } = λ n le. rests.by n (subst (λ (m : ℕ). m ≤ n) other le) ∙ ap (λ m. record { sent = sent_by q w.journal; steps = m; standing = Waits (w.own q) (bodies_of q w.stack) }) (sym other) in
     record { waited = waited_rest app q (put p n1 w.steps q) _ (subst (λ (r : Local Ref MadeSymbol). IsWaiting r.standing) (sym (all _ (omega arith))) tt); stands = (Waits (w.own q) (bodies_of q w.stack), (λ z. absurd (ne z), λ z. tt), all _ (omega arith)); larger = λ wait n le. all n le })
     (cases_eq p q)
 
@@ -292,7 +296,7 @@ begins_so app budget = record {
     asks = refl;
     takes = record { last = Asks None host_import; older = []; bodies = []; is = refl; before = λ n le. refl; serves = refl };
     others = λ q q0 q1. record {
-      by = λ n le. ap (λ b. local (naming_of q) (app.own q) n (if b then Asks None host_import ∷ [] else [])) (ne_eqb 1 q (λ z. q1 (sym z))) ∙ ap (λ b. record { sent = if b then Asks None host_import ∷ [] else []; steps = 0; standing = Waits (app.own q) [] }) (sym (ne_eqb 0 q (λ z. q0 (sym z))));
+      by = λ n le. ap (λ b. alone app q n (if b then Asks None host_import ∷ [] else [])) (ne_eqb 1 q (λ z. q1 (sym z))) ∙ ap (λ b. record { sent = if b then Asks None host_import ∷ [] else []; steps = 0; standing = Waits (app.own q) [] }) (sym (ne_eqb 0 q (λ z. q0 (sym z))));
     };
   };
 }
@@ -305,7 +309,7 @@ holds app budget (suc m) = let h = holds app budget m in let w = heap app budget
 abbrev told : World → Net
 told w = record { journal = w.journal; steps = w.steps; spent = w.spent; ending = ending_of w.control }
 
-turn_of_party : (app : Application) (budget : ℕ) (n : Net) (p : ℕ) → p ≢ 0 → turn_of app budget n p ≡ tells app n p (local (naming_of p) (app.own p) (budget - (n.spent - n.steps p)) (received p n.journal))
+turn_of_party : (app : Application) (budget : ℕ) (n : Net) (p : ℕ) → p ≢ 0 → turn_of app budget n p ≡ tells app n p (alone app p (budget - (n.spent - n.steps p)) (received p n.journal))
 turn_of_party app budget n zero p0 = absurd (p0 refl)
 turn_of_party app budget n (suc p) p0 = refl
 

@@ -1,122 +1,131 @@
 -- What follows from the answer of the call.
 use Rattle.std.proofs.Common.{◌≡◌, ℕ, ◌⊎◌, inl, inr, List, Option, Some, None, sym, ◌∙◌, subst, refl}
-use Rattle.lava_streams.specs.Counts.{Rises}
-use Rattle.lava_streams.specs.Folders.{file_read}
+use Rattle.lava_streams.specs.Files.{Files}
+use Rattle.lava_streams.specs.Outside.{Outside, HasFault}
 use Rattle.lava_streams.specs.declared.folder.FileRead.{FileRead}
 use Rattle.lava_streams.specs.declared.folder.FileRead.TheVariants.{Bytes, Absent}
+use Rattle.lava_cli.specs.declared.outcome.TheConstants.{DONE_STATUS, OUTSIDE_STATUS}
 use Rattle.lava_cli.specs.declared.program.Statement.{Statement}
 use Rattle.lava_cli.specs.declared.outcome.Outcome.{Outcome}
 use Rattle.lava_cli.specs.declared.outcome.Outcome.TheVariants as outcome
-use Rattle.lava_cli.specs.Answers.{Files, IsFileOf, path_of, file_limit, IsFirstForm, IsUnsupported, Stand, ComesIn, status_of, Writes, Reports, Answers, SomeFailed, StoppedEarly, IsDone, MissingComes, UnsupportedComes, RunComes}
+use Rattle.lava_cli.specs.Answers.{directory_of, file_of, IsFileOf, IsFirstForm, IsUnsupported, ComesIn, Comes, status_of, Writes, Reports, Answers, IsDone, SomeFailed, StopsEarly, Tells, MissingComes, UnsupportedComes, RunComes}
 
 -- a folder that tells its files told what was read
-told_is : (told : Option Files) (d : List ℕ) (r : FileRead) (files : Files) → told ≡ Some files → IsFileOf told d r → r ≡ file_read files (path_of d) file_limit
+told_is : (told : Option Files) (d : List ℕ) (r : FileRead) (files : Files) → told ≡ Some files → IsFileOf told d r → r ≡ file_of files d
 told_is told d r files e h = subst (λ t. IsFileOf t d r) e h
 
 absent_is_bytes : (bytes : List ℕ) → Bytes bytes ≡ Absent → ⊥
 absent_is_bytes bytes e = cc
 
--- USAGE
+module _ (words : List (List ℕ)) (before after : Outside) (status : ℕ) where
+  abbrev Reported : Outcome → Type 0
+  Reported o = Reports o before.errors after.errors status
 
-pub usage_of : (told : Option Files) (f g : ℕ) (out new err nerr : Stand) (status : ℕ) → Answers None told f g out new err nerr status → Writes outcome.Usage err nerr status
-usage_of told f g out new err nerr status a = subst (λ o. Reports o err nerr status) a.1.0 a.2
+  -- USAGE
 
--- DONE
+  pub usage_of : Answers words before after status → directory_of words ≡ None → Writes outcome.Usage before.errors after.errors status
+  usage_of a e =
+      let c : Comes None before after a.0 = subst (λ x. Comes x before after a.0) e a.1 in
+      subst Reported c.0 a.2
 
-done_in : (told : Option Files) (d : List ℕ) (f g : ℕ) (out new err nerr : Stand) (status : ℕ) (o : Outcome) → ComesIn told d f g out new o → Reports o err nerr status → status ≡ 0 → IsDone (Some d) told out new err nerr
-done_in told d f g out new err nerr status outcome.Finished c r e = (d, c.1.0, refl, c.1.1, c.1.2, r.1)
-done_in told d f g out new err nerr status outcome.Usage c r e = elim c [ ]
-done_in told d f g out new err nerr status outcome.Missing c (inl w) e = absurd cc
-done_in told d f g out new err nerr status outcome.Missing c (inr w) e = absurd cc
-done_in told d f g out new err nerr status outcome.Unsupported c (inl w) e = absurd cc
-done_in told d f g out new err nerr status outcome.Unsupported c (inr w) e = absurd cc
-done_in told d f g out new err nerr status outcome.FolderFailed c (inl w) e = absurd cc
-done_in told d f g out new err nerr status outcome.FolderFailed c (inr w) e = absurd cc
-done_in told d f g out new err nerr status outcome.OutputFailed c (inl w) e = absurd cc
-done_in told d f g out new err nerr status outcome.OutputFailed c (inr w) e = absurd cc
-done_in told d f g out new err nerr status outcome.OutOfMemory c (inl w) e = absurd cc
-done_in told d f g out new err nerr status outcome.OutOfMemory c (inr w) e = absurd cc
+  -- DONE
 
-not_done : (err nerr : Stand) (status : ℕ) → Writes outcome.Usage err nerr status → status ≡ 0 → ⊥
-not_done err nerr status (inl w) e = cc
-not_done err nerr status (inr w) e = cc
+  not_done : (o : Outcome) → (status_of o ≡ DONE_STATUS → ⊥) → Writes o before.errors after.errors status → status ≡ DONE_STATUS → ⊥
+  not_done o other (inl w) e = other (sym w.0 ∙ e)
+  not_done o other (inr w) e = absurd (let z : OUTSIDE_STATUS ≡ DONE_STATUS = sym w.0 ∙ e in cc)
 
-pub done_of : (directory : Option (List ℕ)) (told : Option Files) (f g : ℕ) (out new err nerr : Stand) (status : ℕ) → Answers directory told f g out new err nerr status → status ≡ 0 → IsDone directory told out new err nerr
-done_of None told f g out new err nerr status a e = absurd (not_done err nerr status (usage_of told f g out new err nerr status a) e)
-done_of (Some d) told f g out new err nerr status a e = done_in told d f g out new err nerr status a.0 a.1 a.2 e
+  done_in : (d : List ℕ) (o : Outcome) → directory_of words ≡ Some d → ComesIn d before after o → Reported o → status ≡ DONE_STATUS → IsDone words before after
+  done_in d outcome.Finished at c r e = (d, c.1.0, at, c.1.1, c.1.2, r.1)
+  done_in d outcome.Usage at c r e = elim c [ ]
+  done_in d outcome.Missing at c r e = absurd (not_done outcome.Missing (λ z. cc) r e)
+  done_in d outcome.Unsupported at c r e = absurd (not_done outcome.Unsupported (λ z. cc) r e)
+  done_in d outcome.FolderFailed at c r e = absurd (not_done outcome.FolderFailed (λ z. cc) r e)
+  done_in d outcome.OutputFailed at c r e = absurd (not_done outcome.OutputFailed (λ z. cc) r e)
+  done_in d outcome.OutOfMemory at c r e = absurd (not_done outcome.OutOfMemory (λ z. cc) r e)
 
--- WHERE A CALL FAILED
+  done_by : (o : Outcome) (directory : Option (List ℕ)) → directory_of words ≡ directory → Comes directory before after o → Reported o → status ≡ DONE_STATUS → IsDone words before after
+  done_by o None at c r e = absurd (not_done outcome.Usage (λ z. cc) (subst Reported c.0 r) e)
+  done_by o (Some d) at c r e = done_in d o at c r e
 
-failed_by : (o : Outcome) (f g : ℕ) (out new err nerr : Stand) (status : ℕ) → (status_of o ≡ 7 → SomeFailed f g out new err nerr) → Writes o err nerr status → status ≡ 7 → SomeFailed f g out new err nerr
-failed_by o f g out new err nerr status there (inl w) e = there (sym w.0 ∙ e)
-failed_by o f g out new err nerr status there (inr w) e = inr (inr w.1.0)
+  pub done_of : Answers words before after status → status ≡ DONE_STATUS → IsDone words before after
+  done_of a e = done_by a.0 (directory_of words) refl a.1 a.2 e
 
-failed_in : (told : Option Files) (d : List ℕ) (f g : ℕ) (out new err nerr : Stand) (status : ℕ) (o : Outcome) → ComesIn told d f g out new o → Reports o err nerr status → status ≡ 7 → SomeFailed f g out new err nerr
-failed_in told d f g out new err nerr status outcome.Finished c r e = absurd (let z : 0 ≡ 7 = sym r.0 ∙ e in cc)
-failed_in told d f g out new err nerr status outcome.Usage c r e = elim c [ ]
-failed_in told d f g out new err nerr status outcome.Missing c r e = failed_by outcome.Missing f g out new err nerr status (λ z. absurd cc) r e
-failed_in told d f g out new err nerr status outcome.Unsupported c r e = failed_by outcome.Unsupported f g out new err nerr status (λ z. absurd cc) r e
-failed_in told d f g out new err nerr status outcome.FolderFailed c r e = inl c.0
-failed_in told d f g out new err nerr status outcome.OutputFailed c r e = inr (inl c.1.2.0)
-failed_in told d f g out new err nerr status outcome.OutOfMemory c r e = failed_by outcome.OutOfMemory f g out new err nerr status (λ z. absurd cc) r e
+  -- WHERE A CALL FAILED
 
-pub failed_of : (directory : Option (List ℕ)) (told : Option Files) (f g : ℕ) (out new err nerr : Stand) (status : ℕ) → Answers directory told f g out new err nerr status → status ≡ 7 → SomeFailed f g out new err nerr
-failed_of None told f g out new err nerr status a e = failed_by outcome.Usage f g out new err nerr status (λ z. absurd cc) (usage_of told f g out new err nerr status a) e
-failed_of (Some d) told f g out new err nerr status a e = failed_in told d f g out new err nerr status a.0 a.1 a.2 e
+  failed_by : (o : Outcome) → (status_of o ≡ OUTSIDE_STATUS → SomeFailed before after) → Writes o before.errors after.errors status → status ≡ OUTSIDE_STATUS → SomeFailed before after
+  failed_by o there (inl w) e = there (sym w.0 ∙ e)
+  failed_by o there (inr w) e = inr (inr w.1.0)
 
--- WHERE THE FOLDER TELLS
+  failed_in : (d : List ℕ) (o : Outcome) → ComesIn d before after o → Reported o → status ≡ OUTSIDE_STATUS → SomeFailed before after
+  failed_in d outcome.Finished c r e = absurd (let z : DONE_STATUS ≡ OUTSIDE_STATUS = sym r.0 ∙ e in cc)
+  failed_in d outcome.Usage c r e = elim c [ ]
+  failed_in d outcome.Missing c r e = failed_by outcome.Missing (λ z. absurd cc) r e
+  failed_in d outcome.Unsupported c r e = failed_by outcome.Unsupported (λ z. absurd cc) r e
+  failed_in d outcome.FolderFailed c r e = inl c.0
+  failed_in d outcome.OutputFailed c r e = inr (inl c.1.2.0)
+  failed_in d outcome.OutOfMemory c r e = failed_by outcome.OutOfMemory (λ z. absurd cc) r e
 
-module _ (told : Option Files) (d : List ℕ) (files : Files) (tells : told ≡ Some files) (f g : ℕ) (out new err nerr : Stand) (status : ℕ) where
-  abbrev here : FileRead
-  here = file_read files (path_of d) file_limit
+  failed_at : (o : Outcome) (directory : Option (List ℕ)) → Comes directory before after o → Reported o → status ≡ OUTSIDE_STATUS → SomeFailed before after
+  failed_at o None c r e = failed_by outcome.Usage (λ z. absurd cc) (subst Reported c.0 r) e
+  failed_at o (Some d) c r e = failed_in d o c r e
 
-  missing_in : here ≡ Absent → (o : Outcome) → ComesIn told d f g out new o → Reports o err nerr status → Writes outcome.Missing err nerr status ⊎ StoppedEarly f g err nerr status
-  missing_in e outcome.Finished c r = absurd (absent_is_bytes c.1.1.0 (told_is told d (Bytes c.1.1.0) files tells c.1.1.2 ∙ e))
-  missing_in e outcome.Usage c r = elim c [ ]
-  missing_in e outcome.Missing c r = inl r
-  missing_in e outcome.Unsupported c r = elim (subst IsUnsupported (told_is told d c.1.0 files tells c.1.1 ∙ e) c.1.2) [ ]
-  missing_in e outcome.FolderFailed c r = inr (inl (c.0, r))
-  missing_in e outcome.OutputFailed c r = absurd (absent_is_bytes c.1.1.0 (told_is told d (Bytes c.1.1.0) files tells c.1.1.2 ∙ e))
-  missing_in e outcome.OutOfMemory c r = inr (inr r)
+  pub failed_of : Answers words before after status → status ≡ OUTSIDE_STATUS → SomeFailed before after
+  failed_of a e = failed_at a.0 (directory_of words) a.1 a.2 e
 
-  unsupported_in : IsUnsupported here → (o : Outcome) → ComesIn told d f g out new o → Reports o err nerr status → Writes outcome.Unsupported err nerr status ⊎ StoppedEarly f g err nerr status
-  unsupported_in u outcome.Finished c r = absurd (subst IsUnsupported (sym (told_is told d (Bytes c.1.1.0) files tells c.1.1.2)) u c.1.1.1 c.1.1.3)
-  unsupported_in u outcome.Usage c r = elim c [ ]
-  unsupported_in u outcome.Missing c r = elim (subst IsUnsupported (sym (told_is told d Absent files tells c.1)) u) [ ]
-  unsupported_in u outcome.Unsupported c r = inl r
-  unsupported_in u outcome.FolderFailed c r = inr (inl (c.0, r))
-  unsupported_in u outcome.OutputFailed c r = absurd (subst IsUnsupported (sym (told_is told d (Bytes c.1.1.0) files tells c.1.1.2)) u c.1.1.1 c.1.1.3)
-  unsupported_in u outcome.OutOfMemory c r = inr (inr r)
+  -- WHERE THE FOLDER TELLS
 
-  run_in : (bytes : List ℕ) (program : List Statement) → here ≡ Bytes bytes → IsFirstForm bytes program → (o : Outcome) → ComesIn told d f g out new o → Reports o err nerr status → (status ≡ 0) ⊎ (Rises out.count new.count × Writes outcome.OutputFailed err nerr status) ⊎ StoppedEarly f g err nerr status
-  run_in bytes program e is outcome.Finished c r = inl r.0
-  run_in bytes program e is outcome.Usage c r = elim c [ ]
-  run_in bytes program e is outcome.Missing c r = absurd (absent_is_bytes bytes (sym e ∙ sym (told_is told d Absent files tells c.1)))
-  run_in bytes program e is outcome.Unsupported c r = absurd (subst IsUnsupported (told_is told d c.1.0 files tells c.1.1 ∙ e) c.1.2 program is)
-  run_in bytes program e is outcome.FolderFailed c r = inr (inr (inl (c.0, r)))
-  run_in bytes program e is outcome.OutputFailed c r = inr (inl (c.1.2.0, r))
-  run_in bytes program e is outcome.OutOfMemory c r = inr (inr (inr r))
+  -- what was read is what the folder tells
+  read_is : (d : List ℕ) (files : Files) (r s : FileRead) → before.folder.told ≡ Some files → file_of files d ≡ s → IsFileOf before.folder.told d r → r ≡ s
+  read_is d files r s t e h = told_is before.folder.told d r files t h ∙ e
 
-no_directory : {d : List ℕ} → None ≡ Some d → ⊥
-no_directory e = cc
+  -- the cause of the outcome, where the folder of the words is this
+  cause_at : (d : List ℕ) (o : Outcome) → directory_of words ≡ Some d → Comes (directory_of words) before after o → ComesIn d before after o
+  cause_at d o at c = subst (λ x. Comes x before after o) at c
 
-same_directory : {d e : List ℕ} → Some d ≡ Some e → d ≡ e
-same_directory h = cc
+  -- how the run of a program of the first form ends
+  abbrev RunEnds : Type 0
+  RunEnds =
+      (status ≡ DONE_STATUS)
+      ⊎ (HasFault before.output after.output × Writes outcome.OutputFailed before.errors after.errors status)
+      ⊎ StopsEarly before after status
 
-pub missing_of : (directory : Option (List ℕ)) (told : Option Files) (f g : ℕ) (out new err nerr : Stand) (status : ℕ) → Answers directory told f g out new err nerr status → MissingComes directory told f g err nerr status
-missing_of None told f g out new err nerr status a = λ d files e t h. absurd (no_directory e)
-missing_of (Some x) told f g out new err nerr status a = λ d files e t h.
-    let same : x ≡ d = same_directory e in
-    missing_in told d files t f g out new err nerr status h a.0 (subst (λ y. ComesIn told y f g out new a.0) same a.1) a.2
+  module _ (d : List ℕ) (files : Files) (tells : before.folder.told ≡ Some files) where
+    missing_in : file_of files d ≡ Absent → (o : Outcome) → ComesIn d before after o → Reported o → Writes outcome.Missing before.errors after.errors status ⊎ StopsEarly before after status
+    missing_in e outcome.Finished c r = absurd (absent_is_bytes c.1.1.0 (read_is d files (Bytes c.1.1.0) Absent tells e c.1.1.2))
+    missing_in e outcome.Usage c r = elim c [ ]
+    missing_in e outcome.Missing c r = inl r
+    missing_in e outcome.Unsupported c r = elim (subst IsUnsupported (read_is d files c.1.0 Absent tells e c.1.1) c.1.2) [ ]
+    missing_in e outcome.FolderFailed c r = inr (inl (c.0, r))
+    missing_in e outcome.OutputFailed c r = absurd (absent_is_bytes c.1.1.0 (read_is d files (Bytes c.1.1.0) Absent tells e c.1.1.2))
+    missing_in e outcome.OutOfMemory c r = inr (inr r)
 
-pub unsupported_of : (directory : Option (List ℕ)) (told : Option Files) (f g : ℕ) (out new err nerr : Stand) (status : ℕ) → Answers directory told f g out new err nerr status → UnsupportedComes directory told f g err nerr status
-unsupported_of None told f g out new err nerr status a = λ d files e t h. absurd (no_directory e)
-unsupported_of (Some x) told f g out new err nerr status a = λ d files e t h.
-    let same : x ≡ d = same_directory e in
-    unsupported_in told d files t f g out new err nerr status h a.0 (subst (λ y. ComesIn told y f g out new a.0) same a.1) a.2
+    -- a program of the first form is not unsupported
+    not_both : (bytes : List ℕ) (program : List Statement) (s : FileRead) → file_of files d ≡ s → IsUnsupported s → IsFileOf before.folder.told d (Bytes bytes) → IsFirstForm bytes program → ⊥
+    not_both bytes program s e u h is = subst IsUnsupported (sym (read_is d files (Bytes bytes) s tells e h)) u program is
 
-pub run_of : (directory : Option (List ℕ)) (told : Option Files) (f g : ℕ) (out new err nerr : Stand) (status : ℕ) → Answers directory told f g out new err nerr status → RunComes directory told f g out new err nerr status
-run_of None told f g out new err nerr status a = λ d files bytes program e t h is. absurd (no_directory e)
-run_of (Some x) told f g out new err nerr status a = λ d files bytes program e t h is.
-    let same : x ≡ d = same_directory e in
-    run_in told d files t f g out new err nerr status bytes program h is a.0 (subst (λ y. ComesIn told y f g out new a.0) same a.1) a.2
+    unsupported_in : (s : FileRead) → file_of files d ≡ s → IsUnsupported s → (o : Outcome) → ComesIn d before after o → Reported o → Writes outcome.Unsupported before.errors after.errors status ⊎ StopsEarly before after status
+    unsupported_in s e u outcome.Finished c r = absurd (not_both c.1.1.0 c.1.1.1 s e u c.1.1.2 c.1.1.3)
+    unsupported_in s e u outcome.Usage c r = elim c [ ]
+    unsupported_in s e u outcome.Missing c r = elim (subst IsUnsupported (sym (read_is d files Absent s tells e c.1)) u) [ ]
+    unsupported_in s e u outcome.Unsupported c r = inl r
+    unsupported_in s e u outcome.FolderFailed c r = inr (inl (c.0, r))
+    unsupported_in s e u outcome.OutputFailed c r = absurd (not_both c.1.1.0 c.1.1.1 s e u c.1.1.2 c.1.1.3)
+    unsupported_in s e u outcome.OutOfMemory c r = inr (inr r)
+
+    run_in : (bytes : List ℕ) (program : List Statement) → file_of files d ≡ Bytes bytes → IsFirstForm bytes program → (o : Outcome) → ComesIn d before after o → Reported o → RunEnds
+    run_in bytes program e is outcome.Finished c r = inl r.0
+    run_in bytes program e is outcome.Usage c r = elim c [ ]
+    run_in bytes program e is outcome.Missing c r = absurd (absent_is_bytes bytes (sym (read_is d files Absent (Bytes bytes) tells e c.1)))
+    run_in bytes program e is outcome.Unsupported c r = absurd (subst IsUnsupported (read_is d files c.1.0 (Bytes bytes) tells e c.1.1) c.1.2 program is)
+    run_in bytes program e is outcome.FolderFailed c r = inr (inr (inl (c.0, r)))
+    run_in bytes program e is outcome.OutputFailed c r = inr (inl (c.1.2.0, r))
+    run_in bytes program e is outcome.OutOfMemory c r = inr (inr (inr r))
+
+  pub missing_of : Answers words before after status → MissingComes words before after status
+  missing_of a t = missing_in t.0 t.1 t.3 t.4 a.0 (cause_at t.0 a.0 t.2 a.1) a.2
+
+  pub unsupported_of : Answers words before after status → UnsupportedComes words before after status
+  unsupported_of a s t u = unsupported_in t.0 t.1 t.3 s t.4 u a.0 (cause_at t.0 a.0 t.2 a.1) a.2
+
+  pub run_of : Answers words before after status → RunComes words before after status
+  run_of a bytes program t is = run_in t.0 t.1 t.3 bytes program t.4 is a.0 (cause_at t.0 a.0 t.2 a.1) a.2

@@ -14,6 +14,7 @@ pub mod Known
 pub mod Lawful
 pub mod Lines_text
 pub mod Named
+pub mod OneProgram
 pub mod Options
 pub mod ParseComplete
 pub mod ParseSound

@@ -9,9 +9,10 @@ use Rattle.std.proofs.lemmas.List.Sums.{position_or_len_is}
 use Rattle.std.proofs.Math.Seq.{drop-append-add, take-append-add, take-length}
 use Rattle.std.proofs.Math.ListN.{drop_of_length-le}
 use Rattle.lava_streams.proofs.LineLemmas.{line_of_long, line_of_short, All-line}
-use Rattle.lava_streams.specs.Lines.{line_of, line_limit}
+use Rattle.lava_streams.specs.Lines.{line_of}
+use Rattle.lava_streams.specs.declared.source.TheConstants.{LINE_LIMIT}
 use Rattle.lava_streams.specs.declared.source.Line.TheVariants.{Bytes, TooLong}
-use Rattle.lava_cli.specs.Outside.{IsBegun}
+use Rattle.lava_cli.specs.Adapters.{IsBegun}
 
 -- none of the bytes is LF
 all_before : (begun : List ℕ) → All (λ b. b ≢ 10) begun → position_or_len (λ b. b == 10) begun ≡ length begun
@@ -29,17 +30,17 @@ some_of : (begun next : List ℕ) → (length next == 0) ≡ false → (length (
 some_of begun next some = ne_eqb (length (begun ++ next)) 0 (λ none. absurd (omega (arith, positive (length next) some, length-append begun next)))
 
 -- the line is too long
-pub long_line : (begun next : List ℕ) (end : ℕ) → IsBegun begun → (length next == 0) ≡ false → end ≡ position_or_len (λ b. b == 10) next → line_limit - length begun < end
-    → (TooLong, drop (line_limit - length begun) next) ≡ line_of (begun ++ next)
+pub long_line : (begun next : List ℕ) (end : ℕ) → IsBegun begun → (length next == 0) ≡ false → end ≡ position_or_len (λ b. b == 10) next → LINE_LIMIT - length begun < end
+    → (TooLong, drop (LINE_LIMIT - length begun) next) ≡ line_of (begun ++ next)
 long_line begun next end b some is long =
-    let at : line_limit ≡ length begun + (line_limit - length begun) = omega (arith, b.0) in
-    let left : drop line_limit (begun ++ next) ≡ drop (line_limit - length begun) next =
-    ap (λ n. drop n (begun ++ next)) at ∙ drop-append-add begun next (line_limit - length begun) in
+    let at : LINE_LIMIT ≡ length begun + (LINE_LIMIT - length begun) = omega (arith, b.0) in
+    let left : drop LINE_LIMIT (begun ++ next) ≡ drop (LINE_LIMIT - length begun) next =
+    ap (λ n. drop n (begun ++ next)) at ∙ drop-append-add begun next (LINE_LIMIT - length begun) in
     let first : length begun + end ≡ position_or_len (λ b. b == 10) (begun ++ next) = ap (λ n. length begun + n) is ∙ first_lf begun next b.1 in
     sym (line_of_long (begun ++ next) (length begun + end) (some_of begun next some) first (omega (arith, b.0)) ∙ ap (λ rest. (TooLong, rest)) left)
 
 -- the line ends in the next bytes
-pub short_line : (begun next : List ℕ) (end : ℕ) → IsBegun begun → (length next == 0) ≡ false → end ≡ position_or_len (λ b. b == 10) next → end ≤ line_limit - length begun
+pub short_line : (begun next : List ℕ) (end : ℕ) → IsBegun begun → (length next == 0) ≡ false → end ≡ position_or_len (λ b. b == 10) next → end ≤ LINE_LIMIT - length begun
     → (Bytes (begun ++ take end next), drop (end + 1) next) ≡ line_of (begun ++ next)
 short_line begun next end b some is short =
     let first : length begun + end ≡ position_or_len (λ b. b == 10) (begun ++ next) = ap (λ n. length begun + n) is ∙ first_lf begun next b.1 in
@@ -55,7 +56,7 @@ last_line begun b some =
     sym (line_of_short begun (length begun) some (sym (all_before begun b.1)) b.0 ∙ ap (λ l. (Bytes l, drop (length begun + 1) begun)) (take-length begun) ∙ ap (λ rest. (Bytes begun, rest)) (drop_of_length-le begun (omega arith)))
 
 -- what a line has begun with, and more bytes before the first LF
-pub begun_more : (begun next : List ℕ) (end : ℕ) → IsBegun begun → end ≡ position_or_len (λ b. b == 10) next → end ≤ line_limit - length begun
+pub begun_more : (begun next : List ℕ) (end : ℕ) → IsBegun begun → end ≡ position_or_len (λ b. b == 10) next → end ≤ LINE_LIMIT - length begun
     → IsBegun (begun ++ take end next)
 begun_more begun next end b is short =
     (omega (arith, length-append begun (take end next), length-take end next, b.0), All-append (λ b. b ≢ 10) begun (take end next) b.1 (All-line next end is))

@@ -2,16 +2,18 @@
 use Rattle.std.proofs.Common.{◌≡◌, ℕ, List, true, false, Option, Some, None, sym, ap, ◌∙◌, subst}
 use Rattle.std.specs.Option.{IfNone, IfSome, is_some}
 use Rattle.lava_streams.specs.Counts.{ForTold}
+use Rattle.lava_streams.specs.Files.{Files}
 use Rattle.lava_streams.specs.Folders.{file_read}
 use Rattle.lava_streams.specs.declared.folder.FileRead.{FileRead}
 use Rattle.lava_cli.specs.declared.program.Statement.{Statement}
 use Rattle.lava_cli.specs.Rules.{follows_rules}
 use Rattle.lava_cli.specs.Lines.{lines_of}
 use Rattle.lava_cli.specs.declared.program.Constant.{Constant}
+use Rattle.lava_cli.specs.declared.source.TheConstants.{FILE_LIMIT}
 use Rattle.lava_cli.specs.declared.source.Source.{Source}
 use Rattle.lava_cli.specs.declared.source.Source.TheVariants as source
 use Rattle.lava_cli.specs.Printed.{lines_text}
-use Rattle.lava_cli.specs.Answers.{Files, IsFileOf, path_of, file_limit, IsSource, Runs}
+use Rattle.lava_cli.specs.Answers.{IsFileOf, path_of, IsSource, Runs}
 use Rattle.lava_cli.proofs.Sound.{prints_lines}
 use Rattle.lava_cli.proofs.Ruled.{rules_are}
 
@@ -32,8 +34,8 @@ breaks_a_rule program other same none follows = true_is_false (sym follows ∙ (
 pub keeps_the_rules : {A : Type 0} (program : List Statement) (o : Option A) → is_some o ≡ true → is_some (lines_of program) ≡ is_some o → follows_rules program ≡ true
 keeps_the_rules program o e same = rules_are program ∙ (same ∙ e)
 
-pub file_is : (told : Option Files) (path directory : List ℕ) (r : FileRead) → path ≡ path_of directory → ForTold told (λ files. r ≡ file_read files path file_limit) → IsFileOf told directory r
-file_is told path directory r e h = subst (λ p. ForTold told (λ files. r ≡ file_read files p file_limit)) e h
+pub file_is : (told : Option Files) (path directory : List ℕ) (r : FileRead) → path ≡ path_of directory → ForTold told (λ files. r ≡ file_read files path FILE_LIMIT) → IsFileOf told directory r
+file_is told path directory r e h = subst (λ p. ForTold told (λ files. r ≡ file_read files p FILE_LIMIT)) e h
 
 -- a source with lines is a program whose network run prints them
 pub runs_lines : (told : Option Files) (directory : List ℕ) (s : Source) (lines : List (List Constant)) → s ≡ source.Lines lines → IsSource told directory s → Runs told directory (lines_text lines)

@@ -4,6 +4,7 @@ use Rattle.std.specs.List.{list_all}
 use Rattle.std.specs.Char.{is_ascii_alphabetic, is_ascii_digit, is_ascii_alphanumeric}
 use Rattle.std.proofs.lemmas.Option.{same_Some, none-some}
 use Rattle.std.proofs.lemmas.Bool.Decides.{nat_tests}
+use Rattle.lava_base.specs.declared.limits.TheConstants.{MAX_SAFE_INTEGER}
 use Rattle.lava_cli.specs.declared.token.Mark.{Mark}
 use Rattle.lava_cli.specs.declared.token.Mark.TheVariants as marks
 use Rattle.lava_cli.specs.declared.token.Token.{Token}
@@ -16,10 +17,10 @@ both : (a b : Bool) → (a && b) ≡ true → (a ≡ true) × (b ≡ true)
 both true b h = (refl, h)
 both false b h = absurd (cc)
 
-limit : (n : ℕ) → nat_le n 9007199254740991 ≡ true → n ≤ 9007199254740991
+limit : (n : ℕ) → nat_le n MAX_SAFE_INTEGER ≡ true → n ≤ MAX_SAFE_INTEGER
 limit n h = grind (arith, nat_tests)
 
-fits : (n : ℕ) → n ≤ 9007199254740991 → nat_le n 9007199254740991 ≡ true
+fits : (n : ℕ) → n ≤ MAX_SAFE_INTEGER → nat_le n MAX_SAFE_INTEGER ≡ true
 fits n h = grind (arith, nat_tests)
 
 -- what is read is spelled so
@@ -32,13 +33,13 @@ word_spells b bs t h e =
 
 -- what an integer is that was read
 abbrev IsRead : ℕ → List ℕ → ℕ → Type 0
-IsRead n ds v = (list_all is_ascii_digit ds ≡ true) × (v ≡ decimal_from n ds) × (v ≤ 9007199254740991)
+IsRead n ds v = (list_all is_ascii_digit ds ≡ true) × (v ≡ decimal_from n ds) × (v ≤ MAX_SAFE_INTEGER)
 
-integer_sound : (n : ℕ) (ds : List ℕ) (v : ℕ) → n ≤ 9007199254740991 → integer_from n ds ≡ Some v → IsRead n ds v
+integer_sound : (n : ℕ) (ds : List ℕ) (v : ℕ) → n ≤ MAX_SAFE_INTEGER → integer_from n ds ≡ Some v → IsRead n ds v
 integer_sound n [] v below e = subst (IsRead n []) (same_Some _ _ e) (refl, refl, below)
 integer_sound n (d ∷ ds) v below e =
     split (is_ascii_digit d) _ _ v e
-    (λ h e. split (nat_le (n * 10 + (d - 48)) 9007199254740991) _ _ v e
+    (λ h e. split (nat_le (n * 10 + (d - 48)) MAX_SAFE_INTEGER) _ _ v e
     (λ k e. more h (integer_sound (n * 10 + (d - 48)) ds v (limit (n * 10 + (d - 48)) k) e))
     (λ _ e. absurd (none-some v e)))
     (λ _ e. absurd (none-some v e))
@@ -61,7 +62,7 @@ integer_spells b bs t (Some v) k h e = subst (λ t. IsSpelling t (b ∷ bs)) (sa
     of_read : IsRead 0 (b ∷ bs) v → IsSpelling (tokens.Number (pos v)) (b ∷ bs)
     of_read (all, same, small) =
         let parts : (is_ascii_digit b ≡ true) × (list_all is_ascii_digit bs ≡ true) = both (is_ascii_digit b) (list_all is_ascii_digit bs) all in
-        ((parts.0, parts.1, zero_alone b bs h), ap pos same, subst (λ n. n ≤ 9007199254740991) same small)
+        ((parts.0, parts.1, zero_alone b bs h), ap pos same, subst (λ n. n ≤ MAX_SAFE_INTEGER) same small)
 
 number_spells : (b : ℕ) (bs : List ℕ) (t : Token) → number_token (b ∷ bs) ≡ Some t → IsSpelling t (b ∷ bs)
 number_spells b bs t e =
@@ -145,13 +146,13 @@ grows : (n : ℕ) (ds : List ℕ) → n ≤ decimal_from n ds
 grows n [] = omega arith
 grows n (d ∷ ds) = omega (arith, grows (n * 10 + (d - 48)) ds)
 
-integer_read : (n : ℕ) (ds : List ℕ) → list_all is_ascii_digit ds ≡ true → decimal_from n ds ≤ 9007199254740991 → integer_from n ds ≡ Some (decimal_from n ds)
+integer_read : (n : ℕ) (ds : List ℕ) → list_all is_ascii_digit ds ≡ true → decimal_from n ds ≤ MAX_SAFE_INTEGER → integer_from n ds ≡ Some (decimal_from n ds)
 integer_read n [] h below = refl
 integer_read n (d ∷ ds) h below =
     let k : (is_ascii_digit d ≡ true) × (list_all is_ascii_digit ds ≡ true) = both (is_ascii_digit d) (list_all is_ascii_digit ds) h in
-    let m : n * 10 + (d - 48) ≤ 9007199254740991 = omega (arith, grows (n * 10 + (d - 48)) ds) in
+    let m : n * 10 + (d - 48) ≤ MAX_SAFE_INTEGER = omega (arith, grows (n * 10 + (d - 48)) ds) in
     let again : integer_from (n * 10 + (d - 48)) ds ≡ Some (decimal_from (n * 10 + (d - 48)) ds) = integer_read (n * 10 + (d - 48)) ds k.1 below in
-    ap (λ x. cond x (cond (nat_le (n * 10 + (d - 48)) 9007199254740991) (integer_from (n * 10 + (d - 48)) ds) None) None) k.0
+    ap (λ x. cond x (cond (nat_le (n * 10 + (d - 48)) MAX_SAFE_INTEGER) (integer_from (n * 10 + (d - 48)) ds) None) None) k.0
     ∙ ap (λ x. cond x (integer_from (n * 10 + (d - 48)) ds) None) (fits (n * 10 + (d - 48)) m)
     ∙ again
 
@@ -165,7 +166,7 @@ no_leading_zero d (e ∷ es) h = other d (λ k. absurd (no (h k)))
     other : (d : ℕ) → (d ≡ 48 → ⊥) → (d == 48) ≡ false
     other d h = grind (arith, nat_tests)
 
-number_read : (ds : List ℕ) → IsDecimal ds → decimal_from 0 ds ≤ 9007199254740991 → first_token ds ≡ Some (tokens.Number (pos (decimal_from 0 ds)))
+number_read : (ds : List ℕ) → IsDecimal ds → decimal_from 0 ds ≤ MAX_SAFE_INTEGER → first_token ds ≡ Some (tokens.Number (pos (decimal_from 0 ds)))
 number_read [] h below = absurd h
 number_read (d ∷ ds) (first, others, lead) below =
     let step : first_token (d ∷ ds) ≡ option_map (λ n. tokens.Number (pos n)) (integer_from 0 (d ∷ ds)) = rw (digit_no_letter d first, first, no_leading_zero d ds lead) refl in

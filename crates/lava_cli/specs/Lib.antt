@@ -1,4 +1,5 @@
 pub mod Acts
+pub mod Adapters
 pub mod Answers
 pub mod Application
 pub mod Asks
@@ -18,7 +19,6 @@ pub mod Lower
 pub mod Names
 pub mod Net
 pub mod Objects
-pub mod Outside
 pub mod Parsing
 pub mod Party
 pub mod Printed

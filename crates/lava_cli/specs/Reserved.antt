@@ -1,26 +1,19 @@
--- The words that are no names.
-use Rattle.std.specs.Prelude.{ℕ, Bool, List, [], ◌∷◌, ◌++◌, codes}
+-- The words that are no names. The tables stand in `src/reserved.rt`.
+use Rattle.std.specs.Prelude.{ℕ, Bool, ◌||◌, List}
 use Rattle.std.specs.List.{list_any}
 use Rattle.std.specs.Str.{bytes_eq}
+use Rattle.lava_cli.specs.declared.reserved.TheConstants.{RESERVED_WORDS, KEPT_WORDS}
 
--- ECMA-262, Keywords and Reserved Words: ReservedWord, and the words that strict code reserves. `await` is a name here
-abbrev pub reserved_words : List (List ℕ)
-reserved_words =
-    codes "break" ∷ codes "case" ∷ codes "catch" ∷ codes "class" ∷ codes "const" ∷
-    codes "continue" ∷ codes "debugger" ∷ codes "default" ∷ codes "delete" ∷ codes "do" ∷
-    codes "else" ∷ codes "enum" ∷ codes "export" ∷ codes "extends" ∷ codes "false" ∷
-    codes "finally" ∷ codes "for" ∷ codes "function" ∷ codes "if" ∷ codes "import" ∷ codes "in" ∷
-    codes "instanceof" ∷ codes "new" ∷ codes "null" ∷ codes "return" ∷ codes "super" ∷
-    codes "switch" ∷ codes "this" ∷ codes "throw" ∷ codes "true" ∷ codes "try" ∷ codes "typeof" ∷
-    codes "var" ∷ codes "void" ∷ codes "while" ∷ codes "with" ∷ codes "yield" ∷ codes "let" ∷
-    codes "static" ∷ codes "implements" ∷ codes "interface" ∷ codes "package" ∷ codes "private" ∷
-    codes "protected" ∷ codes "public" ∷ []
+-- a reserved word, or a word that strict code reserves; `await` is a name here
+-- ECMA-262 Keywords and Reserved Words, but for `await`
+abbrev pub is_reserved_word : List ℕ → Bool
+is_reserved_word word = list_any (λ this. bytes_eq this.now word) RESERVED_WORDS
 
--- the names that the first form keeps for later ones
-abbrev pub kept_words : List (List ℕ)
-kept_words =
-    codes "console" ∷ codes "exports" ∷ codes "require" ∷ codes "module" ∷ codes "undefined" ∷
-    codes "NaN" ∷ codes "Infinity" ∷ codes "eval" ∷ codes "arguments" ∷ []
+-- a word that the first form keeps for the whole language
+-- own: these words mean something in the whole language that the first form has not
+abbrev pub is_kept_word : List ℕ → Bool
+is_kept_word word = list_any (λ this. bytes_eq this.now word) KEPT_WORDS
 
+-- a word that is no name
 unfoldable pub is_reserved : List ℕ → Bool
-is_reserved word = list_any (λ reserved. bytes_eq reserved word) (reserved_words ++ kept_words)
+is_reserved word = is_reserved_word word || is_kept_word word

@@ -84,5 +84,7 @@ follows_rules_from (Some ds) [] = true
 follows_rules_from (Some ds) (s ∷ ss) = follows_rules_from (declared_by ds s) ss
 
 -- whether a program keeps all these rules
+-- ECMA-262 Static Semantics: Early Errors, a name is declared once
+-- own: a name is used below its declaration, and a call has as many operands as parameters, so that no run of the first form has a fault
 abbrev pub follows_rules : List Statement → Bool
 follows_rules ss = follows_rules_from (Some []) ss

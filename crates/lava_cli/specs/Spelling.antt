@@ -2,6 +2,7 @@
 use Rattle.std.specs.Prelude.{◌+◌, ◌-◌, ◌*◌, ◌==◌, ◌&&◌, ℕ, pos, nat_le, Bool, false, length, List, [], ◌∷◌, ◌++◌, Option, Some, None, option_map, if◌then◌else◌}
 use Rattle.std.specs.List.{list_all}
 use Rattle.std.specs.Char.{is_ascii_alphabetic, is_ascii_digit, is_ascii_alphanumeric}
+use Rattle.lava_base.specs.declared.limits.TheConstants.{MAX_SAFE_INTEGER}
 use Rattle.lava_cli.specs.declared.token.Mark.{Mark}
 use Rattle.lava_cli.specs.declared.token.Mark.TheVariants as marks
 use Rattle.lava_cli.specs.declared.token.Token.{Token}
@@ -39,7 +40,7 @@ abbrev pub integer_from : ℕ → List ℕ → Option ℕ
 integer_from n [] = Some n
 integer_from n (d ∷ ds) =
     if is_ascii_digit d
-    then if nat_le (n * 10 + (d - 48)) 9007199254740991 then integer_from (n * 10 + (d - 48)) ds else None
+    then if nat_le (n * 10 + (d - 48)) MAX_SAFE_INTEGER then integer_from (n * 10 + (d - 48)) ds else None
     else None
 
 abbrev pub number_token : List ℕ → Option Token

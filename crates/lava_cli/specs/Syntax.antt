@@ -38,12 +38,16 @@ abbrev pub operand_tokens : Operand → List Token
 operand_tokens operand = operand_token operand ∷ []
 
 -- an operand, or `NAME(OPERANDS)`
+-- ECMA-262 Function Calls, of a name
 abbrev pub expression_tokens : Expression → List Token
 expression_tokens (expressions.Operand operand) = operand_tokens operand
 expression_tokens (expressions.Call function arguments) =
     tokens.Word function ∷ tokens.Mark marks.LeftParen ∷ (parted operand_tokens arguments ++ tokens.Mark marks.RightParen ∷ [])
 
 -- `let NAME = EXPRESSION;`, `function NAME(NAMES) { return OPERAND; }`, `console.log(EXPRESSIONS);`
+-- ECMA-262 Let and Const Declarations, one binding with an initializer
+-- ECMA-262 Function Definitions, a body of one return
+-- ECMA-262 Expression Statement, a call of console.log
 abbrev pub statement_tokens : Statement → List Token
 statement_tokens (statements.Let name value) =
     tokens.Word (codes "let") ∷ tokens.Word name ∷ tokens.Mark marks.Equals
@@ -85,6 +89,7 @@ HasNames (statements.Function name parameters answer) = IsName name × Each IsNa
 HasNames (statements.Log arguments) = Each HasNamesInExpression arguments
 
 -- the statement ends with its semicolon
+-- ECMA-262 Rules of Automatic Semicolon Insertion, at the end of the source
 abbrev pub EndsWithSemicolon : Statement → Type 0
 EndsWithSemicolon (statements.Let name value) = Unit {0}
 EndsWithSemicolon (statements.Function name parameters answer) = ⊥
@@ -103,7 +108,13 @@ IsProgram ts program =
     × ((ts ≡ program_tokens program)
     ⊎ (LastEndsWithSemicolon program × (ts ++ tokens.Mark marks.Semicolon ∷ [] ≡ program_tokens program)))
 
--- a text of the first form: its tokens, by ECMA-262's lexical grammar, write some tokens of the program
+-- a text of the first form: its tokens write some tokens of the program
+-- own: a program is a list of three kinds of statements, until the whole language is read
 abbrev pub IsFirstFormText : List ℕ → List Statement → Type 0
 IsFirstFormText bytes program =
     (ss : List SourceToken) × IsTokens bytes ss × ((ts : List Token) × IsWritten bytes 0 ss ts × IsProgram ts program)
+
+-- the bytes spell one program at most
+abbrev pub One_program : Type 0
+One_program =
+    (bytes : List ℕ) (a b : List Statement) → IsFirstFormText bytes a → IsFirstFormText bytes b → a ≡ b

@@ -48,7 +48,8 @@ pub fn declare(
     binding: Binding,
 ) -> Result<bool, OutOfMemory>
     ensures test { IfOk result (λ is_new. is_new ≡ is_none (bound_in names.old name.now)) }
-    ensures adds { IfOk result (λ is_new. is_new ≡ true → Adds names.old names.new name.now binding) }
+    ensures adds { IfOk result (λ is_new.
+        is_new ≡ true → Adds names.old names.new name.now binding) }
 {
     if names.contains_key(name.as_str()) {
         return Ok(false);
@@ -63,7 +64,8 @@ pub fn declare_parameters(
     names: &mut Bindings,
     parameters: &List<Name>,
 ) -> Result<bool, OutOfMemory>
-    ensures { IfOk result (λ all. (env : Environment) → Says names.old env → IsDeclared all names.new (declared parameters.now env)) }
+    ensures { IfOk result (λ all. (env : Environment) →
+        Says names.old env → IsDeclared all names.new (declared parameters.now env)) }
 {
     for parameter in parameters.as_slice() {
         if !declare(alloc, names, parameter, Binding::Parameter)? {

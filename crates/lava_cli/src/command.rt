@@ -1,9 +1,11 @@
 // What the program does with its words.
 
-ghost use Rattle.std.specs.Prelude.{◌≡◌, map, string_bytes, option_map};
-ghost use Rattle.lava_cli.specs.Answers.{directory_of, ComesIn, Reports, Writes, Answers, IsDone, SomeFailed, MissingComes, UnsupportedComes, RunComes};
+ghost use Rattle.std.specs.Prelude.{◌≡◌, ◌≢◌, ℕ, List, map, string_bytes, option_map};
+ghost use Rattle.std.specs.IoError.{error_kind};
+ghost use Rattle.lava_streams.specs.Outside.{Stand, outside};
+ghost use Rattle.lava_cli.specs.Answers.{directory_of, ComesIn, Comes, Reports, Writes, Answers, IsDone, SomeFailed, MissingComes, UnsupportedComes, RunComes};
 
-use crate::outcome::Outcome;
+use crate::outcome::{DONE_STATUS, OUTSIDE_STATUS, Outcome};
 use crate::print::{PrintFault, print_lines};
 use crate::source::{Source, find};
 use lava_streams::clock::Clock;
@@ -12,20 +14,29 @@ use lava_streams::folder::Folder;
 use lava_streams::sink::Sink;
 use lava_streams::source::Source as Input;
 use std::alloc::Global;
+use std::io;
+use std::io::ErrorKind;
+
+/// The word of the command that runs a folder.
+pub const RUN: &str = "run";
 
 /// The folder of the words `run DIR`.
 fn directory(words: &[String]) -> Option<&str>
     ensures { option_map (λ d. d.now) result ≡ directory_of (map string_bytes words.now) }
 {
     match words {
-        [command, directory] if command.as_str() == "run" => Some(directory.as_str()),
+        [command, directory] if command.as_str() == RUN => Some(directory.as_str()),
         _ => None,
     }
 }
 
-/// Runs the program of a folder.
+/// Runs the program of a folder. What it leaves is said whatever the errors stand at.
 fn run<F: Folder, O: Sink>(alloc: Global, directory: &str, folder: &mut F, out: &mut O) -> Outcome
-    ensures { ComesIn (F.told folder.old) directory.now (F.count folder.old) (F.count folder.new) (record { count = O.count out.old; told = O.told out.old }) (record { count = O.count out.new; told = O.told out.new }) result }
+    ensures comes { (err new_err : Stand (List ℕ)) →
+        let before = outside (F.stand folder.old) (O.stand out.old) err in
+        let after = outside (F.stand folder.new) (O.stand out.new) new_err in
+        ComesIn directory.now before after result }
+    ensures folder { (F.stand folder.new).told ≡ (F.stand folder.old).told }
 {
     match find(alloc, folder, directory) {
         Err(ReadFault::Failed) => Outcome::FolderFailed,
@@ -40,22 +51,41 @@ fn run<F: Folder, O: Sink>(alloc: Global, directory: &str, folder: &mut F, out: 
     }
 }
 
-/// Writes the line of an outcome, and gives its status, or 7 where the writing fails.
+/// How the command that the words ask for ends. What it leaves is said whatever the errors stand at.
+fn outcome_of<F: Folder, O: Sink>(
+    alloc: Global,
+    words: &[String],
+    folder: &mut F,
+    out: &mut O,
+) -> Outcome
+    ensures comes { (err new_err : Stand (List ℕ)) →
+        let before = outside (F.stand folder.old) (O.stand out.old) err in
+        let after = outside (F.stand folder.new) (O.stand out.new) new_err in
+        Comes (directory_of (map string_bytes words.now)) before after result }
+    ensures folder { (F.stand folder.new).told ≡ (F.stand folder.old).told }
+{
+    match directory(words) {
+        None => Outcome::Usage,
+        Some(directory) => run(alloc, directory, folder, out),
+    }
+}
+
+/// Writes the line of an outcome, and gives its status, or that of a fault of the outside where the writing fails.
 fn write_line<E: Sink>(outcome: Outcome, err: &mut E) -> u8
-    ensures { Writes outcome (record { count = E.count err.old; told = E.told err.old }) (record { count = E.count err.new; told = E.told err.new }) result }
+    ensures { Writes outcome (E.stand err.old) (E.stand err.new) result }
 {
     match err.put(outcome.line().as_bytes()) {
         Ok(()) => outcome.status(),
-        Err(Failed) => 7,
+        Err(Failed) => OUTSIDE_STATUS,
     }
 }
 
 /// Reports an outcome: nothing of a finished run.
 fn report<E: Sink>(outcome: Outcome, err: &mut E) -> u8
-    ensures { Reports outcome (record { count = E.count err.old; told = E.told err.old }) (record { count = E.count err.new; told = E.told err.new }) result }
+    ensures { Reports outcome (E.stand err.old) (E.stand err.new) result }
 {
     match outcome {
-        Outcome::Finished => 0,
+        Outcome::Finished => DONE_STATUS,
         other => write_line(other, err),
     }
 }
@@ -68,18 +98,19 @@ fn answer<F: Folder, O: Sink, E: Sink>(
     out: &mut O,
     err: &mut E,
 ) -> u8
-    ensures { Answers (directory_of (map string_bytes words.now)) (F.told folder.old) (F.count folder.old) (F.count folder.new) (record { count = O.count out.old; told = O.told out.old }) (record { count = O.count out.new; told = O.told out.new }) (record { count = E.count err.old; told = E.told err.old }) (record { count = E.count err.new; told = E.told err.new }) result }
+    ensures answers { let said = map string_bytes words.now in
+        let before = outside (F.stand folder.old) (O.stand out.old) (E.stand err.old) in
+        let after = outside (F.stand folder.new) (O.stand out.new) (E.stand err.new) in
+        Answers said before after result }
+    ensures folder { (F.stand folder.new).told ≡ (F.stand folder.old).told }
 {
-    let outcome = match directory(words) {
-        None => Outcome::Usage,
-        Some(directory) => run(alloc, directory, folder, out),
-    };
+    let outcome = outcome_of(alloc, words, folder, out);
     report(outcome, err)
 }
 
 /// Does what the words say, and gives the exit status. The words come without the program's own name.
 ///
-/// `run DIR` runs the file `index.js` of a folder, where it is a program of the first form of at most 1,048,576 bytes.
+/// `run DIR` runs the file `index.js` of a folder, where it is a program of the first form of at most `FILE_LIMIT` bytes.
 /// The statuses: 0 the run was finished, 2 usage, 3 no such file or not of the first form, 7 a call on an object of the outside failed, 9 want of memory.
 pub fn lava<F: Folder, I: Input, O: Sink, E: Sink, C: Clock>(
     alloc: Global,
@@ -91,23 +122,57 @@ pub fn lava<F: Folder, I: Input, O: Sink, E: Sink, C: Clock>(
     clock: &mut C,
 ) -> u8
     // Some outcome has its cause, and is reported.
-    ensures answers { Answers (directory_of (map string_bytes words.now)) (F.told folder.old) (F.count folder.old) (F.count folder.new) (record { count = O.count out.old; told = O.told out.old }) (record { count = O.count out.new; told = O.told out.new }) (record { count = E.count err.old; told = E.told err.old }) (record { count = E.count err.new; told = E.told err.new }) result }
+    ensures answers { let said = map string_bytes words.now in
+        let before = outside (F.stand folder.old) (O.stand out.old) (E.stand err.old) in
+        let after = outside (F.stand folder.new) (O.stand out.new) (E.stand err.new) in
+        Answers said before after result }
 
-    // Status 0: the output has grown by the printed text of the network run, and the errors by nothing.
-    ensures done { result ≡ 0 → IsDone (directory_of (map string_bytes words.now)) (F.told folder.old) (record { count = O.count out.old; told = O.told out.old }) (record { count = O.count out.new; told = O.told out.new }) (record { count = E.count err.old; told = E.told err.old }) (record { count = E.count err.new; told = E.told err.new }) }
+    // Done: the output has grown by the printed text of the network run, and the errors by nothing.
+    ensures done { result ≡ DONE_STATUS →
+        let before = outside (F.stand folder.old) (O.stand out.old) (E.stand err.old) in
+        let after = outside (F.stand folder.new) (O.stand out.new) (E.stand err.new) in
+        IsDone (map string_bytes words.now) before after }
 
-    // Status 7: the count of an object rose in this call.
-    ensures failed { result ≡ 7 → SomeFailed (F.count folder.old) (F.count folder.new) (record { count = O.count out.old; told = O.told out.old }) (record { count = O.count out.new; told = O.told out.new }) (record { count = E.count err.old; told = E.told err.old }) (record { count = E.count err.new; told = E.told err.new }) }
+    // A fault of the outside: the count of an object rose in this call.
+    ensures failed { result ≡ OUTSIDE_STATUS →
+        let before = outside (F.stand folder.old) (O.stand out.old) (E.stand err.old) in
+        let after = outside (F.stand folder.new) (O.stand out.new) (E.stand err.new) in
+        SomeFailed before after }
 
     // Each cause has its answer.
-    ensures usage { directory_of (map string_bytes words.now) ≡ None → Writes Outcome.Usage (record { count = E.count err.old; told = E.told err.old }) (record { count = E.count err.new; told = E.told err.new }) result }
-    ensures missing { MissingComes (directory_of (map string_bytes words.now)) (F.told folder.old) (F.count folder.old) (F.count folder.new) (record { count = E.count err.old; told = E.told err.old }) (record { count = E.count err.new; told = E.told err.new }) result }
-    ensures unsupported { UnsupportedComes (directory_of (map string_bytes words.now)) (F.told folder.old) (F.count folder.old) (F.count folder.new) (record { count = E.count err.old; told = E.told err.old }) (record { count = E.count err.new; told = E.told err.new }) result }
-    ensures runs { RunComes (directory_of (map string_bytes words.now)) (F.told folder.old) (F.count folder.old) (F.count folder.new) (record { count = O.count out.old; told = O.told out.old }) (record { count = O.count out.new; told = O.told out.new }) (record { count = E.count err.old; told = E.told err.old }) (record { count = E.count err.new; told = E.told err.new }) result }
+    ensures usage { directory_of (map string_bytes words.now) ≡ None →
+        Writes Outcome.Usage (E.stand err.old) (E.stand err.new) result }
+    ensures missing { let said = map string_bytes words.now in
+        let before = outside (F.stand folder.old) (O.stand out.old) (E.stand err.old) in
+        let after = outside (F.stand folder.new) (O.stand out.new) (E.stand err.new) in
+        MissingComes said before after result }
+    ensures unsupported { let said = map string_bytes words.now in
+        let before = outside (F.stand folder.old) (O.stand out.old) (E.stand err.old) in
+        let after = outside (F.stand folder.new) (O.stand out.new) (E.stand err.new) in
+        UnsupportedComes said before after result }
+    ensures runs { let said = map string_bytes words.now in
+        let before = outside (F.stand folder.old) (O.stand out.old) (E.stand err.old) in
+        let after = outside (F.stand folder.new) (O.stand out.new) (E.stand err.new) in
+        RunComes said before after result }
 
-    // The input and the clock are not touched.
+    // The folder tells what it told, and the input and the clock are not touched.
+    ensures folder { (F.stand folder.new).told ≡ (F.stand folder.old).told }
     ensures input { input.new ≡ input.old }
     ensures clock { clock.new ≡ clock.old }
 {
     answer(alloc, words, folder, out, err)
+}
+
+/// Says why a command couldn't begin, and gives the exit status: a word that is not UTF-8 is a usage fault, and all else is want of memory.
+pub fn refuse<E: Sink>(err: &mut E, error: io::Error) -> u8
+    ensures words { error_kind error ≡ ErrorKind.InvalidData →
+        Writes Outcome.Usage (E.stand err.old) (E.stand err.new) result }
+    ensures memory { error_kind error ≢ ErrorKind.InvalidData →
+        Writes Outcome.OutOfMemory (E.stand err.old) (E.stand err.new) result }
+{
+    if error.kind() == ErrorKind::InvalidData {
+        write_line(Outcome::Usage, err)
+    } else {
+        write_line(Outcome::OutOfMemory, err)
+    }
 }

@@ -33,7 +33,8 @@ fn answer_in(
     parameters: &List<Name>,
     operand: &Operand,
 ) -> Result<Option<Answer>, OutOfMemory>
-    ensures { IfOk result (λ answer. answer ≡ answer_by (bound_in names.now) parameters.now operand.now) }
+    ensures { let look = bound_in names.now in
+        IfOk result (λ answer. answer ≡ answer_by look parameters.now operand.now) }
 {
     match operand {
         Operand::Constant(constant) => Ok(Some(Answer::Fixed(constant.copy()?))),
@@ -54,7 +55,9 @@ fn after_let(
     name: &Name,
     value: &Expression,
 ) -> Result<bool, OutOfMemory>
-    ensures { IfOk result (λ goes_on. (env : Environment) (lines : List (List Constant)) → Says names.old env → Goes_on goes_on names.new lines (after_statement env lines (statement_form.Let name.now value.now))) }
+    ensures { IfOk result (λ goes_on. (env : Environment) (lines : List (List Constant)) →
+        let statement = statement_form.Let name.now value.now in
+        Says names.old env → Goes_on goes_on names.new lines (after_statement env lines statement)) }
 {
     match expression_value(alloc, names, value)? {
         Some(constant) => declare(alloc, names, name, Binding::Value(constant)),
@@ -70,7 +73,9 @@ fn after_function(
     parameters: &List<Name>,
     operand: &Operand,
 ) -> Result<bool, OutOfMemory>
-    ensures { IfOk result (λ goes_on. (env : Environment) (lines : List (List Constant)) → Says names.old env → Goes_on goes_on names.new lines (after_statement env lines (statement_form.Function name.now parameters.now operand.now))) }
+    ensures { IfOk result (λ goes_on. (env : Environment) (lines : List (List Constant)) →
+        let statement = statement_form.Function name.now parameters.now operand.now in
+        Says names.old env → Goes_on goes_on names.new lines (after_statement env lines statement)) }
 {
     let Some(answer) = answer_in(names, parameters, operand)? else {
         return Ok(false);
@@ -92,7 +97,9 @@ fn after_log(
     lines: &mut List<List<Constant>>,
     arguments: &List<Expression>,
 ) -> Result<bool, OutOfMemory>
-    ensures { IfOk result (λ goes_on. (env : Environment) → Says names.now env → Goes_on goes_on names.now lines.new (after_statement env lines.old (statement_form.Log arguments.now))) }
+    ensures { IfOk result (λ goes_on. (env : Environment) →
+        let after = after_statement env lines.old (statement_form.Log arguments.now) in
+        Says names.now env → Goes_on goes_on names.now lines.new after) }
 {
     match expression_values(alloc, names, arguments)? {
         Some(line) => {
@@ -110,7 +117,9 @@ pub fn after_statement(
     lines: &mut List<List<Constant>>,
     statement: &Statement,
 ) -> Result<bool, OutOfMemory>
-    ensures { IfOk result (λ goes_on. (env : Environment) → Says names.old env → Goes_on goes_on names.new lines.new (after_statement env lines.old statement.now)) }
+    ensures { IfOk result (λ goes_on. (env : Environment) →
+        let after = after_statement env lines.old statement.now in
+        Says names.old env → Goes_on goes_on names.new lines.new after) }
 {
     match statement {
         Statement::Let { name, value } => after_let(alloc, names, name, value),

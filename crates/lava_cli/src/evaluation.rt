@@ -46,7 +46,8 @@ fn called(
     function: &Name,
     arguments: &List<Constant>,
 ) -> Result<Option<Constant>, OutOfMemory>
-    ensures { IfOk result (λ value. value ≡ called_in (bound_in names.now function.now) arguments.now) }
+    ensures { let callee = bound_in names.now function.now in
+        IfOk result (λ value. value ≡ called_in callee arguments.now) }
 {
     match names.get(function.as_str()) {
         Some(Binding::Function { parameters, answer }) if *parameters == arguments.len() => {
@@ -63,7 +64,8 @@ fn call_value(
     function: &Name,
     operands: &List<Operand>,
 ) -> Result<Option<Constant>, OutOfMemory>
-    ensures { IfOk result (λ value. value ≡ call_value_by (bound_in names.now) function.now operands.now) }
+    ensures { let look = bound_in names.now in
+        IfOk result (λ value. value ≡ call_value_by look function.now operands.now) }
 {
     let Some(arguments) = operand_values(alloc, names, operands)? else {
         return Ok(None);
@@ -77,7 +79,8 @@ pub fn expression_value(
     names: &Bindings,
     expression: &Expression,
 ) -> Result<Option<Constant>, OutOfMemory>
-    ensures { IfOk result (λ value. value ≡ expression_value_by (bound_in names.now) expression.now) }
+    ensures { let look = bound_in names.now in
+        IfOk result (λ value. value ≡ expression_value_by look expression.now) }
 {
     match expression {
         Expression::Operand(operand) => operand_value(names, operand),
@@ -91,7 +94,8 @@ pub fn expression_values(
     names: &Bindings,
     expressions: &List<Expression>,
 ) -> Result<Option<List<Constant>>, OutOfMemory>
-    ensures { IfOk result (λ values. values ≡ expression_values_by (bound_in names.now) expressions.now) }
+    ensures { let look = bound_in names.now in
+        IfOk result (λ values. values ≡ expression_values_by look expressions.now) }
 {
     let mut values = List::new(alloc);
     for expression in expressions.as_slice() {

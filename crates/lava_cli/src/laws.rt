@@ -6,6 +6,7 @@ ghost use Rattle.lava_cli.specs.Chain.{Journal_is_chain};
 ghost use Rattle.lava_cli.specs.Compose.{Rows_compose};
 ghost use Rattle.lava_cli.specs.Two_runs.{Same_things_same_runs};
 ghost use Rattle.lava_cli.specs.View.{Each_has_its_view};
+ghost use Rattle.lava_cli.specs.Syntax.{One_program};
 
 /// The one-heap machine's journal, steps and ending are the network's.
 #[tactic(none)]
@@ -47,4 +48,10 @@ pub fn rows_compose()
 #[tactic(none)]
 pub fn each_has_its_view()
     ensures { Each_has_its_view }
+{}
+
+/// The bytes of a file spell one program of the first form at most.
+#[tactic(none)]
+pub fn one_program()
+    ensures { One_program }
 {}

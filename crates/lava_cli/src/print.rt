@@ -52,7 +52,7 @@ fn line_bytes(alloc: Global, line: &List<Constant>) -> Result<List<u8>, OutOfMem
 
 /// Puts a line.
 fn put_line<O: Sink>(alloc: Global, line: &List<Constant>, out: &mut O) -> Result<(), PrintFault>
-    ensures { PrintsTo (record { count = O.count out.old; told = O.told out.old }) (record { count = O.count out.new; told = O.told out.new }) (line_text line.now) result }
+    ensures { PrintsTo (O.stand out.old) (O.stand out.new) (line_text line.now) result }
 {
     let bytes = match line_bytes(alloc, line) {
         Ok(bytes) => bytes,
@@ -70,7 +70,7 @@ pub fn print_lines<O: Sink>(
     lines: &List<List<Constant>>,
     out: &mut O,
 ) -> Result<(), PrintFault>
-    ensures { PrintsTo (record { count = O.count out.old; told = O.told out.old }) (record { count = O.count out.new; told = O.told out.new }) (lines_text lines.now) result }
+    ensures { PrintsTo (O.stand out.old) (O.stand out.new) (lines_text lines.now) result }
 {
     for line in lines.as_slice() {
         put_line(alloc, line, out)?;

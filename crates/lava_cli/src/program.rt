@@ -12,7 +12,7 @@ use lava_base::name::Name;
 #[derive(Drop)]
 pub enum Constant {
     Text(Text),
-    /// From 0 to 9007199254740991.
+    /// From 0 to `MAX_SAFE_INTEGER`.
     Number(Safe),
 }
 

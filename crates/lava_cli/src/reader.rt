@@ -9,6 +9,7 @@ ghost use Rattle.lava_cli.specs.Reading.{behind_gap, taken, next_taken, ended, r
 
 use crate::parser::Parser;
 use crate::program::Statement;
+use crate::source::FILE_LIMIT;
 use crate::spelling::first_token;
 use crate::token::Token;
 use js_lexer::lexer::tokens;
@@ -20,10 +21,13 @@ use std::alloc::Global;
 
 /// The program that the bytes are, or none where they are not of the first form.
 pub fn read(alloc: Global, bytes: &[u8]) -> Result<Option<List<Statement>>, OutOfMemory>
-    requires { length bytes.now ≤ 1048576 }
-    ensures read { IfOk result (λ answer. IfSome answer (λ program. IsFirstFormText bytes.now program)) }
-    ensures only { IfOk result (λ answer. IfSome answer (λ program. (other : Listed Statement) → IsFirstFormText bytes.now other → other ≡ program)) }
-    ensures refused { IfOk result (λ answer. IfNone answer ((program : Listed Statement) → IsFirstFormText bytes.now program → ⊥)) }
+    requires { length bytes.now ≤ FILE_LIMIT }
+    ensures read { IfOk result (λ answer. IfSome answer (λ program.
+        IsFirstFormText bytes.now program)) }
+    ensures only { IfOk result (λ answer. IfSome answer (λ program.
+        (other : Listed Statement) → IsFirstFormText bytes.now other → other ≡ program)) }
+    ensures refused { IfOk result (λ answer. IfNone answer (
+        (program : Listed Statement) → IsFirstFormText bytes.now program → ⊥)) }
 {
     match tokens(alloc, bytes) {
         Ok(tokens) => read_tokens(alloc, bytes, tokens.as_slice()),
@@ -38,7 +42,7 @@ fn read_tokens(
     bytes: &[u8],
     tokens: &[SourceToken],
 ) -> Result<Option<List<Statement>>, OutOfMemory>
-    requires short { length bytes.now ≤ 1048576 }
+    requires short { length bytes.now ≤ FILE_LIMIT }
     requires in_order { AreWithin 0 tokens.now (length bytes.now) }
     ensures { IfOk result (λ program. program ≡ read_from bytes.now 0 tokens.now start) }
 {
@@ -63,8 +67,9 @@ fn take_next(
     parser: Parser,
     token: SourceToken,
 ) -> Result<Option<Parser>, OutOfMemory>
-    requires short { length bytes.now ≤ 1048576 }
-    requires in_order { (from ≤ token.from) × (token.from ≤ token.to) × (token.to ≤ length bytes.now) }
+    requires short { length bytes.now ≤ FILE_LIMIT }
+    requires in_order { (from ≤ token.from) × (token.from ≤ token.to)
+        × (token.to ≤ length bytes.now) }
     ensures { IfOk result (λ next. next ≡ next_taken bytes.now from parser token) }
 {
     let gap = &bytes[from as usize..token.from as usize];
@@ -92,7 +97,7 @@ fn take_token(
     gap: &[u8],
     text: &[u8],
 ) -> Result<Option<Parser>, OutOfMemory>
-    requires { length text.now ≤ 1048576 }
+    requires { length text.now ≤ FILE_LIMIT }
     ensures { IfOk result (λ next. next ≡ taken parser gap.now text.now) }
 {
     match behind_gap(alloc, gap, text)? {
@@ -104,7 +109,7 @@ fn take_token(
 /// The token that this text spells, behind these gaps, or none.
 #[tactic(auto, unfolding(crate::specs::Reading::behind_gap))]
 fn behind_gap(alloc: Global, gap: &[u8], text: &[u8]) -> Result<Option<Token>, OutOfMemory>
-    requires { length text.now ≤ 1048576 }
+    requires { length text.now ≤ FILE_LIMIT }
     ensures { IfOk result (λ token. token ≡ behind_gap gap.now text.now) }
 {
     if !are_gaps(gap) {

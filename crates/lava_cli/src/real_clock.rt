@@ -1,15 +1,16 @@
 // The system's clock.
 
-ghost use Rattle.std.specs.Prelude.{◌≡◌, ◌^◌, ◌<◌, ◌≤◌, None, IfOk, MatchResult};
+ghost use Rattle.std.specs.Prelude.{◌≡◌, ◌<◌, ◌≤◌, None, IfOk, MatchResult};
 
 use crate::faults::counted_failed;
+use lava_base::limits::MAX_SAFE_INTEGER;
 use lava_streams::clock::Clock;
 use lava_streams::fault::Failed;
 use std::marker::Model;
 use std::rt;
 use std::time::{SystemTime, UNIX_EPOCH};
 
-/// The system's clock, in milliseconds since the Unix epoch. It tells no moment. It fails where the system does, and at a moment before the epoch or from 2^53 on.
+/// The system's clock, in milliseconds since the Unix epoch. It tells no moment. It fails where the system does, and at a moment before the epoch or past `MAX_SAFE_INTEGER`.
 #[derive(Drop)]
 pub struct RealClock<R> {
     rt: R,
@@ -34,9 +35,7 @@ impl<R: rt::Clock + Drop> RealClock<R> {
 }
 
 impl<R: rt::Clock + Drop> Clock for RealClock<R> {
-    ghost count = { λ c. c };
-
-    ghost told = { λ _. None };
+    ghost stand = { λ c. record { count = c; told = None } };
 
     fn faults(&self) -> u64 {
         self.faults
@@ -50,7 +49,7 @@ impl<R: rt::Clock + Drop> Clock for RealClock<R> {
 
 // The moment that the system's clock shows.
 fn moment(clock: &impl rt::Clock) -> Result<u64, Failed>
-    ensures { IfOk result (λ moment. moment < 2 ^ 53) }
+    ensures { IfOk result (λ moment. moment ≤ MAX_SAFE_INTEGER) }
 {
     let Ok(time) = SystemTime::now(clock) else {
         return Err(Failed);
@@ -61,11 +60,13 @@ fn moment(clock: &impl rt::Clock) -> Result<u64, Failed>
     }
 }
 
-// A moment below 2^53.
+// A moment that is a safe integer.
 fn within_limit(millis: u128) -> Result<u64, Failed>
-    ensures { MatchResult result (λ moment. (moment ≡ millis) × (millis < 2 ^ 53)) (λ _. 2 ^ 53 ≤ millis) }
+    ensures { MatchResult result
+        (λ moment. (moment ≡ millis) × (millis ≤ MAX_SAFE_INTEGER))
+        (λ _. MAX_SAFE_INTEGER < millis) }
 {
-    if millis < 1 << 53 {
+    if millis <= u128::from(MAX_SAFE_INTEGER) {
         Ok(millis as u64)
     } else {
         Err(Failed)

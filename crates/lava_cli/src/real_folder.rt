@@ -2,7 +2,7 @@
 
 ghost use Rattle.std.specs.Prelude.{◌≡◌, ◌↔◌, Ok, None, Some, IfOk, IsErrAnd, IsTrue};
 ghost use Rattle.std.specs.IoError.{error_kind};
-ghost use Rattle.lava_cli.specs.Outside.{LeadsNowhere};
+ghost use Rattle.lava_cli.specs.Adapters.{LeadsNowhere};
 ghost use Rattle.lava_streams.specs.Folders.{IsWithin, read_of};
 
 use crate::faults::{counted, fault_of};
@@ -47,9 +47,7 @@ impl<R: Files + Drop> RealFolder<R> {
 }
 
 impl<R: Files + Drop> Folder for RealFolder<R> {
-    ghost count = { λ f. f };
-
-    ghost told = { λ _. None };
+    ghost stand = { λ f. record { count = f; told = None } };
 
     fn faults(&self) -> u64 {
         self.faults

@@ -35,9 +35,7 @@ impl<W: Write + Drop> RealSink<W> {
 }
 
 impl<W: Write + Drop> Sink for RealSink<W> {
-    ghost count = { λ s. s };
-
-    ghost told = { λ _. None };
+    ghost stand = { λ s. record { count = s; told = None } };
 
     fn faults(&self) -> u64 {
         self.faults
@@ -52,7 +50,8 @@ impl<W: Write + Drop> Sink for RealSink<W> {
 // Writes a whole piece, and nothing of it is held back.
 fn write_and_flush<W: Write>(out: &mut W, piece: &[u8]) -> Result<(), Failed>
     ensures ok { OnOk result (Appends (W.contents out.old) (W.contents out.new) piece.now) }
-    ensures err { IfSome (W.contents out.old) (λ held. OnErr result (AppendsPrefix held piece.now (W.contents out.new))) }
+    ensures err { let now = W.contents out.new in
+        IfSome (W.contents out.old) (λ held. OnErr result (AppendsPrefix held piece.now now)) }
 {
     write_whole(out, piece)?;
     match out.flush() {
@@ -64,7 +63,8 @@ fn write_and_flush<W: Write>(out: &mut W, piece: &[u8]) -> Result<(), Failed>
 // Writes a whole piece, or before a fault a prefix of it.
 fn write_whole<W: Write>(out: &mut W, piece: &[u8]) -> Result<(), Failed>
     ensures ok { OnOk result (Appends (W.contents out.old) (W.contents out.new) piece.now) }
-    ensures err { IfSome (W.contents out.old) (λ held. OnErr result (AppendsPrefix held piece.now (W.contents out.new))) }
+    ensures err { let now = W.contents out.new in
+        IfSome (W.contents out.old) (λ held. OnErr result (AppendsPrefix held piece.now now)) }
 {
     let mut done = 0;
     for _ in 0..u64::MAX {

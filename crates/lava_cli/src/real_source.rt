@@ -2,7 +2,7 @@
 
 ghost use Rattle.std.specs.Prelude.{◌≡◌, ◌≤◌, ◌==◌, [], length, position, None, IfSome, IfOk, OnErr};
 ghost use Rattle.std.specs.List.{position_or_len};
-ghost use Rattle.lava_cli.specs.Outside.{IsBegun, Takes};
+ghost use Rattle.lava_cli.specs.Adapters.{IsBegun, Takes};
 ghost use Rattle.lava_streams.specs.Lines.{line_of, IsWithinLine};
 
 use crate::faults::{counted, fault_of};
@@ -26,7 +26,7 @@ pub struct RealSource<B> {
 
 impl<B> Model for RealSource<B> {
     ghost use Rattle.std.specs.Prelude.{ℕ};
-    ghost use Rattle.lava_cli.specs.Outside.{IsBegun};
+    ghost use Rattle.lava_cli.specs.Adapters.{IsBegun};
 
     ghost Value = { ℕ };
 
@@ -49,9 +49,7 @@ impl<B: BufRead + Drop> RealSource<B> {
 }
 
 impl<B: BufRead + Drop> Source for RealSource<B> {
-    ghost count = { λ s. s };
-
-    ghost told = { λ _. None };
+    ghost stand = { λ s. record { count = s; told = None } };
 
     fn faults(&self) -> u64 {
         self.faults

@@ -5,8 +5,8 @@ ghost use Rattle.std.specs.List.{list_any};
 ghost use Rattle.std.specs.Str.{bytes_eq};
 ghost use Rattle.lava_cli.specs.Reserved.{is_reserved};
 
-/// The reserved words of ECMA-262's strict code, and the words that the first form keeps from names.
-static RESERVED: [&str; 54] = [
+/// The reserved words, and those that strict code reserves, but for `await` (ECMA-262, Keywords and Reserved Words).
+static RESERVED_WORDS: [&str; 45] = [
     "break",
     "case",
     "catch",
@@ -52,6 +52,10 @@ static RESERVED: [&str; 54] = [
     "private",
     "protected",
     "public",
+];
+
+/// The words that the first form keeps for the whole language.
+static KEPT_WORDS: [&str; 9] = [
     "console",
     "exports",
     "require",
@@ -68,7 +72,7 @@ static RESERVED: [&str; 54] = [
 pub fn is_reserved(word: &str) -> bool
     ensures { result ≡ is_reserved word.now }
 {
-    is_one_of(&RESERVED, word)
+    is_one_of(&RESERVED_WORDS, word) || is_one_of(&KEPT_WORDS, word)
 }
 
 fn is_one_of(words: &[&str], word: &str) -> bool

@@ -17,6 +17,9 @@ use std::alloc::Global;
 /// How many bytes a file of a program has at most.
 pub const FILE_LIMIT: u32 = 1_048_576;
 
+/// The path of a program below its folder.
+pub const ENTRY: &str = "/index.js";
+
 /// What is found where a program is looked for.
 #[derive(Drop)]
 pub enum Source {
@@ -33,7 +36,7 @@ fn path(alloc: Global, directory: &str) -> Result<String, OutOfMemory>
     ensures { IfOk result (λ path. string_bytes path ≡ path_of directory.now) }
 {
     let mut path = String::from_str(alloc, directory)?;
-    path.push_str("/index.js")?;
+    path.push_str(ENTRY)?;
     Ok(path)
 }
 
@@ -53,9 +56,9 @@ fn source_of(alloc: Global, bytes: &[u8]) -> Result<Source, OutOfMemory>
 
 /// The program of a folder.
 pub fn find<F: Folder>(alloc: Global, folder: &mut F, directory: &str) -> Result<Source, ReadFault>
-    ensures tells { F.told folder.new ≡ F.told folder.old }
-    ensures counts { Counts (F.count folder.old) (F.count folder.new) result }
-    ensures gives { IfOk result (λ s. IsSource (F.told folder.old) directory.now s) }
+    ensures tells { (F.stand folder.new).told ≡ (F.stand folder.old).told }
+    ensures counts { Counts (F.stand folder.old).count (F.stand folder.new).count result }
+    ensures gives { IfOk result (λ s. IsSource (F.stand folder.old).told directory.now s) }
 {
     let path = path(alloc, directory)?;
     match folder.read(alloc, path.as_str(), FILE_LIMIT)? {

@@ -4,21 +4,20 @@ ghost use Rattle.std.specs.Prelude.{◌≡◌, ◌≤◌, [], length, IfOk, IfSo
 ghost use Rattle.lava_cli.specs.Tokens.{is_quote, is_text_byte};
 ghost use Rattle.lava_cli.specs.Spelling.{mark_of, mark_token, word_token, has_leading_zero, integer_from, number_token, text_from, first_token};
 
+use crate::source::FILE_LIMIT;
 use crate::token::{Mark, Token};
 use js_num::safe::{NotSafe, Safe};
 use js_text::fault::TextFault;
-use js_text::text::{Text, from_units};
+use js_text::text::{MAX_UNITS, Text, from_units};
+use lava_base::limits::MAX_SAFE_INTEGER;
 use lava_base::list::List;
 use lava_base::memory::OutOfMemory;
 use lava_base::name::Name;
 use std::alloc::Global;
 
-/// The largest integer of the first form, 2^53 - 1.
-const MAX_INTEGER: u64 = 9_007_199_254_740_991;
-
 /// The token of the first form that a token's text spells, or none.
 pub fn first_token(alloc: Global, text: &[u8]) -> Result<Option<Token>, OutOfMemory>
-    requires { length text.now ≤ 1048576 }
+    requires { length text.now ≤ FILE_LIMIT }
     ensures { IfOk result (λ token. token ≡ first_token text.now) }
 {
     let [first, rest @ ..] = text else {
@@ -49,7 +48,7 @@ fn word_token(alloc: Global, text: &[u8]) -> Result<Option<Token>, OutOfMemory>
     Ok(Some(Token::Word(Name::of(alloc, word.as_str())?)))
 }
 
-/// The number, if digits alone stand in it, without a leading `0`, and it is at most `MAX_INTEGER`.
+/// The number, if digits alone stand in it, without a leading `0`, and it is at most `MAX_SAFE_INTEGER`.
 fn number_token(text: &[u8]) -> Option<Token>
     ensures { result ≡ number_token text.now }
 {
@@ -73,10 +72,10 @@ fn has_leading_zero(text: &[u8]) -> bool
     }
 }
 
-/// The integer that digits write, or none where other bytes stand among them or it is past `MAX_INTEGER`.
+/// The integer that digits write, or none where other bytes stand among them or it is past `MAX_SAFE_INTEGER`.
 fn integer_of(text: &[u8]) -> Option<u64>
     ensures integer { result ≡ integer_from 0 text.now }
-    ensures within { IfSome result (λ integer. integer ≤ MAX_INTEGER) }
+    ensures within { IfSome result (λ integer. integer ≤ MAX_SAFE_INTEGER) }
 {
     let mut value = 0;
     for byte in text {
@@ -84,7 +83,7 @@ fn integer_of(text: &[u8]) -> Option<u64>
             return None;
         }
         value = value * 10 + u64::from(*byte - b'0');
-        if value > MAX_INTEGER {
+        if value > MAX_SAFE_INTEGER {
             return None;
         }
     }
@@ -93,7 +92,7 @@ fn integer_of(text: &[u8]) -> Option<u64>
 
 /// The text that begins with this quote, if it ends with the same, and no escape stands in it.
 fn text_token(alloc: Global, quote: u8, rest: &[u8]) -> Result<Option<Token>, OutOfMemory>
-    requires { length rest.now ≤ 1048576 }
+    requires { length rest.now ≤ FILE_LIMIT }
     ensures { IfOk result (λ token. token ≡ text_from quote [] rest.now) }
 {
     let mut units = List::new(alloc);
@@ -110,7 +109,7 @@ fn text_token(alloc: Global, quote: u8, rest: &[u8]) -> Result<Option<Token>, Ou
 }
 
 fn text_of(alloc: Global, units: &List<u16>) -> Result<Text, OutOfMemory>
-    requires { length units.now ≤ 1048576 }
+    requires { length units.now ≤ MAX_UNITS }
     ensures { IfOk result (λ text. text ≡ units.now) }
 {
     match from_units(alloc, units.as_slice()) {

@@ -24,7 +24,7 @@ pub enum Token {
     Word(Name),
     /// A text, by its units.
     Text(Text),
-    /// An integer from 0 to 9007199254740991.
+    /// An integer from 0 to `MAX_SAFE_INTEGER`.
     Number(Safe),
     Mark(Mark),
 }

@@ -5,7 +5,8 @@ use Rattle.std.proofs.lemmas.Bool.{cases_lt, lt-ltb, le-ltb, eqb-false}
 use Rattle.std.proofs.lemmas.List.{length-take, get_or-take}
 use Rattle.std.proofs.lemmas.List.Folds.{length-prefix_len}
 use Rattle.std.proofs.lemmas.List.Sums.{fails_before_first, prefix_len-le-length}
-use Rattle.lava_streams.specs.Lines.{line_of, line_before, line_limit}
+use Rattle.lava_streams.specs.Lines.{line_of, line_before}
+use Rattle.lava_streams.specs.declared.source.TheConstants.{LINE_LIMIT}
 use Rattle.lava_streams.specs.declared.source.Line.TheVariants.{Bytes, TooLong}
 
 line_of_some : (xs : List ℕ) → (length xs == 0) ≡ false → line_of xs ≡ line_before (before_first (λ b. b == 10) xs) xs
@@ -15,19 +16,19 @@ line_of_some (x ∷ xs) some = refl
 length-line : (xs : List ℕ) → length (before_first (λ b. b == 10) xs) ≡ position_or_len (λ b. b == 10) xs
 length-line xs = length-prefix_len (λ b. not (b == 10)) xs
 
-line_before_long : (line bytes : List ℕ) → line_limit < length line → line_before line bytes ≡ (TooLong, drop line_limit bytes)
-line_before_long line bytes long = rw (lt-ltb line_limit (length line) long) refl
+line_before_long : (line bytes : List ℕ) → LINE_LIMIT < length line → line_before line bytes ≡ (TooLong, drop LINE_LIMIT bytes)
+line_before_long line bytes long = rw (lt-ltb LINE_LIMIT (length line) long) refl
 
-line_before_short : (line bytes : List ℕ) → length line ≤ line_limit → line_before line bytes ≡ (Bytes line, drop (length line + 1) bytes)
-line_before_short line bytes short = rw (le-ltb line_limit (length line) short) refl
+line_before_short : (line bytes : List ℕ) → length line ≤ LINE_LIMIT → line_before line bytes ≡ (Bytes line, drop (length line + 1) bytes)
+line_before_short line bytes short = rw (le-ltb LINE_LIMIT (length line) short) refl
 
 -- a line of more bytes than the limit
-pub line_of_long : (xs : List ℕ) (n : ℕ) → (length xs == 0) ≡ false → n ≡ position_or_len (λ b. b == 10) xs → line_limit < n → line_of xs ≡ (TooLong, drop line_limit xs)
+pub line_of_long : (xs : List ℕ) (n : ℕ) → (length xs == 0) ≡ false → n ≡ position_or_len (λ b. b == 10) xs → LINE_LIMIT < n → line_of xs ≡ (TooLong, drop LINE_LIMIT xs)
 line_of_long xs n some is long =
     line_of_some xs some ∙ line_before_long (before_first (λ b. b == 10) xs) xs (omega (arith, length-line xs))
 
 -- a line of at most as many bytes as the limit
-pub line_of_short : (xs : List ℕ) (n : ℕ) → (length xs == 0) ≡ false → n ≡ position_or_len (λ b. b == 10) xs → n ≤ line_limit → line_of xs ≡ (Bytes (take n xs), drop (n + 1) xs)
+pub line_of_short : (xs : List ℕ) (n : ℕ) → (length xs == 0) ≡ false → n ≡ position_or_len (λ b. b == 10) xs → n ≤ LINE_LIMIT → line_of xs ≡ (Bytes (take n xs), drop (n + 1) xs)
 line_of_short xs n some is short =
     line_of_some xs some
     ∙ line_before_short (before_first (λ b. b == 10) xs) xs (omega (arith, length-line xs))

@@ -1,11 +1,19 @@
 -- The calls of a memory form that are to fail.
-use Rattle.std.specs.Prelude.{ℕ, ◌+◌, ◌-◌, ◌^◌, ◌==◌, min, Bool, List, map, filter, nat_lt, if◌then◌else◌}
+use Rattle.std.specs.Prelude.{ℕ, ◌+◌, ◌-◌, ◌^◌, ◌==◌, min, Bool, List, [], ◌∷◌, ◌++◌, map, filter, nat_lt, if◌then◌else◌}
 use Rattle.std.specs.List.{list_any}
 
 -- How far off the calls are that are to fail, 1 being the next one, and the faults so far.
 pub record Failures : Type 0 where
   pub due : List ℕ
   pub faults : ℕ
+
+-- No call is to fail, and there was no fault.
+abbrev pub no_failures : Failures
+no_failures = record { due = []; faults = 0 }
+
+-- The `n`-th call from now is to fail too.
+abbrev pub failing_at : Failures → ℕ → Failures
+failing_at f n = record f { due = f.due ++ n ∷ [] }
 
 -- Whether the next call is to fail.
 abbrev pub fails_next : Failures → Bool

@@ -1,6 +1,6 @@
 -- What a folder that holds files answers.
 use Rattle.std.specs.Prelude.{ℕ, ◌≤◌, List, [], ◌∷◌, length, Option, Some, None, nat_lt, if◌then◌else◌}
-use Rattle.lava_streams.specs.Files.{file_at, names_in, in_order}
+use Rattle.lava_streams.specs.Files.{Files, file_at, names_in, in_order}
 use Rattle.lava_streams.specs.declared.folder.Listing.{Listing}
 use Rattle.lava_streams.specs.declared.folder.Listing.TheVariants.{Names, Absent as NoDirectory}
 use Rattle.lava_streams.specs.declared.folder.FileRead.{FileRead}
@@ -12,7 +12,7 @@ read_of None limit = NoFile
 read_of (Some bytes) limit = if nat_lt limit (length bytes) then Longer else Bytes bytes
 
 -- What `read` gives of these files.
-abbrev pub file_read : List (List ℕ × List ℕ) → List ℕ → ℕ → FileRead
+abbrev pub file_read : Files → List ℕ → ℕ → FileRead
 file_read files path limit = read_of (file_at files path) limit
 
 -- A directory is one exactly where a name stands in it.
@@ -21,7 +21,7 @@ listing [] = NoDirectory
 listing (name ∷ names) = Names (name ∷ names)
 
 -- What `list` gives of these files.
-abbrev pub listing_of : List (List ℕ × List ℕ) → List ℕ → Listing
+abbrev pub listing_of : Files → List ℕ → Listing
 listing_of files dir = listing (in_order (names_in files dir))
 
 -- Bytes that are given are at most as many as the limit.

@@ -2,9 +2,11 @@ pub mod Counts
 pub mod Failures
 pub mod Files
 pub mod Folders
+pub mod Left
 pub mod Lines
 pub mod Listings
 pub mod Moments
+pub mod Outside
 pub mod Pieces
 pub mod States
 pub mod Steps

@@ -1,10 +1,11 @@
 -- What the memory forms hold, and what their calls leave.
 use Rattle.std.specs.Prelude.{ℕ, ◌+◌, ◌-◌, List, [], ◌∷◌, ◌++◌, length, take, Bool, not, ◌&&◌, nat_le, if◌then◌else◌}
+use Rattle.lava_streams.specs.Files.{Files}
 use Rattle.lava_streams.specs.Failures.{Failures, fails_next, after_call, after_fault}
 
 -- Every added file by its path, in the order in which they were added.
 pub record FolderState : Type 0 where
-  pub files : List (List ℕ × List ℕ)
+  pub files : Files
   pub failing : Failures
 
 -- The bytes that are not yet taken.

@@ -4,7 +4,7 @@ ghost use Rattle.std.specs.Prelude.{◌≡◌, ◌++◌, ◌∷◌, [], ◌≤�
 ghost use Rattle.std.specs.Bool.{OnTrue};
 ghost use Rattle.std.specs.List.{list_any};
 ghost use Rattle.lava_streams.specs.Counts.{Rises};
-ghost use Rattle.lava_streams.specs.Failures.{fails_next, after_call, after_fault, due_after_call, one_more};
+ghost use Rattle.lava_streams.specs.Failures.{no_failures, failing_at, fails_next, after_call, after_fault, due_after_call, one_more};
 
 use lava_base::memory::OutOfMemory;
 use std::alloc::Global;
@@ -28,7 +28,7 @@ impl Model for Failing {
 impl Failing {
     /// No call is to fail, and there was no fault.
     pub fn new(alloc: Global) -> Failing
-        ensures { result ≡ record { due = []; faults = 0 } }
+        ensures { result ≡ no_failures }
     {
         Failing {
             due: Vec::new(alloc),
@@ -46,7 +46,7 @@ impl Failing {
     /// Lets the `n`-th call from now fail.
     pub fn fail_at(&mut self, n: u32) -> Result<(), OutOfMemory>
         requires { 1 ≤ n }
-        ensures ok { OnOk result (self.new ≡ record self.old { due = self.old.due ++ n ∷ [] }) }
+        ensures ok { OnOk result (self.new ≡ failing_at self.old n) }
         ensures err { OnErr result (self.new ≡ self.old) }
     {
         self.due.push(n)?;

@@ -27,30 +27,30 @@ pub enum FileRead {
 
 /// A folder, which may fail. It counts its faults, and may tell what it holds.
 pub trait Folder {
-    ghost use Rattle.std.specs.Prelude.{◌≡◌, ℕ, List as Listed, Option, IfOk};
+    ghost use Rattle.std.specs.Prelude.{◌≡◌, IfOk};
+    ghost use Rattle.lava_streams.specs.Files.{Files};
+    ghost use Rattle.lava_streams.specs.Outside.{Stand};
     ghost use Rattle.lava_streams.specs.Counts.{Counts, ForTold};
     ghost use Rattle.lava_streams.specs.Folders.{file_read, listing_of, IsWithin};
 
-    // The faults so far.
-    ghost count: { Self → ℕ };
-
-    // The files by path, in the order in which they were added, where it tells.
-    ghost told: { Self → Option (Listed (Listed ℕ × Listed ℕ)) };
+    // The faults so far, and the files by path, in the order in which they were added, where it tells.
+    ghost stand: { Self → Stand Files };
 
     /// The faults so far.
     fn faults(&self) -> u64
-        ensures { result ≡ count self.now };
+        ensures { result ≡ (stand self.now).count };
 
     /// The names that stand directly in a directory.
     fn list(&mut self, alloc: Global, dir: &str) -> Result<Listing, ReadFault>
-        ensures tells { told self.new ≡ told self.old }
-        ensures counts { Counts (count self.old) (count self.new) result }
-        ensures gives { ForTold (told self.old) (λ files. IfOk result (λ r. r ≡ listing_of files dir.now)) };
+        ensures tells { (stand self.new).told ≡ (stand self.old).told }
+        ensures counts { Counts (stand self.old).count (stand self.new).count result }
+        ensures gives { ForTold (stand self.old).told (λ files. IfOk result (λ r. r ≡ listing_of files dir.now)) };
 
     /// The bytes of a file that has at most `limit` of them.
     fn read(&mut self, alloc: Global, path: &str, limit: u32) -> Result<FileRead, ReadFault>
-        ensures tells { told self.new ≡ told self.old }
-        ensures counts { Counts (count self.old) (count self.new) result }
-        ensures gives { ForTold (told self.old) (λ files. IfOk result (λ r. r ≡ file_read files path.now limit)) }
+        ensures tells { (stand self.new).told ≡ (stand self.old).told }
+        ensures counts { Counts (stand self.old).count (stand self.new).count result }
+        ensures gives { let told = (stand self.old).told in
+            ForTold told (λ files. IfOk result (λ r. r ≡ file_read files path.now limit)) }
         ensures within { IfOk result (λ r. IsWithin limit r) };
 }

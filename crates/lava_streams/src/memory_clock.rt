@@ -1,7 +1,10 @@
 // A clock in memory.
 
-ghost use Rattle.std.specs.Prelude.{◌≡◌, ◌^◌, ◌<◌, ◌++◌, ◌∷◌, [], ◌≤◌, Some, is_ok, IfOk, OnOk, OnErr};
+ghost use Rattle.std.specs.Prelude.{◌≡◌, ◌++◌, ◌∷◌, [], ◌≤◌, Some, is_ok, IfOk, OnOk, OnErr};
+ghost use Rattle.lava_base.specs.declared.limits.TheConstants.{MAX_SAFE_INTEGER};
 ghost use Rattle.lava_streams.specs.Counts.{CountsFailed};
+ghost use Rattle.lava_streams.specs.Failures.{no_failures, failing_at};
+ghost use Rattle.lava_streams.specs.Left.{LeavesEnd};
 ghost use Rattle.lava_streams.specs.Moments.{IsNext};
 ghost use Rattle.lava_streams.specs.States.{gives_moment, after_now};
 
@@ -21,20 +24,21 @@ pub struct MemoryClock {
 }
 
 impl Model for MemoryClock {
-    ghost use Rattle.std.specs.Prelude.{◌^◌, ◌<◌, All};
+    ghost use Rattle.std.specs.Prelude.{◌≤◌, All};
+    ghost use Rattle.lava_base.specs.declared.limits.TheConstants.{MAX_SAFE_INTEGER};
     ghost use Rattle.lava_streams.specs.States.{ClockState};
 
     ghost Value = { ClockState };
 
     ghost view = { λ c. record { moments = c.moments; failing = c.failing } };
 
-    ghost invariant = { λ c. All (λ m. m < 2 ^ 53) c.moments };
+    ghost invariant = { λ c. All (λ m. m ≤ MAX_SAFE_INTEGER) c.moments };
 }
 
 impl MemoryClock {
     /// A clock without a moment. It takes no memory, and keeps the allocator for what is added.
     pub fn new(alloc: Global) -> MemoryClock
-        ensures { result ≡ record { moments = []; failing = record { due = []; faults = 0 } } }
+        ensures { result ≡ record { moments = []; failing = no_failures } }
     {
         MemoryClock {
             moments: List::new(alloc),
@@ -42,10 +46,11 @@ impl MemoryClock {
         }
     }
 
-    /// Adds a moment, which is below 2^53. After a refusal the clock is as before.
+    /// Adds a moment, which is a safe integer. After a refusal the clock is as before.
     pub fn add(&mut self, moment: u64) -> Result<(), OutOfMemory>
-        requires { moment < 2 ^ 53 }
-        ensures ok { OnOk result (self.new ≡ record self.old { moments = self.old.moments ++ moment ∷ [] }) }
+        requires { moment ≤ MAX_SAFE_INTEGER }
+        ensures ok { let moments = self.old.moments ++ moment ∷ [] in
+            OnOk result (self.new ≡ record self.old { moments = moments }) }
         ensures err { OnErr result (self.new ≡ self.old) }
     {
         self.moments.push(moment)
@@ -61,7 +66,8 @@ impl MemoryClock {
     /// Lets the `n`-th call of `now` from now fail. After a refusal the clock is as before.
     pub fn fail_at(&mut self, n: u32) -> Result<(), OutOfMemory>
         requires { 1 ≤ n }
-        ensures ok { OnOk result (self.new ≡ record self.old { failing = record self.old.failing { due = self.old.failing.due ++ n ∷ [] } }) }
+        ensures ok { let failing = failing_at self.old.failing n in
+            OnOk result (self.new ≡ record self.old { failing = failing }) }
         ensures err { OnErr result (self.new ≡ self.old) }
     {
         self.failing.fail_at(n)
@@ -69,9 +75,7 @@ impl MemoryClock {
 }
 
 impl Clock for MemoryClock {
-    ghost count = { λ c. c.failing.faults };
-
-    ghost told = { λ c. Some c.moments };
+    ghost stand = { λ c. record { count = c.failing.faults; told = Some c.moments } };
 
     fn faults(&self) -> u64
         ensures { result ≡ self.now.failing.faults }
@@ -82,8 +86,10 @@ impl Clock for MemoryClock {
     // It fails exactly where it is to, and then takes nothing, and where no moment is left.
     fn now(&mut self) -> Result<u64, Failed>
         ensures counts { CountsFailed self.old.failing.faults self.new.failing.faults result }
-        ensures gives { IfOk result (λ moment. IsNext self.old.moments moment (Some self.new.moments)) }
-        ensures within { IfOk result (λ moment. moment < 2 ^ 53) }
+        ensures gives { let now = Some self.new.moments in
+            IfOk result (λ moment. IsNext self.old.moments moment now) }
+        ensures err { OnErr result (LeavesEnd self.old.moments (Some self.new.moments)) }
+        ensures within { IfOk result (λ moment. moment ≤ MAX_SAFE_INTEGER) }
         ensures takes { is_ok result ≡ gives_moment self.old }
         ensures after { self.new ≡ after_now self.old }
     {

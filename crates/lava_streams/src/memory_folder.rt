@@ -2,7 +2,7 @@
 
 ghost use Rattle.std.specs.Prelude.{◌≡◌, ◌++◌, ◌∷◌, [], ◌≤◌, ◌↔◌, IsTrue, Some, IfOk, OnOk, OnErr, IsErrOf, option_copied};
 ghost use Rattle.lava_streams.specs.Counts.{Counts};
-ghost use Rattle.lava_streams.specs.Failures.{fails_next, after_call};
+ghost use Rattle.lava_streams.specs.Failures.{no_failures, failing_at, fails_next, after_call};
 ghost use Rattle.lava_streams.specs.Files.{file_at};
 ghost use Rattle.lava_streams.specs.Folders.{file_read, listing_of, IsWithin};
 
@@ -35,7 +35,7 @@ impl Model for MemoryFolder {
 impl MemoryFolder {
     /// A folder without a file. It takes no memory, and keeps the allocator for what is added.
     pub fn new(alloc: Global) -> MemoryFolder
-        ensures { result ≡ record { files = []; failing = record { due = []; faults = 0 } } }
+        ensures { result ≡ record { files = []; failing = no_failures } }
     {
         MemoryFolder {
             alloc,
@@ -46,7 +46,8 @@ impl MemoryFolder {
 
     /// Adds a file. Of two files with one path the later stands. After a refusal the folder is as before.
     pub fn add(&mut self, path: &str, bytes: &[u8]) -> Result<(), OutOfMemory>
-        ensures ok { OnOk result (self.new ≡ record self.old { files = self.old.files ++ (path.now, bytes.now) ∷ [] }) }
+        ensures ok { let files = self.old.files ++ (path.now, bytes.now) ∷ [] in
+            OnOk result (self.new ≡ record self.old { files = files }) }
         ensures err { OnErr result (self.new ≡ self.old) }
     {
         let path = Name::of(self.alloc, path)?;
@@ -64,7 +65,8 @@ impl MemoryFolder {
     /// Lets the `n`-th call of `list` or `read` from now fail. After a refusal the folder is as before.
     pub fn fail_at(&mut self, n: u32) -> Result<(), OutOfMemory>
         requires { 1 ≤ n }
-        ensures ok { OnOk result (self.new ≡ record self.old { failing = record self.old.failing { due = self.old.failing.due ++ n ∷ [] } }) }
+        ensures ok { let failing = failing_at self.old.failing n in
+            OnOk result (self.new ≡ record self.old { failing = failing }) }
         ensures err { OnErr result (self.new ≡ self.old) }
     {
         self.failing.fail_at(n)
@@ -72,9 +74,7 @@ impl MemoryFolder {
 }
 
 impl Folder for MemoryFolder {
-    ghost count = { λ f. f.failing.faults };
-
-    ghost told = { λ f. Some f.files };
+    ghost stand = { λ f. record { count = f.failing.faults; told = Some f.files } };
 
     fn faults(&self) -> u64
         ensures { result ≡ self.now.failing.faults }

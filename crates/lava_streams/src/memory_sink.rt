@@ -2,7 +2,7 @@
 
 ghost use Rattle.std.specs.Prelude.{◌≡◌, ◌+◌, ◌++◌, ◌∷◌, [], ◌≤◌, length, vec_len, vec_capacity, Some, is_ok, IfOk, OnOk, OnErr};
 ghost use Rattle.lava_streams.specs.Counts.{CountsFailed};
-ghost use Rattle.lava_streams.specs.Failures.{fails_next, after_call};
+ghost use Rattle.lava_streams.specs.Failures.{no_failures, failing_at, fails_next, after_call};
 ghost use Rattle.lava_streams.specs.Pieces.{AppendsPrefix};
 ghost use Rattle.lava_streams.specs.States.{takes_piece, after_put};
 
@@ -35,7 +35,7 @@ impl Model for MemorySink {
 impl MemorySink {
     /// An empty sink with room for `room` bytes. It takes all the memory that the sink ever needs for them.
     pub fn with_room(alloc: Global, room: u32) -> Result<MemorySink, OutOfMemory>
-        ensures { IfOk result (λ sink. sink ≡ record { bytes = []; room = room; failing = record { due = []; faults = 0 } }) }
+        ensures { IfOk result (λ sink. sink ≡ record { bytes = []; room = room; failing = no_failures }) }
     {
         Ok(MemorySink {
             bytes: Vec::with_capacity(alloc, room as usize)?,
@@ -54,7 +54,8 @@ impl MemorySink {
     /// Lets the `n`-th call of `put` from now fail. After a refusal the sink is as before.
     pub fn fail_at(&mut self, n: u32) -> Result<(), OutOfMemory>
         requires { 1 ≤ n }
-        ensures ok { OnOk result (self.new ≡ record self.old { failing = record self.old.failing { due = self.old.failing.due ++ n ∷ [] } }) }
+        ensures ok { let failing = failing_at self.old.failing n in
+            OnOk result (self.new ≡ record self.old { failing = failing }) }
         ensures err { OnErr result (self.new ≡ self.old) }
     {
         self.failing.fail_at(n)
@@ -62,9 +63,7 @@ impl MemorySink {
 }
 
 impl Sink for MemorySink {
-    ghost count = { λ s. s.failing.faults };
-
-    ghost told = { λ s. Some s.bytes };
+    ghost stand = { λ s. record { count = s.failing.faults; told = Some s.bytes } };
 
     fn faults(&self) -> u64
         ensures { result ≡ self.now.failing.faults }

@@ -3,7 +3,8 @@
 ghost use Rattle.std.specs.Prelude.{◌≡◌, ◌++◌, ◌∷◌, [], ◌≤◌, ◌↔◌, ◌==◌, length, position, IsTrue, Some, IfOk, OnOk, OnErr, IsErrOf};
 ghost use Rattle.std.specs.List.{position_or_len};
 ghost use Rattle.lava_streams.specs.Counts.{Counts};
-ghost use Rattle.lava_streams.specs.Failures.{fails_next, after_call};
+ghost use Rattle.lava_streams.specs.Failures.{no_failures, failing_at, fails_next, after_call};
+ghost use Rattle.lava_streams.specs.Left.{LeavesEnd};
 ghost use Rattle.lava_streams.specs.Lines.{line_of, IsWithinLine};
 
 use crate::failing::Failing;
@@ -32,7 +33,7 @@ impl Model for MemorySource {
 impl MemorySource {
     /// An input without a byte. It takes no memory, and keeps the allocator for what is given.
     pub fn new(alloc: Global) -> MemorySource
-        ensures { result ≡ record { bytes = []; failing = record { due = []; faults = 0 } } }
+        ensures { result ≡ record { bytes = []; failing = no_failures } }
     {
         MemorySource {
             bytes: List::new(alloc),
@@ -42,7 +43,8 @@ impl MemorySource {
 
     /// Appends bytes to the input. After a refusal the input is as before.
     pub fn give(&mut self, bytes: &[u8]) -> Result<(), OutOfMemory>
-        ensures ok { OnOk result (self.new ≡ record self.old { bytes = self.old.bytes ++ bytes.now }) }
+        ensures ok { let bytes = self.old.bytes ++ bytes.now in
+            OnOk result (self.new ≡ record self.old { bytes = bytes }) }
         ensures err { OnErr result (self.new ≡ self.old) }
     {
         self.bytes.extend_from_slice(bytes)
@@ -58,7 +60,8 @@ impl MemorySource {
     /// Lets the `n`-th call of `line` from now fail. After a refusal the input is as before.
     pub fn fail_at(&mut self, n: u32) -> Result<(), OutOfMemory>
         requires { 1 ≤ n }
-        ensures ok { OnOk result (self.new ≡ record self.old { failing = record self.old.failing { due = self.old.failing.due ++ n ∷ [] } }) }
+        ensures ok { let failing = failing_at self.old.failing n in
+            OnOk result (self.new ≡ record self.old { failing = failing }) }
         ensures err { OnErr result (self.new ≡ self.old) }
     {
         self.failing.fail_at(n)
@@ -66,9 +69,7 @@ impl MemorySource {
 }
 
 impl Source for MemorySource {
-    ghost count = { λ s. s.failing.faults };
-
-    ghost told = { λ s. Some s.bytes };
+    ghost stand = { λ s. record { count = s.failing.faults; told = Some s.bytes } };
 
     fn faults(&self) -> u64
         ensures { result ≡ self.now.failing.faults }
@@ -79,8 +80,10 @@ impl Source for MemorySource {
     // Every call counts towards those that are to fail, also one that finds no memory for its answer. It fails exactly where it is to. After a fault no byte is taken.
     fn line(&mut self, alloc: Global) -> Result<Line, ReadFault>
         ensures counts { Counts self.old.failing.faults self.new.failing.faults result }
-        ensures gives { IfOk result (λ line. (line ≡ (line_of self.old.bytes).0) × (self.new.bytes ≡ (line_of self.old.bytes).1)) }
+        ensures gives { let first = line_of self.old.bytes in
+            IfOk result (λ line. (line ≡ first.0) × (self.new.bytes ≡ first.1)) }
         ensures within { IfOk result IsWithinLine }
+        ensures err { OnErr result (LeavesEnd self.old.bytes (Some self.new.bytes)) }
         ensures keeps { OnErr result (self.new.bytes ≡ self.old.bytes) }
         ensures after { self.new.failing ≡ after_call self.old.failing }
         ensures fails { IsErrOf result ReadFault.Failed ↔ IsTrue (fails_next self.old.failing) }
@@ -94,7 +97,8 @@ impl Source for MemorySource {
 
 // Takes the first line. After a refusal nothing is taken.
 fn take_line(alloc: Global, bytes: &mut List<u8>) -> Result<Line, OutOfMemory>
-    ensures gives { IfOk result (λ line. (line ≡ (line_of bytes.old).0) × (bytes.new ≡ (line_of bytes.old).1)) }
+    ensures gives { let first = line_of bytes.old in
+        IfOk result (λ line. (line ≡ first.0) × (bytes.new ≡ first.1)) }
     ensures within { IfOk result IsWithinLine }
     ensures err { OnErr result (bytes.new ≡ bytes.old) }
 {

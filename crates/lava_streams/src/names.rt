@@ -28,7 +28,8 @@ pub fn names_directly_in(
 
 // Adds the name that a path has directly in the directory, if it has one that is not there yet.
 fn add_name(alloc: Global, names: &mut Vec<Name>, dir: &str, path: &str) -> Result<(), OutOfMemory>
-    ensures { OnOk result (names.new.items ≡ with_name_of names.old.items (name_in dir.now path.now)) }
+    ensures { let name = name_in dir.now path.now in
+        OnOk result (names.new.items ≡ with_name_of names.old.items name) }
 {
     if let Some(name) = direct_name(dir, path) {
         if let Some(at) = vacant_place(names.as_slice(), name) {
@@ -50,7 +51,8 @@ fn direct_name<'a>(dir: &str, path: &'a str) -> Option<&'a str>
 
 // What stands in a path behind a directory and a `/`.
 fn below<'a>(dir: &str, path: &'a str) -> Option<&'a str>
-    ensures { MatchOption result ((rest : Listed ℕ) → path.now ≢ dir.now ++ 47 ∷ rest) (λ rest. path.now ≡ dir.now ++ 47 ∷ rest.now) }
+    ensures { let no_path = (rest : Listed ℕ) → path.now ≢ dir.now ++ 47 ∷ rest in
+        MatchOption result no_path (λ rest. path.now ≡ dir.now ++ 47 ∷ rest.now) }
 {
     match path.strip_prefix(dir) {
         Some(rest) => rest.strip_prefix('/'),
@@ -70,7 +72,9 @@ fn first_part(path: &str) -> &str
 
 // Where a name belongs among names in byte order, unless it stands there already.
 fn vacant_place(names: &[Name], name: &str) -> Option<usize>
-    ensures { MatchOption result (with_name names.now name.now ≡ names.now) (λ at. (at ≤ length names.now) × (with_name names.now name.now ≡ insert names.now at name.now)) }
+    ensures { let more = with_name names.now name.now in
+        MatchOption result (more ≡ names.now)
+        (λ at. (at ≤ length names.now) × (more ≡ insert names.now at name.now)) }
 {
     for (at, other) in names.iter().enumerate() {
         match name.cmp(other.as_str()) {

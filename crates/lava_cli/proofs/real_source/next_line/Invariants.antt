@@ -1,4 +1,4 @@
-use Rattle.lava_cli.specs.Outside.{IsBegun}
+use Rattle.lava_cli.specs.Adapters.{IsBegun}
 use Rattle.lava_cli.proofs.real_source.next_line.Given as goal
 
 abbrev pub invariant-loop : goal.invariant-loop

@@ -1,0 +1,70 @@
+// What a line asks for.
+
+/// What a line asks for.
+#[derive(Clone, Copy, Debug)]
+pub enum Kind {
+    /// `run SOURCE`: runs this file, over objects in memory.
+    Run,
+    /// `words WORDS`: calls the program with these words.
+    Words,
+    /// `missing`: runs a folder without the file.
+    Missing,
+    /// `bytes N`: runs a file of this many bytes.
+    Bytes,
+    /// `folder N`: the N-th call on the folder fails.
+    FolderFails,
+    /// `output N`: the N-th call on the output fails.
+    OutputFails,
+    /// `errors N`: the N-th call on the errors fails.
+    ErrorsFail,
+    /// `read LIMIT PATH`: reads one of the system's files.
+    Read,
+    /// `list PATH`: lists one of the system's directories.
+    List,
+    /// `list_empty`: lists a new directory.
+    ListEmpty,
+    /// `lines TEXT`: reads the lines of a pipe, by two bytes at a time.
+    Lines,
+    /// `long_lines`: reads lines about the limit.
+    LongLines,
+    /// `halting_source`: reads lines of a stream that halts.
+    HaltingSource,
+    /// `halting_sink`: puts into a stream that halts.
+    HaltingSink,
+    /// `put PIECES`: puts these pieces into a file, and reads it.
+    Put,
+    /// `full`: puts into a full device.
+    Full,
+    /// `clock`: takes a moment.
+    Clock,
+}
+
+static KINDS: [(&str, Kind); 17] = [
+    ("run", Kind::Run),
+    ("words", Kind::Words),
+    ("missing", Kind::Missing),
+    ("bytes", Kind::Bytes),
+    ("folder", Kind::FolderFails),
+    ("output", Kind::OutputFails),
+    ("errors", Kind::ErrorsFail),
+    ("read", Kind::Read),
+    ("list", Kind::List),
+    ("list_empty", Kind::ListEmpty),
+    ("lines", Kind::Lines),
+    ("long_lines", Kind::LongLines),
+    ("halting_source", Kind::HaltingSource),
+    ("halting_sink", Kind::HaltingSink),
+    ("put", Kind::Put),
+    ("full", Kind::Full),
+    ("clock", Kind::Clock),
+];
+
+/// The kind of that name.
+pub fn kind_of(name: &str) -> Option<Kind> {
+    for (word, kind) in &KINDS {
+        if *word == name {
+            return Some(*kind);
+        }
+    }
+    None
+}

@@ -1,0 +1,58 @@
+// The worked rows: for each line of the input, `KIND REST`, it does what the line says, and prints what came of it. In a line `|` is a line feed and `~` a NUL.
+#![tactic(auto)]
+
+mod fault;
+mod files;
+mod halting;
+mod kind;
+mod memory;
+mod shown;
+mod streams;
+
+use crate::fault::Fault;
+use crate::kind::{Kind, kind_of};
+use std::io;
+
+fn main(rt: HostRuntime) -> io::Result<()> {
+    for line in rt.lines(rt.alloc()) {
+        let line = line?;
+        match row(&rt, line.as_str()) {
+            Ok(shown) => println!(rt; "{shown}")?,
+            Err(fault) => println!(rt; "{fault}")?,
+        }
+    }
+    Ok(())
+}
+
+/// What came of a line.
+fn row(rt: &HostRuntime, line: &str) -> Result<String, Fault> {
+    let (kind, rest) = line.split_once(' ').unwrap_or((line, ""));
+    match kind_of(kind) {
+        Some(kind) => row_of(rt, kind, rest),
+        None => Err(Fault::Line),
+    }
+}
+
+/// What came of a line of this kind.
+fn row_of(rt: &HostRuntime, kind: Kind, rest: &str) -> Result<String, Fault> {
+    let alloc = rt.alloc();
+    match kind {
+        Kind::Run => memory::run(alloc, rest),
+        Kind::Words => memory::words(alloc, rest),
+        Kind::Missing => memory::missing(alloc),
+        Kind::Bytes => memory::bytes(alloc, rest),
+        Kind::FolderFails => memory::folder_fails(alloc, rest),
+        Kind::OutputFails => memory::output_fails(alloc, rest),
+        Kind::ErrorsFail => memory::errors_fail(alloc, rest),
+        Kind::Read => files::read(rt, rest),
+        Kind::List => files::list(rt, rest),
+        Kind::ListEmpty => files::list_empty(rt),
+        Kind::Lines => streams::lines(rt, rest),
+        Kind::LongLines => streams::long_lines(alloc),
+        Kind::HaltingSource => halting::source(alloc),
+        Kind::HaltingSink => halting::sink(alloc),
+        Kind::Put => streams::put(rt, rest),
+        Kind::Full => streams::full(rt),
+        Kind::Clock => streams::clock(rt),
+    }
+}
