@@ -15,7 +15,7 @@ pub mod Number_laws
 pub mod Number_rests
 pub mod Number_steps
 pub mod Numbers_taken
-pub mod Orders
+pub mod Slices
 pub mod Passing_laws
 pub mod Punctuator_laws
 pub mod Quoted_laws
@@ -24,5 +24,6 @@ pub mod Rule_steps
 pub mod Runs
 pub mod Scan_steps
 pub mod Sequences
+pub mod Tests
 pub mod Texts
 pub mod Words_taken

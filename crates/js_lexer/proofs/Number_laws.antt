@@ -11,78 +11,9 @@ use Rattle.js_lexer.specs.declared.numbers.Radix.TheVariants.{Hexadecimal, Octal
 use Rattle.js_lexer.specs.declared.numbers.NumberPart.{NumberPart}
 use Rattle.js_lexer.specs.declared.numbers.NumberPart.TheVariants.{Start, LeadingPoint, Zero, Integer, IntegerSeparator, Point, Fraction, FractionSeparator, ExponentIndicator, ExponentSign, ExponentDigits, ExponentSeparator, RadixPrefix, RadixDigits, RadixSeparator, BigIntSuffix}
 use Rattle.js_lexer.proofs.Machine_laws.{Reads, exact, bad_stays, EndsIn, cut_goes_on}
-use Rattle.js_lexer.proofs.Rule_steps.{LeavesEnd, follows_leaves, stops_leaves}
+use Rattle.js_lexer.proofs.Rule_steps.{follows_leaves, stops_leaves}
 use Rattle.js_lexer.proofs.Number_rests.{Kind, plain, with_separators, big, gives, number_rest}
-use Rattle.js_lexer.proofs.Number_steps.{steps_to}
-
--- at the end of the text
-
-ends_at : (part : NumberPart) (k : Kind) → LeavesEnd number_step number_stop number_rest gives part k (number_stop part)
-ends_at Start plain = refl
-ends_at Start with_separators = refl
-ends_at Start big = refl
-ends_at LeadingPoint plain = refl
-ends_at LeadingPoint with_separators = refl
-ends_at LeadingPoint big = refl
-ends_at Zero plain = refl
-ends_at Zero with_separators = refl
-ends_at Zero big = refl
-ends_at (Integer false) plain = refl
-ends_at (Integer true) plain = refl
-ends_at (Integer false) with_separators = refl
-ends_at (Integer true) with_separators = refl
-ends_at (Integer false) big = refl
-ends_at (Integer true) big = refl
-ends_at IntegerSeparator plain = refl
-ends_at IntegerSeparator with_separators = refl
-ends_at IntegerSeparator big = refl
-ends_at (Point false) plain = refl
-ends_at (Point true) plain = refl
-ends_at (Point false) with_separators = refl
-ends_at (Point true) with_separators = refl
-ends_at (Point false) big = refl
-ends_at (Point true) big = refl
-ends_at (Fraction false) plain = refl
-ends_at (Fraction true) plain = refl
-ends_at (Fraction false) with_separators = refl
-ends_at (Fraction true) with_separators = refl
-ends_at (Fraction false) big = refl
-ends_at (Fraction true) big = refl
-ends_at FractionSeparator plain = refl
-ends_at FractionSeparator with_separators = refl
-ends_at FractionSeparator big = refl
-ends_at (ExponentIndicator false) plain = refl
-ends_at (ExponentIndicator true) plain = refl
-ends_at (ExponentIndicator s) with_separators = refl
-ends_at (ExponentIndicator s) big = refl
-ends_at (ExponentSign false) plain = refl
-ends_at (ExponentSign true) plain = refl
-ends_at (ExponentSign s) with_separators = refl
-ends_at (ExponentSign s) big = refl
-ends_at (ExponentDigits false) plain = refl
-ends_at (ExponentDigits true) plain = refl
-ends_at (ExponentDigits false) with_separators = refl
-ends_at (ExponentDigits true) with_separators = refl
-ends_at (ExponentDigits false) big = refl
-ends_at (ExponentDigits true) big = refl
-ends_at ExponentSeparator plain = refl
-ends_at ExponentSeparator with_separators = refl
-ends_at ExponentSeparator big = refl
-ends_at (RadixPrefix r) plain = refl
-ends_at (RadixPrefix r) with_separators = refl
-ends_at (RadixPrefix r) big = refl
-ends_at (RadixDigits r false) plain = refl
-ends_at (RadixDigits r true) plain = refl
-ends_at (RadixDigits r false) with_separators = refl
-ends_at (RadixDigits r true) with_separators = refl
-ends_at (RadixDigits r false) big = refl
-ends_at (RadixDigits r true) big = refl
-ends_at (RadixSeparator r) plain = refl
-ends_at (RadixSeparator r) with_separators = refl
-ends_at (RadixSeparator r) big = refl
-ends_at BigIntSuffix plain = refl
-ends_at BigIntSuffix with_separators = refl
-ends_at BigIntSuffix big = refl
+use Rattle.js_lexer.proofs.Number_steps.{steps_to, stops_at}
 
 -- what is read from the start on
 abbrev pub read_number : List ℕ → Reading Numeral
@@ -92,7 +23,7 @@ reads : (k : Kind) (xs ys : List ℕ) → Leads (number_rest Start k) xs ys ↔ 
 reads k xs ys =
     exact number_step number_stop number_rest gives
     (λ part c. follows_leaves number_step number_stop number_rest gives part c (number_step part c) (steps_to part c))
-    (λ part. stops_leaves number_step number_stop number_rest gives part (number_stop part) (ends_at part))
+    (λ part. stops_leaves number_step number_stop number_rest gives part (number_stop part) (stops_at part))
     Start k xs ys
 
 -- the outcomes of each kind

@@ -1,6 +1,6 @@
 // The tokens of a source.
 
-ghost use Rattle.std.specs.Prelude.{◌≡◌, ◌+◌, ◌≤◌, ℕ, ◌++◌, [], length, List as Listed, IfOk, IfErr, OnOk, OnErr};
+ghost use Rattle.std.specs.Prelude.{◌≡◌, ◌+◌, ◌≤◌, ℕ, ◌++◌, [], length, List as Listed, All, IfOk, IfErr, OnOk, OnErr};
 ghost use Rattle.std.specs.Str.{IsUtf8, IsValidUpTo, chars, encode_utf8_all};
 ghost use Rattle.lava_base.specs.declared.place.Place.{Place};
 ghost use Rattle.js_tree.specs.declared.fault.SyntaxFault.TheVariants as faults;
@@ -9,6 +9,7 @@ ghost use Rattle.js_tree.specs.declared.fault.SyntaxWhat.TheVariants as what;
 ghost use Rattle.js_lexer.specs.Answers.{HasCause, GivesTokens, Refuses, IsFault, StandInOrder};
 ghost use Rattle.js_lexer.specs.Lexing.{AfterTake, AfterRun, IsFaultOf, IsBrokenFault};
 ghost use Rattle.js_lexer.specs.Sources.{State, IsKind, IsTokens, pushed, opening, behind_mark, begins_hashbang, behind_hashbang};
+ghost use Rattle.js_lexer.specs.Spelled.{IsTextOf};
 ghost use Rattle.js_lexer.specs.Spots.{IsSound, over_all};
 ghost use Rattle.js_lexer.specs.declared.element.Element.{Element};
 ghost use Rattle.js_lexer.specs.declared.element.Element.TheVariants as elements;
@@ -228,13 +229,14 @@ fn kind_of(element: Element, bytes: &[u8]) -> TokenKind
 ///
 /// It answers `NotUtf8`, `BadToken` or `Unsupported` (`bigint`, `separator`, `escape`, `private`, `decorator`) at the first byte or token that is so,
 /// and `OutOfMemory` also for a source of more than 4,294,967,280 bytes.
-#[tactic(auto, using(crate::proofs::Answers_laws::only_tokens, crate::proofs::Answers_laws::only_fault, crate::proofs::Orders::in_order))]
+#[tactic(auto, using(crate::proofs::Answers_laws::only_tokens, crate::proofs::Answers_laws::only_fault, crate::proofs::Slices::in_order, crate::proofs::Slices::texts_are_slices))]
 pub fn tokens(alloc: Global, source: &[u8]) -> Result<List<Token>, SyntaxFault>
     ensures tokens { IfOk result (λ tokens. IsTokens source.now tokens) }
     ensures only { (tokens : Listed Token) → IsTokens source.now tokens → GivesTokens result tokens }
     ensures cause { IfErr result (HasCause source.now) }
     ensures refused { (place : Place) (what : SyntaxWhat) → IsFault source.now place what → Refuses result place what }
     ensures in_order { IfOk result (λ tokens. StandInOrder 0 tokens (length source.now)) }
+    ensures texts_are_slices { IfOk result (λ tokens. All (IsTextOf source.now) tokens) }
 {
     if source.len() > MAX_SOURCE as usize {
         return Err(SyntaxFault::OutOfMemory);

@@ -1,5 +1,5 @@
 -- The text of a token.
-use Rattle.std.specs.Prelude.{◌≡◌, ℕ, Bool, List, [], ◌∷◌, ◌++◌, slice_range}
+use Rattle.std.specs.Prelude.{◌≡◌, ℕ, Bool, List, ◌++◌, slice_range}
 use Rattle.std.specs.Str.{encode_utf8_all}
 use Rattle.js_lexer.specs.declared.element.Element.{Element}
 use Rattle.js_lexer.specs.declared.token.Token.{Token}
@@ -11,8 +11,3 @@ abbrev pub IsTextOf : List ℕ → Token → Type 0
 IsTextOf bytes t =
     (within : Bool) × (e : Element) × (w : List ℕ) × (left : List ℕ)
     × (slice_range bytes t.from t.to ≡ encode_utf8_all w) × IsElement within e (w ++ left) left × IsKind e w t.kind
-
--- a fact of each token
-abbrev pub Each : (Token → Type 0) → List Token → Type 0
-Each P [] = Unit {0}
-Each P (t ∷ ts) = P t × Each P ts
