@@ -25,6 +25,7 @@ use Rattle.js_lexer.proofs.Continuations.{element_bad, element_cut}
 use Rattle.js_lexer.proofs.Exactly.{Exactly}
 use Rattle.js_lexer.proofs.Numbers_taken.{element_exactly, nothing_shows}
 use Rattle.js_lexer.proofs.Runs.{Ends, one_end, none_ends, shows_ends, empty_ends, taken_is_element, left_out_shows, stopped_is_none}
+use Rattle.js_lexer.proofs.Tests.{equal}
 
 -- a refusal has its cause
 
@@ -76,9 +77,6 @@ end_cause bytes n s u v run e = subst (λ z. IsNotUtf8 bytes (over_all s.spot z)
 one_length : (bytes : List ℕ) (m n : ℕ) → IsValidUpTo bytes m → IsValidUpTo bytes n → m ≡ n
 one_length bytes m n a b = by_order (m == n) (nat_lt m n) refl refl
   where
-    equal : (m n : ℕ) → (m == n) ≡ true → m ≡ n
-    equal m n h = grind (arith, nat_tests)
-
     less : (m n : ℕ) → nat_lt m n ≡ true → m < n
     less m n h = grind (arith, nat_tests)
 

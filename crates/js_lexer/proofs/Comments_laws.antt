@@ -13,7 +13,8 @@ use Rattle.js_lexer.specs.Skipping.{skip}
 use Rattle.js_lexer.proofs.Derivatives.{behind, may_be_empty, goes, stuck_there, ends_before, ends_there}
 use Rattle.js_lexer.proofs.Machine_laws.{Follows, Stops, Reads, exact}
 use Rattle.js_lexer.proofs.Sequences.{past_lookahead, no_lookahead}
-use Rattle.js_lexer.proofs.Escapes_laws.{by_test, always}
+use Rattle.js_lexer.proofs.Escapes_laws.{always}
+use Rattle.js_lexer.proofs.Tests.{by_test, differ, equal}
 
 abbrev in_comment : Rule
 in_comment = Or (One not_asterisk) (Then (char 42) (NotBefore (is 47)))
@@ -31,9 +32,6 @@ Right r c (Go t) = (cs ys : List ℕ) → Leads r (c ∷ cs) ys ↔ Leads (comme
 Right r c (With o) = (cs ys : List ℕ) → Leads r (c ∷ cs) ys ↔ (ys ≡ cs)
 Right r c (Before o) = (cs ys : List ℕ) → Leads r (c ∷ cs) ys ↔ (ys ≡ c ∷ cs)
 Right r c Bad = (cs ys : List ℕ) → Leads r (c ∷ cs) ys → ⊥
-
-equal : (c n : ℕ) → (c == n) ≡ true → c ≡ n
-equal c n h = grind (arith, nat_tests)
 
 inside_right : (c : ℕ) → Right rest_of_comment c (inside_step c)
 inside_right c =
@@ -59,9 +57,6 @@ asterisk_right c =
     ))
     (λ h. instead (comment_rest comments.Asterisk tt) c (inside_step c) (no_slash h) (inside_right c))
   where
-    differ : (b : Bool) → b ≡ false → b ≡ true → ⊥
-    differ b h k = cc
-
     no_slash : (c == 47) ≡ false → (cs ys : List ℕ) → Leads (comment_rest comments.Asterisk tt) (c ∷ cs) ys ↔ Leads rest_of_comment (c ∷ cs) ys
     no_slash h cs ys =
         let same : Leads (Then (Then (NotBefore (is 47)) (Many in_comment)) comment_end) (c ∷ cs) ys ↔ Leads rest_of_comment (c ∷ cs) ys

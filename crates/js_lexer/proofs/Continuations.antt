@@ -40,6 +40,7 @@ use Rattle.js_lexer.specs.Scanning.{Taking, refused, escape_reading, left_out, w
 use Rattle.js_lexer.specs.Skipping.{skip}
 use Rattle.js_lexer.proofs.Machine_laws.{bad_stays, EndsIn, cut_goes_on}
 use Rattle.js_lexer.proofs.Number_laws.{number_bad, number_cut}
+use Rattle.js_lexer.proofs.Tests.{both, equal}
 
 -- an element was taken, or a form that is left out
 abbrev Lasts : Taking → Type 0
@@ -70,7 +71,7 @@ bad_not_cut h = cc
 keeps_bad : (cs : List ℕ) → Keeps (λ zs. refused stops.Bad) cs
 keeps_bad cs = (λ h more. refl, λ h. absurd (bad_not_cut h))
 
--- by the two cases of a test on what stands before
+-- by the both cases of a test on what stands before
 keeps_test : (b : Bool) (f g : List ℕ → Taking) (cs : List ℕ) → (b ≡ true → Keeps f cs) → (b ≡ false → Keeps g cs) → Keeps (λ zs. cond b (f zs) (g zs)) cs
 keeps_test true f g cs k l = k refl
 keeps_test false f g cs k l = l refl
@@ -263,19 +264,12 @@ anywhere p ys h = by_punctuator p h
     by_punctuator punctuators.Slash h = absurd (cc)
     by_punctuator _ h = refl
 
-equal : (c n : ℕ) → (c == n) ≡ true → c ≡ n
-equal c n h = grind (arith, nat_tests)
-
 named_anywhere : (c : ℕ) (es : List (ℕ × Punctuator)) (p : Punctuator) → (c == 46) ≡ false → (c == 47) ≡ false → all_anywhere es ≡ true → named c es ≡ Some p → stands_anywhere p ≡ true
 named_anywhere c [] p d s h k = absurd (cc)
 named_anywhere c (e ∷ es) p d s h k =
-    let t : ((e.0 == 46 || e.0 == 47 || stands_anywhere e.1) ≡ true) × (all_anywhere es ≡ true) = two (e.0 == 46 || e.0 == 47 || stands_anywhere e.1) (all_anywhere es) h in
+    let t : ((e.0 == 46 || e.0 == 47 || stands_anywhere e.1) ≡ true) × (all_anywhere es ≡ true) = both (e.0 == 46 || e.0 == 47 || stands_anywhere e.1) (all_anywhere es) h in
     by_head (c == e.0) refl k t (λ l. named_anywhere c es p d s t.1 l)
   where
-    two : (a b : Bool) → (a && b) ≡ true → (a ≡ true) × (b ≡ true)
-    two true b h = (refl, h)
-    two false b h = absurd (cc)
-
     third : (a b c : Bool) → a ≡ false → b ≡ false → (a || b || c) ≡ true → c ≡ true
     third a b c h k l = cc
 

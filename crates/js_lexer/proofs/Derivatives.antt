@@ -2,6 +2,7 @@
 use Rattle.std.proofs.Common.{◌≡◌, ◌↔◌, ◌⊎◌, inl, inr, ℕ, Bool, true, false, cond, ◌&&◌, ◌||◌, not, List, [], ◌∷◌, ◌++◌, Option, Some, None, refl, sym, ap, subst, ◌∙◌, length, append_assoc, length-append, arith}
 use Rattle.js_lexer.specs.Characters.{first_of}
 use Rattle.js_lexer.specs.Rules.{Rule, Never, Nothing, One, NotBefore, Then, Or, Many, OnlyIf, Steps, stay, step, Leads}
+use Rattle.js_lexer.proofs.Tests.{both, both_true, differ, not_false, or_left, or_right}
 
 -- whether the rule may take nothing where this character comes next
 abbrev pub may_be_empty : Rule → Option ℕ → Bool
@@ -142,20 +143,6 @@ front (OnlyIf a test) xs ys (w, e, t, h) = (w, e)
 
 -- at the end of the text
 
-both : (a b : Bool) → (a && b) ≡ true → (a ≡ true) × (b ≡ true)
-both true b h = (refl, h)
-both false b h = absurd (cc)
-
-both_true : (a b : Bool) → a ≡ true → b ≡ true → (a && b) ≡ true
-both_true a b h k = rw (h, k) refl
-
-or_left : (a b : Bool) → a ≡ true → (a || b) ≡ true
-or_left a b h = rw h refl
-
-or_right : (a b : Bool) → b ≡ true → (a || b) ≡ true
-or_right true b h = refl
-or_right false b h = h
-
 either : (a b : Bool) → (a || b) ≡ true → (a ≡ true) ⊎ (b ≡ true)
 either true b h = inl refl
 either false b h = inr h
@@ -197,11 +184,7 @@ takes_none Never xs n e h = absurd (cc)
 takes_none Nothing xs n e h = refl
 takes_none (One p) xs n e h = absurd (cc)
 takes_none (NotBefore p) [] n e h = (refl, refl)
-takes_none (NotBefore p) (x ∷ xs) n e h = (refl, not_true (p x) (subst (λ m. may_be_empty (NotBefore p) m ≡ true) e h))
-  where
-    not_true : (b : Bool) → not b ≡ true → b ≡ false
-    not_true true h = cc
-    not_true false h = refl
+takes_none (NotBefore p) (x ∷ xs) n e h = (refl, not_false (p x) (subst (λ m. may_be_empty (NotBefore p) m ≡ true) e h))
 takes_none (Then a b) xs n e h =
     let i : (may_be_empty a n ≡ true) × (may_be_empty b n ≡ true) = both (may_be_empty a n) (may_be_empty b n) h in
     (xs, takes_none a xs n e i.0, takes_none b xs n e i.1)
@@ -303,10 +286,6 @@ takes_some r c cs e h =
       | inr i ↦
           let j : (w : List ℕ) × (cs ≡ w ++ c ∷ cs) = front (behind r c) cs (c ∷ cs) i in longer c cs j.0 j.1
     ]
-  where
-    differ : (b : Bool) → b ≡ false → b ≡ true → ⊥
-    differ b h k = cc
-
 cond_true : (b : Bool) (r : Rule) (xs ys : List ℕ) → Leads (cond b r Never) xs ys → (b ≡ true) × Leads r xs ys
 cond_true true r xs ys h = (refl, h)
 cond_true false r xs ys h = absurd h
@@ -349,14 +328,11 @@ at_character r c cs ys = (
 
 -- what a character does to a rule
 
-false_true : (b : Bool) → b ≡ false → b ≡ true → ⊥
-false_true b h k = cc
-
 -- the rule goes on as another
 pub goes : (r q : Rule) (c : ℕ) (cs ys : List ℕ) → may_be_empty r (Some c) ≡ false → behind r c ≡ q → Leads r (c ∷ cs) ys ↔ Leads q cs ys
 goes r q c cs ys e d = (
   λ h. elim (reads_from r c cs ys h) [
-    | inl i ↦ absurd (false_true (may_be_empty r (Some c)) e i.0)
+    | inl i ↦ absurd (differ (may_be_empty r (Some c)) e i.0)
     | inr i ↦ subst (λ z. Leads z cs ys) d i
   ],
   λ h. behind_to r c cs ys (subst (λ z. Leads z cs ys) (sym d) h),
@@ -386,4 +362,4 @@ pub ends_there : (r : Rule) (ys : List ℕ) → may_be_empty r None ≡ true →
 ends_there r ys e = (λ h. (end_only r ys h).1, λ h. (at_end r ys).1 (e, h))
 
 pub stuck_there : (r : Rule) (ys : List ℕ) → may_be_empty r None ≡ false → Leads r [] ys → ⊥
-stuck_there r ys e h = false_true (may_be_empty r None) e ((end_only r ys h).0)
+stuck_there r ys e h = differ (may_be_empty r None) e ((end_only r ys h).0)

@@ -12,6 +12,7 @@ use Rattle.js_lexer.specs.Machines.{run}
 use Rattle.js_lexer.specs.Escapes.{escape_step, escape_stop, hex_step, digits_step, first_step, unicode_step, backslash_step}
 use Rattle.js_lexer.proofs.Derivatives.{behind, may_be_empty, goes, ends, stuck, stuck_there}
 use Rattle.js_lexer.proofs.Machine_laws.{Follows, Stops, Reads, exact}
+use Rattle.js_lexer.proofs.Tests.{and_false, both, by_test, differ}
 
 -- the digits that write v; past the greatest code point no state has such a v
 abbrev after_digits : ℕ → Rule
@@ -38,11 +39,6 @@ Right s c x = (cs ys : List ℕ) → ForStep x cs ys
     ForStep (With o) cs ys = Leads (escape_rest s) (c ∷ cs) ys ↔ (ys ≡ cs)
     ForStep (Before o) cs ys = Leads (escape_rest s) (c ∷ cs) ys ↔ (ys ≡ c ∷ cs)
     ForStep Bad cs ys = Leads (escape_rest s) (c ∷ cs) ys → ⊥
-
--- by the two cases of a test
-pub by_test : {A : Type 0} (P : A → Type 0) (b : Bool) (x y : A) → (b ≡ true → P x) → (b ≡ false → P y) → P (cond b x y)
-by_test P true x y f g = f refl
-by_test P false x y f g = g refl
 
 backslash_right : (c : ℕ) → Right escapes.Backslash c (backslash_step c)
 backslash_right c =
@@ -155,12 +151,9 @@ goes_to v c h k d cs ys =
 past : (v c : ℕ) → (c == 125) ≡ false → nat_lt v 0x11000 ≡ false → (cs ys : List ℕ) → Leads (Then (code_point_after v) (char 125)) (c ∷ cs) ys → ⊥
 past v c h large cs ys (ms, (w, e, t, lead), k) = by_front w ms e t k
   where
-    not_that : (a : Bool) → a ≡ false → a ≡ true → ⊥
-    not_that a f g = cc
-
     at_once : (ms : List ℕ) → c ∷ cs ≡ ms → Leads (char 125) ms ys → ⊥
     at_once [] e k = absurd k
-    at_once (x ∷ xs) e k = let f : c ≡ x = cc in not_that (c == 125) h (subst (λ z. (z == 125) ≡ true) (sym f) k.0)
+    at_once (x ∷ xs) e k = let f : c ≡ x = cc in differ (c == 125) h (subst (λ z. (z == 125) ≡ true) (sym f) k.0)
 
     beyond : (x : ℕ) (w : List ℕ) → nat_le (hex_from v (x ∷ w)) 0x10FFFF ≡ true → ⊥
     beyond x w t = too_far v (hex_value x) (hex_from (v * 16 + hex_value x) w) large (grows (v * 16 + hex_value x) w) t
@@ -192,11 +185,6 @@ code_point_right v c =
     (λ h. by_test (Right (escapes.CodePoint v) c) (nat_lt v 0x11000 && is_hex_digit c) _ _
     (λ k. let p : (nat_lt v 0x11000 ≡ true) × (is_hex_digit c ≡ true) = both (nat_lt v 0x11000) (is_hex_digit c) k in goes_to v c h p.0 p.1)
     (too_large v c h))
-  where
-    both : (a b : Bool) → (a && b) ≡ true → (a ≡ true) × (b ≡ true)
-    both true b h = (refl, h)
-    both false b h = absurd (cc)
-
 right : (s : Escape) (c : ℕ) → Right s c (escape_step s c)
 right escapes.Backslash c = backslash_right c
 right escapes.Unicode c = unicode_right c
@@ -218,10 +206,6 @@ follows_of s c Bad r = λ k cs ys. r cs ys
 -- each step follows what is left of the escape
 pub follows : (s : Escape) (c : ℕ) → Follows escape_step escape_stop kinds_rest always s c (escape_step s c)
 follows s c = follows_of s c (escape_step s c) (right s c)
-
-and_false : (a : Bool) → (a && false) ≡ false
-and_false true = refl
-and_false false = refl
 
 pub never_empty : (s : Escape) (n : Option ℕ) → may_be_empty (escape_rest s) n ≡ false
 never_empty escapes.Backslash n = refl

@@ -1,11 +1,14 @@
 -- Which characters begin which elements.
-use Rattle.std.proofs.Common.{◌≡◌, ◌<◌, ◌⊎◌, inl, inr, ℕ, ◌==◌, ◌||◌, ◌&&◌, Bool, true, false, not, nat_le, nat_lt, List, [], ◌∷◌, refl, sym, subst, ◌∙◌, arith}
+use Rattle.std.proofs.Common.{◌≡◌, ◌<◌, ◌⊎◌, inl, inr, ℕ, ◌==◌, ◌||◌, ◌&&◌, Bool, true, false, cond, not, nat_le, nat_lt, List, [], ◌∷◌, Some, None, is_some, refl, sym, ap, subst, ◌∙◌, arith}
 use Rattle.std.proofs.lemmas.Bool.Decides.{nat_tests}
 use Rattle.std.specs.Char.{is_ascii_alphabetic}
 use Rattle.unicode_ident.specs.Ident.{is_xid_start}
 use Rattle.unicode_ident.proofs.IdentLemmas.{is_xid_start-ascii}
 use Rattle.unicode_ident.proofs.Computing.{unicode_ident}
+use Rattle.js_lexer.specs.declared.punctuators.Punctuator.{Punctuator}
 use Rattle.js_lexer.specs.Characters.{is_name_start, is_digit, is_white_space, is_line_terminator}
+use Rattle.js_lexer.specs.Punctuators.{single, singles, named}
+use Rattle.js_lexer.proofs.Tests.{apart, both, equal, not_false}
 
 start_is : (c : ℕ) → is_name_start c ≡ (c == 36 || c == 95 || is_xid_start c)
 unfolding is_name_start
@@ -48,9 +51,6 @@ other_no_start n h k =
     parts false true c h = absurd (cc)
     parts false false c h = (refl, refl, h)
 
-equal : (c n : ℕ) → (c == n) ≡ true → c ≡ n
-equal c n h = grind (arith, nat_tests)
-
 -- Unicode's spaces and line ends begin no name
 no_xid : (n : ℕ) → is_xid_start n ≡ false → (n == 36 || n == 95) ≡ false → is_name_start n ≡ false
 no_xid n e h = start_is n ∙ all (n == 36 || n == 95) (is_xid_start n) h e
@@ -72,10 +72,6 @@ wide_no_start = refl
 abbrev among : ℕ → List ℕ → Bool
 among c [] = false
 among c (n ∷ ns) = c == n || among c ns
-
-not_false : (b : Bool) → not b ≡ true → b ≡ false
-not_false true h = cc
-not_false false h = refl
 
 three : (a b c : Bool) → (a && b && c) ≡ true → (a ≡ true) × (b ≡ true) × (c ≡ true)
 three true true c h = (refl, refl, h)
@@ -121,3 +117,28 @@ space_no_start c h =
 
     no_line : (c : ℕ) → (is_white_space c || is_line_terminator c) ≡ true → (c == 95) ≡ false
     no_line c h = grind (arith, nat_tests)
+
+-- no punctuator begins with a character of a class of which none does
+
+abbrev none_of : (ℕ → Bool) → List (ℕ × Punctuator) → Bool
+none_of p [] = true
+none_of p (e ∷ es) = not (p e.0) && none_of p es
+
+none_named : (p : ℕ → Bool) (c : ℕ) (es : List (ℕ × Punctuator)) → p c ≡ true → none_of p es ≡ true → named c es ≡ None
+none_named p c [] h k = refl
+none_named p c (e ∷ es) h k =
+    let q : (not (p e.0) ≡ true) × (none_of p es ≡ true) = both (not (p e.0)) (none_of p es) k in
+    ap (λ b. cond b (Some e.1) (named c es)) (apart p c e.0 h (not_false (p e.0) q.0)) ∙ none_named p c es h q.1
+
+pub digit_no_mark : (c : ℕ) → is_digit c ≡ true → is_some (single c) ≡ false
+digit_no_mark c h = ap is_some (none_named is_digit c singles h refl)
+
+pub space_no_mark : (c : ℕ) → (is_white_space c || is_line_terminator c) ≡ true → is_some (single c) ≡ false
+space_no_mark c h = ap is_some (none_named (λ c. is_white_space c || is_line_terminator c) c singles h refl)
+
+no_name : none_of is_name_start singles ≡ true
+unfolding is_name_start unicode_ident
+no_name = refl
+
+pub start_no_mark : (c : ℕ) → is_name_start c ≡ true → is_some (single c) ≡ false
+start_no_mark c h = ap is_some (none_named is_name_start c singles h no_name)

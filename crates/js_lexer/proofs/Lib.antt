@@ -10,7 +10,6 @@ pub mod Keyword_laws
 pub mod Lexer_laws
 pub mod Machine_laws
 pub mod Marks_taken
-pub mod Number_characters
 pub mod Number_laws
 pub mod Number_rests
 pub mod Number_steps

@@ -1,17 +1,22 @@
 -- Each step of the machine that reads numeric literals is what the character leaves of the grammar: a table of the characters that literals have,
 -- which the checker computes for each part of a literal, and one line a part for all other characters.
-use Rattle.std.proofs.Common.{◌≡◌, ℕ, Bool, true, false, ◌==◌, List, [], ◌∷◌, map, None, refl, arith}
+use Rattle.std.proofs.Common.{◌≡◌, ℕ, Bool, true, false, cond, ◌&&◌, not, ◌==◌, List, [], ◌∷◌, map, None, refl, sym, arith}
 use Rattle.std.proofs.lemmas.Bool.Decides.{nat_tests}
 use Rattle.unicode_ident.proofs.Computing.{unicode_ident}
 use Rattle.std.specs.Int.{is_in_range}
 use Rattle.js_lexer.specs.Characters.{is_digit, is_name_start, bars_number_end}
 use Rattle.js_lexer.specs.Grammar.{is_nonzero_digit, is_octal_digit}
-use Rattle.js_lexer.specs.Numbers.{number_step, number_stop}
+use Rattle.js_lexer.specs.Numbers.{number_step, number_stop, number_end, is_radix_digit}
+use Rattle.js_lexer.specs.Rules.{Never}
+use Rattle.js_lexer.specs.declared.machine.Step.TheVariants.{Before, Bad}
+use Rattle.js_lexer.specs.declared.numbers.Numeral.{Numeral}
+use Rattle.js_lexer.specs.declared.numbers.Radix.{Radix}
 use Rattle.js_lexer.specs.declared.numbers.Radix.TheVariants.{Hexadecimal, Octal, Binary}
 use Rattle.js_lexer.specs.declared.numbers.NumberPart.{NumberPart}
 use Rattle.js_lexer.specs.declared.numbers.NumberPart.TheVariants.{Start, LeadingPoint, Zero, Integer, IntegerSeparator, Point, Fraction, FractionSeparator, ExponentIndicator, ExponentSign, ExponentDigits, ExponentSeparator, RadixPrefix, RadixDigits, RadixSeparator, BigIntSuffix}
 use Rattle.js_lexer.proofs.Derivatives.{may_be_empty}
-use Rattle.js_lexer.proofs.Rule_steps.{Agrees, AgreesAt, Leaves, empty_there, grammar_at, machine_at, is_one_of, entry, other_than, parts, three}
+use Rattle.js_lexer.proofs.Rule_steps.{Agrees, AgreesAt, Leaves, empty_by, left_by, empty_there, grammar_at, machine_at, is_one_of, entry, other_than, parts, three}
+use Rattle.js_lexer.proofs.Tests.{and_false, and_true}
 use Rattle.js_lexer.proofs.Number_rests.{Kind, plain, with_separators, big, gives, number_rest}
 
 abbrev kinds : List Kind
@@ -83,74 +88,55 @@ no_capital c o = grind (arith, nat_tests)
 no_small : (c : ℕ) → Other c → is_in_range 97 102 c ≡ false
 no_small c o = grind (arith, nat_tests)
 
-ruleset others = (not_this, no_digit, no_nonzero_digit, no_octal_digit, no_capital, no_small)
+no_radix_digit : (r : Radix) (c : ℕ) → Other c → is_radix_digit r c ≡ false
+no_radix_digit Hexadecimal c o = simp (no_digit, no_capital, no_small)
+no_radix_digit Octal c o = no_octal_digit c o
+no_radix_digit Binary c o = simp not_this
+
+ruleset others = (not_this, no_digit, no_nonzero_digit, no_octal_digit, no_capital, no_small, no_radix_digit)
 
 abbrev Ends : NumberPart → ℕ → Type 0
 Ends part c = Agrees number_step number_stop number_rest gives kinds part c
 
-ends : (part : NumberPart) (c : ℕ) (b : Bool) → bars_number_end c ≡ b → Other c → Ends part c
-ends Start c true e o = simp (others, e)
-ends Start c false e o = simp (others, e)
-ends LeadingPoint c true e o = simp (others, e)
-ends LeadingPoint c false e o = simp (others, e)
-ends Zero c true e o = simp (others, e)
-ends Zero c false e o = simp (others, e)
-ends (Integer false) c true e o = simp (others, e)
-ends (Integer false) c false e o = simp (others, e)
-ends (Integer true) c true e o = simp (others, e)
-ends (Integer true) c false e o = simp (others, e)
-ends IntegerSeparator c true e o = simp (others, e)
-ends IntegerSeparator c false e o = simp (others, e)
-ends (Point false) c true e o = simp (others, e)
-ends (Point false) c false e o = simp (others, e)
-ends (Point true) c true e o = simp (others, e)
-ends (Point true) c false e o = simp (others, e)
-ends (Fraction false) c true e o = simp (others, e)
-ends (Fraction false) c false e o = simp (others, e)
-ends (Fraction true) c true e o = simp (others, e)
-ends (Fraction true) c false e o = simp (others, e)
-ends FractionSeparator c true e o = simp (others, e)
-ends FractionSeparator c false e o = simp (others, e)
-ends (ExponentIndicator false) c true e o = simp (others, e)
-ends (ExponentIndicator false) c false e o = simp (others, e)
-ends (ExponentIndicator true) c true e o = simp (others, e)
-ends (ExponentIndicator true) c false e o = simp (others, e)
-ends (ExponentSign false) c true e o = simp (others, e)
-ends (ExponentSign false) c false e o = simp (others, e)
-ends (ExponentSign true) c true e o = simp (others, e)
-ends (ExponentSign true) c false e o = simp (others, e)
-ends (ExponentDigits false) c true e o = simp (others, e)
-ends (ExponentDigits false) c false e o = simp (others, e)
-ends (ExponentDigits true) c true e o = simp (others, e)
-ends (ExponentDigits true) c false e o = simp (others, e)
-ends ExponentSeparator c true e o = simp (others, e)
-ends ExponentSeparator c false e o = simp (others, e)
-ends (RadixPrefix Hexadecimal) c true e o = simp (others, e)
-ends (RadixPrefix Hexadecimal) c false e o = simp (others, e)
-ends (RadixPrefix Octal) c true e o = simp (others, e)
-ends (RadixPrefix Octal) c false e o = simp (others, e)
-ends (RadixPrefix Binary) c true e o = simp (others, e)
-ends (RadixPrefix Binary) c false e o = simp (others, e)
-ends (RadixDigits Hexadecimal false) c true e o = simp (others, e)
-ends (RadixDigits Hexadecimal false) c false e o = simp (others, e)
-ends (RadixDigits Hexadecimal true) c true e o = simp (others, e)
-ends (RadixDigits Hexadecimal true) c false e o = simp (others, e)
-ends (RadixDigits Octal false) c true e o = simp (others, e)
-ends (RadixDigits Octal false) c false e o = simp (others, e)
-ends (RadixDigits Octal true) c true e o = simp (others, e)
-ends (RadixDigits Octal true) c false e o = simp (others, e)
-ends (RadixDigits Binary false) c true e o = simp (others, e)
-ends (RadixDigits Binary false) c false e o = simp (others, e)
-ends (RadixDigits Binary true) c true e o = simp (others, e)
-ends (RadixDigits Binary true) c false e o = simp (others, e)
-ends (RadixSeparator Hexadecimal) c true e o = simp (others, e)
-ends (RadixSeparator Hexadecimal) c false e o = simp (others, e)
-ends (RadixSeparator Octal) c true e o = simp (others, e)
-ends (RadixSeparator Octal) c false e o = simp (others, e)
-ends (RadixSeparator Binary) c true e o = simp (others, e)
-ends (RadixSeparator Binary) c false e o = simp (others, e)
-ends BigIntSuffix c true e o = simp (others, e)
-ends BigIntSuffix c false e o = simp (others, e)
+-- before a character that bars its end a literal is none
+end_empty : (n : Numeral) (c : ℕ) (k : Kind) → empty_by number_step number_stop number_rest gives (number_end n c) k ≡ (gives n k && not (bars_number_end c))
+end_empty n c k = by_bar (bars_number_end c)
+  where
+    by_bar : (b : Bool) → empty_by number_step number_stop number_rest gives (cond b Bad (Before n)) k ≡ (gives n k && not b)
+    by_bar true = sym (and_false (gives n k))
+    by_bar false = sym (and_true (gives n k))
+
+end_left : (n : Numeral) (c : ℕ) (k : Kind) → left_by number_step number_stop number_rest gives (number_end n c) k ≡ Never
+end_left n c k = by_bar (bars_number_end c)
+  where
+    by_bar : (b : Bool) → left_by number_step number_stop number_rest gives (cond b Bad (Before n)) k ≡ Never
+    by_bar true = refl
+    by_bar false = refl
+
+ends : (part : NumberPart) (c : ℕ) → Other c → Ends part c
+ends Start c o = simp others
+ends LeadingPoint c o = simp others
+ends Zero c o = simp (others, end_empty, end_left)
+ends (Integer false) c o = simp (others, end_empty, end_left)
+ends (Integer true) c o = simp (others, end_empty, end_left)
+ends IntegerSeparator c o = simp others
+ends (Point false) c o = simp (others, end_empty, end_left)
+ends (Point true) c o = simp (others, end_empty, end_left)
+ends (Fraction false) c o = simp (others, end_empty, end_left)
+ends (Fraction true) c o = simp (others, end_empty, end_left)
+ends FractionSeparator c o = simp others
+ends (ExponentIndicator false) c o = simp others
+ends (ExponentIndicator true) c o = simp others
+ends (ExponentSign false) c o = simp others
+ends (ExponentSign true) c o = simp others
+ends (ExponentDigits false) c o = simp (others, end_empty, end_left)
+ends (ExponentDigits true) c o = simp (others, end_empty, end_left)
+ends ExponentSeparator c o = simp others
+ends (RadixPrefix r) c o = simp others
+ends (RadixDigits r false) c o = simp (others, end_empty, end_left)
+ends (RadixDigits r true) c o = simp (others, end_empty, end_left)
+ends (RadixSeparator r) c o = simp others
+ends BigIntSuffix c o = simp (end_empty, end_left)
 
 -- at each character, and at the end of the text
 
@@ -159,7 +145,7 @@ agrees part c = by_table (is_one_of characters c) refl
   where
     by_table : (b : Bool) → is_one_of characters c ≡ b → Ends part c
     by_table true h = entry (grammar_at number_step number_stop number_rest gives kinds part) (machine_at number_step number_stop number_rest gives kinds part) characters c (table part).0 h
-    by_table false h = ends part c (bars_number_end c) refl h
+    by_table false h = ends part c h
 
 pub steps_to : (part : NumberPart) (c : ℕ) (k : Kind) → Leaves number_step number_stop number_rest gives part k c (number_step part c)
 steps_to part c k = of_kind k (agrees part c)

@@ -3,6 +3,7 @@ use Rattle.std.proofs.Common.{◌≡◌, ◌↔◌, ℕ, ◌≤◌, ◌==◌, �
 use Rattle.js_lexer.specs.Punctuators.{text_of, follows, Stands, IsPunctuator, singles, named, single, with_equals, twice, if_next, extended, grows, grown, dots, question, started, begun, punctuator_of}
 use Rattle.js_lexer.specs.declared.punctuators.Punctuator.{Punctuator}
 use Rattle.js_lexer.specs.declared.punctuators.Punctuator.TheVariants.{LeftBrace, Dot, Ellipsis, Less, Greater, Equal, NotEqual, Plus, Minus, Star, Slash, Percent, StarStar, ShiftLeft, ShiftRight, UnsignedShiftRight, Ampersand, Bar, Caret, Exclamation, LogicalAnd, LogicalOr, Coalesce, Question, OptionalChain, Assign}
+use Rattle.js_lexer.proofs.Tests.{both, by_test, equal}
 
 -- what is found, from a punctuator with this behind it: it stands at the same place, and is no shorter
 record Grows (p : Punctuator) (cs : List ℕ) (r : Punctuator × List ℕ) : Type 0 where
@@ -52,23 +53,16 @@ twice_longer Assign = (refl, λ ys. refl)
 twice_longer _ = tt
 
 -- a test of a number that came out true
-equal_numbers : (a b : ℕ) → (a == b) ≡ true → a ≡ b
-equal_numbers a b h = grind (arith, h)
-
 -- a choice by a test
-by_test : {T : Type 0} (P : T → Type 0) (b : Bool) (x y : T) → (b ≡ true → P x) → (b ≡ false → P y) → P (cond b x y)
-by_test P true x y f g = f refl
-by_test P false x y f g = g refl
-
 if_next_longer : (p : Punctuator) (c : ℕ) (o : Option (ℕ × Punctuator)) → IfSome o (λ e. IsLonger p e.0 e.1) → IfSome (if_next c o) (λ q. IsLonger p c q)
 if_next_longer p c None h = tt
 if_next_longer p c (Some e) h =
-    by_test (λ o. IfSome o (λ q. IsLonger p c q)) (c == e.0) (Some e.1) None (λ t. subst (λ z. IsLonger p z e.1) (sym (equal_numbers c e.0 t)) h) (λ _. tt)
+    by_test (λ o. IfSome o (λ q. IsLonger p c q)) (c == e.0) (Some e.1) None (λ t. subst (λ z. IsLonger p z e.1) (sym (equal c e.0 t)) h) (λ _. tt)
 
 extended_longer : (p : Punctuator) (c : ℕ) → IfSome (extended p c) (λ q. IsLonger p c q)
 extended_longer p c =
     by_test (λ o. IfSome o (λ q. IsLonger p c q)) (c == 61) (with_equals p) (if_next c (twice p))
-    (λ t. subst (λ z. IfSome (with_equals p) (λ q. IsLonger p z q)) (sym (equal_numbers c 61 t)) (equals_longer p))
+    (λ t. subst (λ z. IfSome (with_equals p) (λ q. IsLonger p z q)) (sym (equal c 61 t)) (equals_longer p))
     (λ _. if_next_longer p c (twice p) (twice_longer p))
 
 -- growing
@@ -89,10 +83,6 @@ grown_grows : (p : Punctuator) (cs : List ℕ) → follows p cs ≡ true → Gro
 grown_grows p [] f = record { same = refl; longer = omega arith; next = f }
 grown_grows p (c ∷ cs) f = grows_by p c cs (extended p c) f (extended_longer p c) (λ q. grown_grows q cs)
 
-both : (a b : Bool) → (a && b) ≡ true → (a ≡ true) × (b ≡ true)
-both true b h = (refl, h)
-both false b h = absurd (cc)
-
 dots_grow : (cs : List ℕ) → follows Dot cs ≡ true → Grows Dot cs (dots cs)
 dots_grow [] f = record { same = refl; longer = omega arith; next = f }
 dots_grow (c ∷ []) f = record { same = refl; longer = omega arith; next = f }
@@ -102,8 +92,8 @@ dots_grow (c ∷ d ∷ cs) f =
     three : (c == 46 && d == 46) ≡ true → Grows Dot (c ∷ d ∷ cs) (Ellipsis, cs)
     three t =
         let i : ((c == 46) ≡ true) × ((d == 46) ≡ true) = both (c == 46) (d == 46) t in
-        let u : c ≡ 46 = equal_numbers c 46 i.0 in
-        let v : d ≡ 46 = equal_numbers d 46 i.1 in
+        let u : c ≡ 46 = equal c 46 i.0 in
+        let v : d ≡ 46 = equal d 46 i.1 in
         record { same = rw (u, v) refl; longer = omega arith; next = refl }
 
 question_grows : (cs : List ℕ) → Grows Question cs (question cs)
@@ -114,7 +104,7 @@ question_grows (c ∷ cs) =
     chain : (c == 46 && follows OptionalChain cs) ≡ true → Grows Question (c ∷ cs) (OptionalChain, cs)
     chain t =
         let i : ((c == 46) ≡ true) × (follows OptionalChain cs ≡ true) = both (c == 46) (follows OptionalChain cs) t in
-        let u : c ≡ 46 = equal_numbers c 46 i.0 in
+        let u : c ≡ 46 = equal c 46 i.0 in
         record { same = rw u refl; longer = omega arith; next = i.1 }
 
 started_grows : (p : Punctuator) (cs : List ℕ) → follows p cs ≡ true → Grows p cs (started p cs)
@@ -132,7 +122,7 @@ named_single : (c : ℕ) (es : List (ℕ × Punctuator)) → AllNamed es → IfS
 named_single c [] h = tt
 named_single c (e ∷ es) h =
     by_test (λ o. IfSome o (λ p. text_of p ≡ c ∷ [])) (c == e.0) (Some e.1) (named c es)
-    (λ t. h.0 ∙ ap (λ z. z ∷ []) (sym (equal_numbers c e.0 t)))
+    (λ t. h.0 ∙ ap (λ z. z ∷ []) (sym (equal c e.0 t)))
     (λ _. named_single c es h.1)
 
 single_text : (c : ℕ) → IfSome (single c) (λ p. text_of p ≡ c ∷ [])

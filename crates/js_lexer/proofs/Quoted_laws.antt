@@ -21,7 +21,8 @@ use Rattle.js_lexer.specs.Quoted.{quoted_step, quoted_stop, part_step, plain_ste
 use Rattle.js_lexer.proofs.Derivatives.{behind, may_be_empty, goes, ends, stuck, stuck_there, takes_some}
 use Rattle.js_lexer.proofs.Machine_laws.{Follows, Stops, Reads, exact}
 use Rattle.js_lexer.proofs.Sequences.{past_lookahead, no_lookahead, first_goes, first_ends, first_stuck}
-use Rattle.js_lexer.proofs.Escapes_laws.{escape_rest, by_test, kinds_rest, always, follows as escape_follows, never_empty as escape_never_empty}
+use Rattle.js_lexer.proofs.Escapes_laws.{escape_rest, kinds_rest, always, follows as escape_follows, never_empty as escape_never_empty}
+use Rattle.js_lexer.proofs.Tests.{and_false, by_test, differ, equal}
 
 -- the characters between the quotes, and what ends them
 abbrev pub character_of : Quote → Rule
@@ -75,18 +76,11 @@ Right r c Bad = (k : End) (cs ys : List ℕ) → Leads (r k) (c ∷ cs) ys → �
 
 -- a character in a string
 
-equal : (c n : ℕ) → (c == n) ≡ true → c ≡ n
-equal c n h = grind (arith, nat_tests)
-
 and_true : {A B : Type 0} → A ↔ B → A ↔ ((true ≡ true) × B)
 and_true f = (λ a. (refl, f.0 a), λ p. f.1 p.1)
 
 and_never : {A B : Type 0} (b : Bool) → b ≡ false → (A → ⊥) → A ↔ ((b ≡ true) × B)
 and_never b e f = (λ a. absurd (f a), λ p. absurd (differ b e p.0))
-  where
-    differ : (b : Bool) → b ≡ false → b ≡ true → ⊥
-    differ b h k = cc
-
 double_closes : (k : End) (cs ys : List ℕ) → Leads (body quotes.Double k) (34 ∷ cs) ys ↔ ((same_end the_ends.Closed k ≡ true) × (ys ≡ cs))
 double_closes the_ends.Closed cs ys = and_true (ends (body quotes.Double the_ends.Closed) 34 cs ys refl refl)
 double_closes the_ends.Substitution cs ys = and_never false refl (stuck (body quotes.Double the_ends.Substitution) 34 cs ys refl refl)
@@ -288,9 +282,6 @@ return_right q c =
       λ l. (l.0, (c ∷ cs, inr (refl, h), l.1), l.2),
     )
       where
-        differ : (b : Bool) → b ≡ false → b ≡ true → ⊥
-        differ b h k = cc
-
         only : (xs : List ℕ) → Leads (Then lf_or_not (Many (character_of q))) (c ∷ cs) xs → Leads (Many (character_of q)) (c ∷ cs) xs
         only xs (ms, inl i, m) = absurd (differ (c == 10) h i.0)
         only xs (ms, inr i, m) = subst (λ z. Leads (Many (character_of q)) z xs) (sym i.0) m
@@ -301,9 +292,6 @@ dollar_right q c =
     (λ h. brace h)
     (λ h. instead (dollar_rest q) q c (plain_step q c) (no_brace h) (plain_right q c))
   where
-    differ : (b : Bool) → b ≡ false → b ≡ true → ⊥
-    differ b h k = cc
-
     brace : (c == 123) ≡ true → (k : End) (cs ys : List ℕ) → Leads (dollar_rest q k) (c ∷ cs) ys ↔ ((same_end the_ends.Substitution k ≡ true) × (ys ≡ cs))
     brace h the_ends.Closed cs ys = and_never false refl (no_lookahead (is 123) (Many (character_of q)) (close_of q the_ends.Closed) (c ∷ cs) ys h)
     brace h the_ends.Substitution cs ys = (
@@ -343,10 +331,6 @@ follows_of s c (Before o) r = r
 follows_of s c Bad r = r
 
 -- no text ends within its quotes
-
-and_false : (a : Bool) → (a && false) ≡ false
-and_false true = refl
-and_false false = refl
 
 open_there : (a : Rule) (q : Quote) (k : End) → may_be_empty (Then a (close_of q k)) None ≡ false
 open_there a quotes.Double the_ends.Closed = and_false (may_be_empty a None)

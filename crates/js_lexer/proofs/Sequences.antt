@@ -1,6 +1,7 @@
 -- What a character does to the first part of a sequence.
 use Rattle.std.proofs.Common.{◌≡◌, ◌↔◌, ℕ, Bool, true, false, List, refl, sym, subst}
 use Rattle.js_lexer.specs.Rules.{Rule, NotBefore, Then, Leads, begins_with}
+use Rattle.js_lexer.proofs.Tests.{differ}
 
 -- a lookahead in front
 pub past_lookahead : (p : ℕ → Bool) (m e : Rule) (xs ys : List ℕ) → begins_with p xs ≡ false → Leads (Then (Then (NotBefore p) m) e) xs ys ↔ Leads (Then m e) xs ys
@@ -10,10 +11,7 @@ past_lookahead p m e xs ys h = (
 )
 
 pub no_lookahead : (p : ℕ → Bool) (m e : Rule) (xs ys : List ℕ) → begins_with p xs ≡ true → Leads (Then (Then (NotBefore p) m) e) xs ys → ⊥
-no_lookahead p m e xs ys h k = differ (begins_with p xs) h (k.1.1.1)
-  where
-    differ : (b : Bool) → b ≡ true → b ≡ false → ⊥
-    differ b h k = cc
+no_lookahead p m e xs ys h k = differ (begins_with p xs) (k.1.1.1) h
 
 -- the first part goes on
 pub first_goes : (a b m e : Rule) (xs zs ys : List ℕ) → ((ms : List ℕ) → Leads a xs ms ↔ Leads b zs ms) → Leads (Then (Then a m) e) xs ys ↔ Leads (Then (Then b m) e) zs ys
