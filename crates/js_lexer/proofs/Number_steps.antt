@@ -15,7 +15,7 @@ use Rattle.js_lexer.specs.declared.numbers.Radix.TheVariants.{Hexadecimal, Octal
 use Rattle.js_lexer.specs.declared.numbers.NumberPart.{NumberPart}
 use Rattle.js_lexer.specs.declared.numbers.NumberPart.TheVariants.{Start, LeadingPoint, Zero, Integer, IntegerSeparator, Point, Fraction, FractionSeparator, ExponentIndicator, ExponentSign, ExponentDigits, ExponentSeparator, RadixPrefix, RadixDigits, RadixSeparator, BigIntSuffix}
 use Rattle.js_lexer.proofs.Derivatives.{may_be_empty}
-use Rattle.js_lexer.proofs.Rule_steps.{Agrees, AgreesAt, Leaves, empty_by, left_by, empty_there, grammar_at, machine_at, is_one_of, entry, other_than, parts, three}
+use Rattle.js_lexer.proofs.Rule_steps.{Agrees, AgreesAt, Leaves, agrees, empty_by, left_by, empty_there, is_one_of, other_than, parts, three}
 use Rattle.js_lexer.proofs.Tests.{and_false, and_true}
 use Rattle.js_lexer.proofs.Number_rests.{Kind, plain, with_separators, big, gives, number_rest}
 
@@ -140,15 +140,8 @@ ends BigIntSuffix c o = simp (end_empty, end_left)
 
 -- at each character, and at the end of the text
 
-agrees : (part : NumberPart) (c : ℕ) → Ends part c
-agrees part c = by_table (is_one_of characters c) refl
-  where
-    by_table : (b : Bool) → is_one_of characters c ≡ b → Ends part c
-    by_table true h = entry (grammar_at number_step number_stop number_rest gives kinds part) (machine_at number_step number_stop number_rest gives kinds part) characters c (table part).0 h
-    by_table false h = ends part c h
-
 pub steps_to : (part : NumberPart) (c : ℕ) (k : Kind) → Leaves number_step number_stop number_rest gives part k c (number_step part c)
-steps_to part c k = of_kind k (agrees part c)
+steps_to part c k = of_kind k (agrees number_step number_stop number_rest gives characters kinds part (table part) (ends part) c)
   where
     of_kind : (k : Kind) → Ends part c → Leaves number_step number_stop number_rest gives part k c (number_step part c)
     of_kind plain e = parts _ _ (three _ _ _ _ _ _ e).0

@@ -6,7 +6,7 @@ use Rattle.js_lexer.specs.declared.machine.Stop.{Stop}
 use Rattle.js_lexer.specs.Rules.{Rule, Never, Nothing, Leads}
 use Rattle.js_lexer.proofs.Derivatives.{may_be_empty, behind, goes, ends, ends_before, stuck, ends_there, stuck_there}
 use Rattle.js_lexer.proofs.Machine_laws.{Follows, Stops}
-use Rattle.js_lexer.proofs.Tests.{equal, differ, not_true}
+use Rattle.js_lexer.proofs.Tests.{differ, equal, not_true}
 
 -- before the character if the outcome is of the kind
 before : (b : Bool) (r : Rule) (c : ℕ) (cs ys : List ℕ) → may_be_empty r (Some c) ≡ b → behind r c ≡ Never → Leads r (c ∷ cs) ys ↔ ((b ≡ true) × (ys ≡ c ∷ cs))
@@ -23,6 +23,19 @@ there : (b : Bool) (r : Rule) (ys : List ℕ) → may_be_empty r None ≡ b → 
 there true r ys e =
     let i : Leads r [] ys ↔ (ys ≡ []) = ends_there r ys e in (λ h. (refl, i.0 h), λ h. i.1 h.1)
 there false r ys e = (λ h. absurd (stuck_there r ys e h), λ h. absurd (cc))
+
+-- what two tables say, they say at each of their characters
+abbrev pub is_one_of : List ℕ → ℕ → Bool
+is_one_of [] c = false
+is_one_of (n ∷ ns) c = c == n || is_one_of ns c
+
+pub entry : {A : Type 0} (f g : ℕ → A) (ns : List ℕ) (c : ℕ) → map f ns ≡ map g ns → is_one_of ns c ≡ true → f c ≡ g c
+entry f g [] c e h = absurd (cc)
+entry f g (n ∷ ns) c e h = by_head (c == n) refl h (entry f g ns c (cc))
+  where
+    by_head : (b : Bool) → (c == n) ≡ b → (b || is_one_of ns c) ≡ true → (is_one_of ns c ≡ true → f c ≡ g c) → f c ≡ g c
+    by_head true i k again = subst (λ z. f z ≡ g z) (sym (equal c n i)) (cc)
+    by_head false i k again = again k
 
 module _ {S O K : Type 0} (step : S → ℕ → Step S O) (stop : S → Result O Stop) (rest : S → K → Rule) (gives : O → K → Bool) where
   -- what a step leaves of the rule, and whether the rule may be empty before the character
@@ -70,18 +83,13 @@ module _ {S O K : Type 0} (step : S → ℕ → Step S O) (stop : S → Result O
       (map (grammar_at ks s) ns ≡ map (machine_at ks s) ns)
       × (map (λ k. may_be_empty (rest s k) None) ks ≡ map (λ k. empty_there (stop s) k) ks)
 
--- the table says it at each of its characters
-abbrev pub is_one_of : List ℕ → ℕ → Bool
-is_one_of [] c = false
-is_one_of (n ∷ ns) c = c == n || is_one_of ns c
-
-pub entry : {A : Type 0} (f g : ℕ → A) (ns : List ℕ) (c : ℕ) → map f ns ≡ map g ns → is_one_of ns c ≡ true → f c ≡ g c
-entry f g [] c e h = absurd (cc)
-entry f g (n ∷ ns) c e h = by_head (c == n) refl h (entry f g ns c (cc))
-  where
-    by_head : (b : Bool) → (c == n) ≡ b → (b || is_one_of ns c) ≡ true → (is_one_of ns c ≡ true → f c ≡ g c) → f c ≡ g c
-    by_head true i k again = subst (λ z. f z ≡ g z) (sym (equal c n i)) (cc)
-    by_head false i k again = again k
+  -- so at every character, if the others agree too
+  pub agrees : (ns : List ℕ) (ks : List K) (s : S) → AgreesAt ns ks s → ((c : ℕ) → is_one_of ns c ≡ false → Agrees ks s c) → (c : ℕ) → Agrees ks s c
+  agrees ns ks s table others c = by_table (is_one_of ns c) refl
+    where
+      by_table : (b : Bool) → is_one_of ns c ≡ b → Agrees ks s c
+      by_table true h = entry (grammar_at ks s) (machine_at ks s) ns c table.0 h
+      by_table false h = others c h
 
 -- a character that is none of these is not this one of them
 pub other_than : (ns : List ℕ) (c a : ℕ) → is_one_of ns c ≡ false → is_one_of ns a ≡ true → (c == a) ≡ false
@@ -92,8 +100,16 @@ other_than ns c a h k = not_true (c == a) (λ e. differ (is_one_of ns c) h (subs
 pub parts : {A B : Type 0} (p q : A × B) → p ≡ q → (p.0 ≡ q.0) × (p.1 ≡ q.1)
 parts p q e = (ap (λ z. z.0) e, ap (λ z. z.1) e)
 
+pub one : {A : Type 0} (a x : A) → a ∷ [] ≡ x ∷ [] → a ≡ x
+one a x e = cc
+
 pub two : {A : Type 0} (a b x y : A) → a ∷ b ∷ [] ≡ x ∷ y ∷ [] → (a ≡ x) × (b ≡ y)
 two a b x y e = (cc, cc)
 
 pub three : {A : Type 0} (a b c x y z : A) → a ∷ b ∷ c ∷ [] ≡ x ∷ y ∷ z ∷ [] → (a ≡ x) × (b ≡ y) × (c ≡ z)
 three a b c x y z e = (cc, cc, cc)
+
+-- the digits of any radix, and characters that are none of them
+
+abbrev pub hex_digits : List ℕ
+hex_digits = 48 ∷ 49 ∷ 50 ∷ 51 ∷ 52 ∷ 53 ∷ 54 ∷ 55 ∷ 56 ∷ 57 ∷ 65 ∷ 66 ∷ 67 ∷ 68 ∷ 69 ∷ 70 ∷ 97 ∷ 98 ∷ 99 ∷ 100 ∷ 101 ∷ 102 ∷ []
