@@ -1,10 +1,9 @@
 -- Each step of the machine that reads numeric literals is what the character leaves of the grammar: a table of the characters that literals have,
 -- which the checker computes for each part of a literal, and one line a part for all other characters.
-use Rattle.std.proofs.Common.{◌≡◌, ℕ, Bool, true, false, cond, ◌&&◌, not, ◌==◌, List, [], ◌∷◌, map, None, refl, sym, arith}
+use Rattle.std.proofs.Common.{◌≡◌, ℕ, Bool, true, false, cond, ◌&&◌, not, ◌==◌, List, [], ◌∷◌, ◌++◌, map, None, refl, sym, arith}
 use Rattle.std.proofs.lemmas.Bool.Decides.{nat_tests}
 use Rattle.unicode_ident.proofs.Computing.{unicode_ident}
-use Rattle.std.specs.Int.{is_in_range}
-use Rattle.js_lexer.specs.Characters.{is_digit, is_name_start, bars_number_end}
+use Rattle.js_lexer.specs.Characters.{is_name_start, bars_number_end}
 use Rattle.js_lexer.specs.Grammar.{is_nonzero_digit, is_octal_digit}
 use Rattle.js_lexer.specs.Numbers.{number_step, number_stop, number_end, is_radix_digit}
 use Rattle.js_lexer.specs.Rules.{Never}
@@ -15,7 +14,7 @@ use Rattle.js_lexer.specs.declared.numbers.Radix.TheVariants.{Hexadecimal, Octal
 use Rattle.js_lexer.specs.declared.numbers.NumberPart.{NumberPart}
 use Rattle.js_lexer.specs.declared.numbers.NumberPart.TheVariants.{Start, LeadingPoint, Zero, Integer, IntegerSeparator, Point, Fraction, FractionSeparator, ExponentIndicator, ExponentSign, ExponentDigits, ExponentSeparator, RadixPrefix, RadixDigits, RadixSeparator, BigIntSuffix}
 use Rattle.js_lexer.proofs.Derivatives.{may_be_empty}
-use Rattle.js_lexer.proofs.Rule_steps.{Agrees, AgreesAt, Leaves, agrees, empty_by, left_by, empty_there, is_one_of, other_than, parts, three}
+use Rattle.js_lexer.proofs.Rule_steps.{Agrees, AgreesAt, Leaves, agrees, empty_by, left_by, empty_there, is_one_of, other_than, parts, three, hex_digits, no_hex_digit, no_digit, no_capital, no_small}
 use Rattle.js_lexer.proofs.Tests.{and_false, and_true}
 use Rattle.js_lexer.proofs.Number_rests.{Kind, plain, with_separators, big, gives, number_rest}
 
@@ -24,9 +23,7 @@ kinds = plain ∷ with_separators ∷ big ∷ []
 
 -- digits of any radix, and `+`, `-`, `.`, `O`, `X`, `_`, `n`, `o`, `x`
 abbrev characters : List ℕ
-characters =
-    48 ∷ 49 ∷ 50 ∷ 51 ∷ 52 ∷ 53 ∷ 54 ∷ 55 ∷ 56 ∷ 57 ∷ 65 ∷ 66 ∷ 67 ∷ 68 ∷ 69 ∷ 70 ∷ 97 ∷ 98 ∷ 99 ∷ 100 ∷ 101 ∷ 102
-    ∷ 43 ∷ 45 ∷ 46 ∷ 79 ∷ 88 ∷ 95 ∷ 110 ∷ 111 ∷ 120 ∷ []
+characters = hex_digits ++ 43 ∷ 45 ∷ 46 ∷ 79 ∷ 88 ∷ 95 ∷ 110 ∷ 111 ∷ 120 ∷ []
 
 abbrev InTable : NumberPart → Type 0
 InTable part = AgreesAt number_step number_stop number_rest gives characters kinds part
@@ -73,8 +70,8 @@ Other c = is_one_of characters c ≡ false
 not_this : (c a : ℕ) → Other c → is_one_of characters a ≡ true → (c == a) ≡ false
 not_this c a o h = other_than characters c a o h
 
-no_digit : (c : ℕ) → Other c → is_digit c ≡ false
-no_digit c o = grind (arith, nat_tests)
+other_hex : (c : ℕ) → Other c → is_one_of hex_digits c ≡ false
+other_hex c o = no_hex_digit (43 ∷ 45 ∷ 46 ∷ 79 ∷ 88 ∷ 95 ∷ 110 ∷ 111 ∷ 120 ∷ []) c o
 
 no_nonzero_digit : (c : ℕ) → Other c → is_nonzero_digit c ≡ false
 no_nonzero_digit c o = grind (arith, nat_tests)
@@ -82,18 +79,12 @@ no_nonzero_digit c o = grind (arith, nat_tests)
 no_octal_digit : (c : ℕ) → Other c → is_octal_digit c ≡ false
 no_octal_digit c o = grind (arith, nat_tests)
 
-no_capital : (c : ℕ) → Other c → is_in_range 65 70 c ≡ false
-no_capital c o = grind (arith, nat_tests)
-
-no_small : (c : ℕ) → Other c → is_in_range 97 102 c ≡ false
-no_small c o = grind (arith, nat_tests)
-
 no_radix_digit : (r : Radix) (c : ℕ) → Other c → is_radix_digit r c ≡ false
-no_radix_digit Hexadecimal c o = simp (no_digit, no_capital, no_small)
+no_radix_digit Hexadecimal c o = simp (no_digit, no_capital, no_small, other_hex)
 no_radix_digit Octal c o = no_octal_digit c o
 no_radix_digit Binary c o = simp not_this
 
-ruleset others = (not_this, no_digit, no_nonzero_digit, no_octal_digit, no_capital, no_small, no_radix_digit)
+ruleset others = (not_this, no_digit, no_nonzero_digit, no_octal_digit, no_capital, no_small, no_radix_digit, other_hex)
 
 abbrev Ends : NumberPart → ℕ → Type 0
 Ends part c = Agrees number_step number_stop number_rest gives kinds part c

@@ -1,8 +1,11 @@
 -- What a character leaves of a rule says what a machine's step means, and whether the rule may be empty what its end means.
-use Rattle.std.proofs.Common.{◌≡◌, ◌↔◌, ℕ, Bool, true, false, cond, ◌||◌, ◌==◌, List, [], ◌∷◌, map, Some, None, Result, Ok, Err, refl, sym, ap, subst}
+use Rattle.std.proofs.Common.{◌≡◌, ◌↔◌, ℕ, Bool, true, false, cond, ◌||◌, ◌==◌, List, [], ◌∷◌, ◌++◌, map, Some, None, Result, Ok, Err, refl, sym, ap, subst, arith}
+use Rattle.std.proofs.lemmas.Bool.Decides.{nat_tests}
+use Rattle.std.specs.Int.{is_in_range}
 use Rattle.js_lexer.specs.declared.machine.Step.{Step}
 use Rattle.js_lexer.specs.declared.machine.Step.TheVariants.{Go, With, Before, Bad}
 use Rattle.js_lexer.specs.declared.machine.Stop.{Stop}
+use Rattle.js_lexer.specs.Characters.{is_digit}
 use Rattle.js_lexer.specs.Rules.{Rule, Never, Nothing, Leads}
 use Rattle.js_lexer.proofs.Derivatives.{may_be_empty, behind, goes, ends, ends_before, stuck, ends_there, stuck_there}
 use Rattle.js_lexer.proofs.Machine_laws.{Follows, Stops}
@@ -109,7 +112,28 @@ two a b x y e = (cc, cc)
 pub three : {A : Type 0} (a b c x y z : A) → a ∷ b ∷ c ∷ [] ≡ x ∷ y ∷ z ∷ [] → (a ≡ x) × (b ≡ y) × (c ≡ z)
 three a b c x y z e = (cc, cc, cc)
 
--- the digits of any radix, and characters that are none of them
+-- the digits of any radix, and what is none of them
 
 abbrev pub hex_digits : List ℕ
 hex_digits = 48 ∷ 49 ∷ 50 ∷ 51 ∷ 52 ∷ 53 ∷ 54 ∷ 55 ∷ 56 ∷ 57 ∷ 65 ∷ 66 ∷ 67 ∷ 68 ∷ 69 ∷ 70 ∷ 97 ∷ 98 ∷ 99 ∷ 100 ∷ 101 ∷ 102 ∷ []
+
+-- a character behind these digits in a list, that is none of the list, is none of the digits
+pub no_hex_digit : (ns : List ℕ) (c : ℕ) → is_one_of (hex_digits ++ ns) c ≡ false → is_one_of hex_digits c ≡ false
+no_hex_digit ns c o = front hex_digits o
+  where
+    front : (ms : List ℕ) → is_one_of (ms ++ ns) c ≡ false → is_one_of ms c ≡ false
+    front [] h = refl
+    front (m ∷ ms) h = neither (c == m) (is_one_of (ms ++ ns) c) h (front ms)
+      where
+        neither : (a b : Bool) → (a || b) ≡ false → (b ≡ false → is_one_of ms c ≡ false) → (a || is_one_of ms c) ≡ false
+        neither true b h again = absurd (cc)
+        neither false b h again = again h
+
+pub no_digit : (c : ℕ) → is_one_of hex_digits c ≡ false → is_digit c ≡ false
+no_digit c o = grind (arith, nat_tests)
+
+pub no_capital : (c : ℕ) → is_one_of hex_digits c ≡ false → is_in_range 65 70 c ≡ false
+no_capital c o = grind (arith, nat_tests)
+
+pub no_small : (c : ℕ) → is_one_of hex_digits c ≡ false → is_in_range 97 102 c ≡ false
+no_small c o = grind (arith, nat_tests)
