@@ -1,11 +1,12 @@
 -- The machine of `u` escapes reads exactly UnicodeEscapeSequence.
 use Rattle.std.proofs.Common.{◌≡◌, ◌≤◌, ◌<◌, ◌↔◌, ℕ, ◌+◌, ◌*◌, ◌==◌, ◌&&◌, Bool, true, false, cond, nat_le, nat_lt, List, [], ◌∷◌, ◌++◌, Option, None, refl, sym, subst, arith}
 use Rattle.std.proofs.lemmas.Bool.Decides.{nat_tests}
+use Rattle.std.specs.Int.{is_in_range}
 use Rattle.js_lexer.specs.declared.machine.Step.{Step}
 use Rattle.js_lexer.specs.declared.machine.Step.TheVariants.{Go, With, Bad}
 use Rattle.js_lexer.specs.declared.escapes.Escape.{Escape}
 use Rattle.js_lexer.specs.declared.escapes.Escape.TheVariants as escapes
-use Rattle.js_lexer.specs.Characters.{is_hex_digit, hex_value}
+use Rattle.js_lexer.specs.Characters.{is_digit, is_hex_digit, hex_value}
 use Rattle.js_lexer.specs.Rules.{Rule, Nothing, Then, Leads}
 use Rattle.js_lexer.specs.Grammar.{char, hex_digit, hex_from, code_point, code_point_after, after_u, unicode_escape}
 use Rattle.js_lexer.specs.Machines.{run}
@@ -46,19 +47,31 @@ kinds = tt ∷ []
 abbrev characters : List ℕ
 characters = hex_digits ++ 117 ∷ 123 ∷ 125 ∷ []
 
-abbrev Other : ℕ → Type 0
+Other : ℕ → Type 0
 Other c = is_one_of characters c ≡ false
 
 not_this : (c a : ℕ) → Other c → is_one_of characters a ≡ true → (c == a) ≡ false
+unfolding Other
 not_this c a o h = other_than characters c a o h
 
 other_hex : (c : ℕ) → Other c → is_one_of hex_digits c ≡ false
+unfolding Other
 other_hex c o = no_hex_digit (117 ∷ 123 ∷ 125 ∷ []) c o
 
-ruleset others = (not_this, no_digit, no_capital, no_small, other_hex)
+other_digit : (c : ℕ) → Other c → is_digit c ≡ false
+other_digit c o = no_digit c (other_hex c o)
+
+other_capital : (c : ℕ) → Other c → is_in_range 65 70 c ≡ false
+other_capital c o = no_capital c (other_hex c o)
+
+other_small : (c : ℕ) → Other c → is_in_range 97 102 c ≡ false
+other_small c o = no_small c (other_hex c o)
+
+ruleset others = (not_this, other_digit, other_capital, other_small)
 
 by_table : (s : Escape) → AgreesAt escape_step escape_stop kinds_rest always characters kinds s → ((c : ℕ) → Other c → Agrees escape_step escape_stop kinds_rest always kinds s c) →
     (c : ℕ) → Steps_to s c (escape_step s c)
+unfolding Other
 by_table s table o c = follows_leaves escape_step escape_stop kinds_rest always s c (escape_step s c) (λ k. parts _ _ (one _ _ (agrees escape_step escape_stop kinds_rest always characters kinds s table o c)))
 
 -- the digits of a code point

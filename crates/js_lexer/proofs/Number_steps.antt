@@ -3,7 +3,8 @@
 use Rattle.std.proofs.Common.{◌≡◌, ℕ, Bool, true, false, cond, ◌&&◌, not, ◌==◌, List, [], ◌∷◌, ◌++◌, map, None, refl, sym, arith}
 use Rattle.std.proofs.lemmas.Bool.Decides.{nat_tests}
 use Rattle.unicode_ident.proofs.Computing.{unicode_ident}
-use Rattle.js_lexer.specs.Characters.{is_name_start, bars_number_end}
+use Rattle.std.specs.Int.{is_in_range}
+use Rattle.js_lexer.specs.Characters.{is_digit, is_name_start, bars_number_end}
 use Rattle.js_lexer.specs.Grammar.{is_nonzero_digit, is_octal_digit}
 use Rattle.js_lexer.specs.Numbers.{number_step, number_stop, number_end, is_radix_digit}
 use Rattle.js_lexer.specs.Rules.{Never}
@@ -64,27 +65,40 @@ table BigIntSuffix = (refl, refl)
 
 -- at any other character a literal ends, or is none
 
-abbrev Other : ℕ → Type 0
+Other : ℕ → Type 0
 Other c = is_one_of characters c ≡ false
 
 not_this : (c a : ℕ) → Other c → is_one_of characters a ≡ true → (c == a) ≡ false
+unfolding Other
 not_this c a o h = other_than characters c a o h
 
 other_hex : (c : ℕ) → Other c → is_one_of hex_digits c ≡ false
+unfolding Other
 other_hex c o = no_hex_digit (43 ∷ 45 ∷ 46 ∷ 79 ∷ 88 ∷ 95 ∷ 110 ∷ 111 ∷ 120 ∷ []) c o
 
+other_digit : (c : ℕ) → Other c → is_digit c ≡ false
+other_digit c o = no_digit c (other_hex c o)
+
+other_capital : (c : ℕ) → Other c → is_in_range 65 70 c ≡ false
+other_capital c o = no_capital c (other_hex c o)
+
+other_small : (c : ℕ) → Other c → is_in_range 97 102 c ≡ false
+other_small c o = no_small c (other_hex c o)
+
 no_nonzero_digit : (c : ℕ) → Other c → is_nonzero_digit c ≡ false
+unfolding Other
 no_nonzero_digit c o = grind (arith, nat_tests)
 
 no_octal_digit : (c : ℕ) → Other c → is_octal_digit c ≡ false
+unfolding Other
 no_octal_digit c o = grind (arith, nat_tests)
 
 no_radix_digit : (r : Radix) (c : ℕ) → Other c → is_radix_digit r c ≡ false
-no_radix_digit Hexadecimal c o = simp (no_digit, no_capital, no_small, other_hex)
+no_radix_digit Hexadecimal c o = simp (other_digit, other_capital, other_small)
 no_radix_digit Octal c o = no_octal_digit c o
 no_radix_digit Binary c o = simp not_this
 
-ruleset others = (not_this, no_digit, no_nonzero_digit, no_octal_digit, no_capital, no_small, no_radix_digit, other_hex)
+ruleset others = (not_this, other_digit, no_nonzero_digit, no_octal_digit, other_capital, other_small, no_radix_digit)
 
 abbrev Ends : NumberPart → ℕ → Type 0
 Ends part c = Agrees number_step number_stop number_rest gives kinds part c
@@ -132,6 +146,7 @@ ends BigIntSuffix c o = simp (end_empty, end_left)
 -- at each character, and at the end of the text
 
 pub steps_to : (part : NumberPart) (c : ℕ) (k : Kind) → Leaves number_step number_stop number_rest gives part k c (number_step part c)
+unfolding Other
 steps_to part c k = of_kind k (agrees number_step number_stop number_rest gives characters kinds part (table part) (ends part) c)
   where
     of_kind : (k : Kind) → Ends part c → Leaves number_step number_stop number_rest gives part k c (number_step part c)

@@ -1,5 +1,6 @@
 -- The machine of strings and templates reads exactly what the grammar has.
 use Rattle.std.proofs.Common.{◌≡◌, ◌↔◌, inl, inr, ℕ, ◌==◌, ◌&&◌, ◌||◌, Bool, true, false, not, List, [], ◌∷◌, ◌++◌, Some, None, Ok, refl}
+use Rattle.std.specs.Int.{is_in_range}
 use Rattle.js_lexer.specs.declared.machine.Step.{Step}
 use Rattle.js_lexer.specs.declared.machine.Step.TheVariants.{Go, With, Before, Bad}
 use Rattle.js_lexer.specs.declared.escapes.Escape.{Escape}
@@ -79,16 +80,27 @@ kinds = the_ends.Closed ∷ the_ends.Substitution ∷ []
 abbrev characters : List ℕ
 characters = hex_digits ++ 10 ∷ 13 ∷ 34 ∷ 36 ∷ 39 ∷ 92 ∷ 96 ∷ 117 ∷ 120 ∷ 123 ∷ 0x2028 ∷ 0x2029 ∷ []
 
-abbrev Other : ℕ → Type 0
+Other : ℕ → Type 0
 Other c = is_one_of characters c ≡ false
 
 not_this : (c a : ℕ) → Other c → is_one_of characters a ≡ true → (c == a) ≡ false
+unfolding Other
 not_this c a o h = other_than characters c a o h
 
 other_hex : (c : ℕ) → Other c → is_one_of hex_digits c ≡ false
+unfolding Other
 other_hex c o = no_hex_digit (10 ∷ 13 ∷ 34 ∷ 36 ∷ 39 ∷ 92 ∷ 96 ∷ 117 ∷ 120 ∷ 123 ∷ 0x2028 ∷ 0x2029 ∷ []) c o
 
-ruleset others = (not_this, no_digit, no_capital, no_small, other_hex)
+other_digit : (c : ℕ) → Other c → is_digit c ≡ false
+other_digit c o = no_digit c (other_hex c o)
+
+other_capital : (c : ℕ) → Other c → is_in_range 65 70 c ≡ false
+other_capital c o = no_capital c (other_hex c o)
+
+other_small : (c : ℕ) → Other c → is_in_range 97 102 c ≡ false
+other_small c o = no_small c (other_hex c o)
+
+ruleset others = (not_this, other_digit, other_capital, other_small)
 
 abbrev Table : Quote → Part → Type 0
 Table q p = AgreesAt quoted_step quoted_stop quoted_rest same_end characters kinds (record { quote = q; part = p })
@@ -97,6 +109,7 @@ abbrev ForOthers : Quote → Part → Type 0
 ForOthers q p = (c : ℕ) → Other c → Agrees quoted_step quoted_stop quoted_rest same_end kinds (record { quote = q; part = p }) c
 
 by_table : (q : Quote) (p : Part) → Table q p → ForOthers q p → (c : ℕ) → Steps_to q p c (part_step q p c)
+unfolding Other
 by_table q p table o c = follows_leaves quoted_step quoted_stop quoted_rest same_end (record { quote = q; part = p }) c (part_step q p c) (λ k. of_end k (agrees quoted_step quoted_stop quoted_rest same_end characters kinds (record { quote = q; part = p }) table o c))
   where
     of_end : (k : End) → Agrees quoted_step quoted_stop quoted_rest same_end kinds (record { quote = q; part = p }) c → Leaves quoted_step quoted_stop quoted_rest same_end (record { quote = q; part = p }) k c (part_step q p c)
