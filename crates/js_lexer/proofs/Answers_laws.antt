@@ -141,7 +141,7 @@ one_form within xs f g h k = by_taking (element_of within xs) (element_exactly w
     by_taking (Err (Stopped stop)) ex = absurd (ex.1 f h)
     by_taking (Err (LeftOut form)) ex = ex.1 f h ∙ sym (ex.1 g k)
 
-tokens_tokens : (bytes : List ℕ) (ts us : List Token) → IsTokens bytes ts → IsTokens bytes us → ts ≡ us
+pub tokens_tokens : (bytes : List ℕ) (ts us : List Token) → IsTokens bytes ts → IsTokens bytes us → ts ≡ us
 tokens_tokens bytes ts us a b =
     let s : State = a.1.0 in
     let e : (a.1.0 ≡ b.1.0) × (true ≡ true) = same_ending bytes (tokens_ending bytes ts a) (tokens_ending bytes us b) in

@@ -9,6 +9,7 @@ mod escapes;
 #[cfg(test)]
 mod keyword_tests;
 pub mod keywords;
+pub mod laws;
 pub mod lexer;
 mod machine;
 mod names;
