@@ -81,21 +81,7 @@ number_big xs ys = (
 
 never_bad : (part : NumberPart) → number_stop part ≡ Err stops.Bad → ⊥
 never_bad Start h = cc
-never_bad LeadingPoint h = cc
-never_bad Zero h = cc
-never_bad (Integer s) h = cc
-never_bad IntegerSeparator h = cc
-never_bad (Point s) h = cc
-never_bad (Fraction s) h = cc
-never_bad FractionSeparator h = cc
-never_bad (ExponentIndicator s) h = cc
-never_bad (ExponentSign s) h = cc
-never_bad (ExponentDigits s) h = cc
-never_bad ExponentSeparator h = cc
-never_bad (RadixPrefix r) h = cc
-never_bad (RadixDigits r s) h = cc
-never_bad (RadixSeparator r) h = cc
-never_bad BigIntSuffix h = cc
+never_bad _ h = cc
 
 -- none does, whatever follows
 pub number_bad : (xs more : List ℕ) → run number_step number_stop Start xs ≡ Err stops.Bad → run number_step number_stop Start (xs ++ more) ≡ Err stops.Bad
@@ -110,24 +96,18 @@ Completes part = (more : List ℕ) × (n : Numeral) × (run number_step number_s
 completes : (part : NumberPart) → number_stop part ≡ Err stops.Cut → Completes part
 completes Start h = (48 ∷ [], Number, refl)
 completes LeadingPoint h = (48 ∷ [], Number, refl)
-completes Zero h = absurd (cc)
-completes (Integer s) h = absurd (cc)
 completes IntegerSeparator h = (48 ∷ [], Separated, refl)
-completes (Point s) h = absurd (cc)
-completes (Fraction s) h = absurd (cc)
 completes FractionSeparator h = (48 ∷ [], Separated, refl)
 completes (ExponentIndicator s) h = (48 ∷ [], number s, refl)
 completes (ExponentSign s) h = (48 ∷ [], number s, refl)
-completes (ExponentDigits s) h = absurd (cc)
 completes ExponentSeparator h = (48 ∷ [], Separated, refl)
 completes (RadixPrefix Hexadecimal) h = (48 ∷ [], Number, refl)
 completes (RadixPrefix Octal) h = (48 ∷ [], Number, refl)
 completes (RadixPrefix Binary) h = (48 ∷ [], Number, refl)
-completes (RadixDigits r s) h = absurd (cc)
 completes (RadixSeparator Hexadecimal) h = (48 ∷ [], Separated, refl)
 completes (RadixSeparator Octal) h = (48 ∷ [], Separated, refl)
 completes (RadixSeparator Binary) h = (48 ∷ [], Separated, refl)
-completes BigIntSuffix h = absurd (cc)
+completes _ h = absurd (cc)
 
 -- the text is the start of one
 pub number_cut : (xs : List ℕ) → run number_step number_stop Start xs ≡ Err stops.Cut → (more : List ℕ) × (n : Numeral) × (run number_step number_stop Start (xs ++ more) ≡ Ok (n, []))
