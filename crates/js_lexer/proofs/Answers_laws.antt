@@ -223,18 +223,7 @@ one_fault bytes p q (what.Unsupported n) what.BadToken (form, e, a) b = absurd (
 one_fault bytes p q (what.Unsupported n) (what.Unsupported m) (f, e, a) (g, k, b) =
     let same : (p ≡ q) × (f ≡ g) = form_form bytes p q f g a b in
     (same.0, ap what.Unsupported (e ∙ ap form_name same.1 ∙ sym k))
-one_fault bytes p q what.NotUtf8 what.Unexpected a b = absurd b
-one_fault bytes p q what.NotUtf8 what.TooDeep a b = absurd b
-one_fault bytes p q what.NotUtf8 (what.Early m) a b = absurd b
-one_fault bytes p q what.BadToken what.Unexpected a b = absurd b
-one_fault bytes p q what.BadToken what.TooDeep a b = absurd b
-one_fault bytes p q what.BadToken (what.Early m) a b = absurd b
-one_fault bytes p q (what.Unsupported n) what.Unexpected a b = absurd b
-one_fault bytes p q (what.Unsupported n) what.TooDeep a b = absurd b
-one_fault bytes p q (what.Unsupported n) (what.Early m) a b = absurd b
-one_fault bytes p q what.Unexpected w a b = absurd a
-one_fault bytes p q what.TooDeep w a b = absurd a
-one_fault bytes p q (what.Early n) w a b = absurd a
+one_fault bytes p q _ _ a b = absurd (search depth 0)
 
 -- what an answer says decides it
 
@@ -266,14 +255,14 @@ broken_cause_at bytes text n first s none f u v t o run h some e = by_stop none 
 
     by_stop : (none : NoElement) → element_of (inside s.opens) s.rest ≡ Err none → IsBrokenFault s none f → HasCause bytes f
     by_stop (Stopped stops.Cut) h e = subst (HasCause bytes) (sym e) (cut_cause bytes n s u v from (cut_is_cut s h))
-    by_stop (Stopped stops.Bad) h e = broken_cause bytes n s (Stopped stops.Bad) f u v from h some (λ k. differ k) e
+    by_stop (Stopped stops.Bad) h e = broken_cause bytes n s (Stopped stops.Bad) f u v from h some not_cut e
       where
-        differ : (let x : NoElement = Stopped stops.Bad in x) ≡ Stopped stops.Cut → ⊥
-        differ k = cc
-    by_stop (LeftOut form) h e = broken_cause bytes n s (LeftOut form) f u v from h some (λ k. differ k) e
+        not_cut : Stopped stops.Bad ≡ Stopped stops.Cut → ⊥
+        not_cut k = cc
+    by_stop (LeftOut form) h e = broken_cause bytes n s (LeftOut form) f u v from h some not_cut e
       where
-        differ : (let x : NoElement = LeftOut form in x) ≡ Stopped stops.Cut → ⊥
-        differ k = cc
+        not_cut : LeftOut form ≡ Stopped stops.Cut → ⊥
+        not_cut k = cc
 
 pub end_cause_at : (bytes text : List ℕ) (n : ℕ) (first s : State) (place : Place) (f : SyntaxFault) → ¬ (IsUtf8 bytes) → IsValidUpTo bytes n → text ≡ take n bytes → first ≡ opening (chars text) → Run first s → s.rest ≡ [] →
     place ≡ s.spot.place → f ≡ faults.At place what.NotUtf8 → HasCause bytes f

@@ -9,7 +9,8 @@ use Rattle.js_lexer.specs.Comments.{comment_step, comment_stop}
 use Rattle.js_lexer.specs.Skipping.{skip}
 use Rattle.js_lexer.proofs.Derivatives.{behind, may_be_empty, goes, ends_before, ends_there}
 use Rattle.js_lexer.proofs.Machine_laws.{Reads, exact}
-use Rattle.js_lexer.proofs.Rule_steps.{Agrees, AgreesAt, Leaves, agrees, follows_leaves, stops_leaves, is_one_of, other_than, parts, one}
+use Rattle.js_lexer.proofs.Rule_steps.{Agrees, AgreesAt, Leaves, agrees, follows_leaves, stops_leaves, parts, one}
+use Rattle.js_lexer.proofs.Tests.{is_one_of, other_than}
 use Rattle.js_lexer.proofs.Escapes_laws.{always}
 
 abbrev in_comment : Rule

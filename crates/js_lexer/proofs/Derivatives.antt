@@ -231,6 +231,7 @@ takes_some r c cs e h =
       | inr i ↦
           let j : (w : List ℕ) × (cs ≡ w ++ c ∷ cs) = front (behind r c) cs (c ∷ cs) i in longer c cs j.0 j.1
     ]
+
 cond_true : (b : Bool) (r : Rule) (xs ys : List ℕ) → Leads (cond b r Never) xs ys → (b ≡ true) × Leads r xs ys
 cond_true true r xs ys h = (refl, h)
 cond_true false r xs ys h = absurd h
@@ -260,16 +261,6 @@ behind_to (Many a) c cs ys h =
 behind_to (OnlyIf a test) c cs ys h =
     let j : (w : List ℕ) × (cs ≡ w ++ ys) × (test (c ∷ w) ≡ true) × Leads (behind a c) cs ys = (only_if_same (behind a c) (λ v. test (c ∷ v)) cs ys).0 h in
     (c ∷ j.0, ap (λ z. c ∷ z) j.1, j.2, behind_to a c cs ys j.3)
-
--- a text with a character in front is by a rule exactly where the rule takes nothing, or the text behind the character is by what is left of it
-pub at_character : (r : Rule) (c : ℕ) (cs ys : List ℕ) → Leads r (c ∷ cs) ys ↔ AtCharacter r c cs ys
-at_character r c cs ys = (
-  reads_from r c cs ys,
-  λ h. elim h [
-    | inl i ↦ subst (λ z. Leads r (c ∷ cs) z) (sym i.1) (takes_none r (c ∷ cs) (Some c) refl i.0)
-    | inr i ↦ behind_to r c cs ys i
-  ],
-)
 
 -- what a character does to a rule
 

@@ -13,8 +13,8 @@ use Rattle.js_lexer.specs.Machines.{run}
 use Rattle.js_lexer.specs.Escapes.{escape_step, escape_stop, digits_step}
 use Rattle.js_lexer.proofs.Derivatives.{behind, may_be_empty, goes, ends, stuck, stuck_there}
 use Rattle.js_lexer.proofs.Machine_laws.{Follows, Reads, exact}
-use Rattle.js_lexer.proofs.Rule_steps.{Agrees, AgreesAt, agrees, follows_leaves, is_one_of, other_than, parts, one, hex_digits, no_hex_digit, no_digit, no_capital, no_small}
-use Rattle.js_lexer.proofs.Tests.{and_false, both, by_test, differ}
+use Rattle.js_lexer.proofs.Rule_steps.{Agrees, AgreesAt, agrees, follows_leaves, parts, one, hex_digits, no_hex_digit, no_digit, no_capital, no_small}
+use Rattle.js_lexer.proofs.Tests.{and_false, both, by_test, differ, is_one_of, other_than}
 
 -- the digits that write v; past the greatest code point no state has such a v
 abbrev after_digits : ℕ → Rule

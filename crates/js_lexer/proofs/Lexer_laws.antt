@@ -42,6 +42,7 @@ shorter r c cs ys e h = elim (reads_from r c cs ys h) [
       let k : (w : List ℕ) × (cs ≡ w ++ ys) = front (behind r c) cs ys i in
       omega (arith, ap length k.1 ∙ length-append k.0 ys)
 ]
+
 abbrev is_empty : List ℕ → Bool
 is_empty [] = true
 is_empty (c ∷ cs) = false

@@ -15,8 +15,8 @@ use Rattle.js_lexer.specs.declared.numbers.Radix.TheVariants.{Hexadecimal, Octal
 use Rattle.js_lexer.specs.declared.numbers.NumberPart.{NumberPart}
 use Rattle.js_lexer.specs.declared.numbers.NumberPart.TheVariants.{Start, LeadingPoint, Zero, Integer, IntegerSeparator, Point, Fraction, FractionSeparator, ExponentIndicator, ExponentSign, ExponentDigits, ExponentSeparator, RadixPrefix, RadixDigits, RadixSeparator, BigIntSuffix}
 use Rattle.js_lexer.proofs.Derivatives.{may_be_empty}
-use Rattle.js_lexer.proofs.Rule_steps.{Agrees, AgreesAt, Leaves, agrees, empty_by, left_by, empty_there, is_one_of, other_than, parts, three, hex_digits, no_hex_digit, no_digit, no_capital, no_small}
-use Rattle.js_lexer.proofs.Tests.{and_false, and_true}
+use Rattle.js_lexer.proofs.Rule_steps.{Agrees, AgreesAt, Leaves, agrees, empty_by, left_by, empty_there, parts, three, hex_digits, no_hex_digit, no_digit, no_capital, no_small}
+use Rattle.js_lexer.proofs.Tests.{and_false, and_true, is_one_of, other_than}
 use Rattle.js_lexer.proofs.Number_rests.{Kind, plain, with_separators, big, gives, number_rest}
 
 abbrev kinds : List Kind

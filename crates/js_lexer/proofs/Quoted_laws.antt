@@ -20,10 +20,10 @@ use Rattle.js_lexer.specs.Escapes.{escape_step, escape_stop}
 use Rattle.js_lexer.specs.Quoted.{quoted_step, quoted_stop, part_step, plain_step, string_step, template_step, after_backslash_step, after_escape, opened, go}
 use Rattle.js_lexer.proofs.Derivatives.{may_be_empty, stuck_there, takes_some}
 use Rattle.js_lexer.proofs.Machine_laws.{Follows, Reads, exact}
-use Rattle.js_lexer.proofs.Rule_steps.{Agrees, AgreesAt, Leaves, agrees, follows_leaves, is_one_of, other_than, parts as parts_of, two, hex_digits, no_hex_digit, no_digit, no_capital, no_small}
+use Rattle.js_lexer.proofs.Rule_steps.{Agrees, AgreesAt, Leaves, agrees, follows_leaves, parts as parts_of, two, hex_digits, no_hex_digit, no_digit, no_capital, no_small}
 use Rattle.js_lexer.proofs.Sequences.{first_goes, first_ends, first_stuck}
 use Rattle.js_lexer.proofs.Escapes_laws.{escape_rest, kinds_rest, always, follows as escape_follows, never_empty as escape_never_empty}
-use Rattle.js_lexer.proofs.Tests.{and_false}
+use Rattle.js_lexer.proofs.Tests.{and_false, is_one_of, other_than}
 
 -- the characters between the quotes, and what ends them
 abbrev pub character_of : Quote → Rule
@@ -158,9 +158,6 @@ part_open q parts.Plain k = rw (close_open q k) refl
 part_open q parts.Zero k = rw (close_open q k) refl
 part_open q parts.CarriageReturn k = rw (close_open q k) refl
 part_open q _ k = refl
-
-abbrev pub Reads_quoted : Quote → End → List ℕ → List ℕ → Type 0
-Reads_quoted q k xs ys = run quoted_step quoted_stop (opened q) xs ≡ Ok (k, ys)
 
 -- the machine reads exactly what the grammar has behind the opening quote
 pub quoted_exact : (q : Quote) (k : End) (xs ys : List ℕ) → Leads (body q k) xs ys ↔ Reads quoted_step quoted_stop quoted_rest same_end (run quoted_step quoted_stop (opened q) xs) k ys

@@ -9,7 +9,7 @@ use Rattle.js_lexer.specs.Characters.{is_digit}
 use Rattle.js_lexer.specs.Rules.{Rule, Never, Nothing, Leads}
 use Rattle.js_lexer.proofs.Derivatives.{may_be_empty, behind, goes, ends, ends_before, stuck, ends_there, stuck_there}
 use Rattle.js_lexer.proofs.Machine_laws.{Follows, Stops}
-use Rattle.js_lexer.proofs.Tests.{differ, equal, not_true}
+use Rattle.js_lexer.proofs.Tests.{is_one_of, entry}
 
 -- before the character if the outcome is of the kind
 before : (b : Bool) (r : Rule) (c : ℕ) (cs ys : List ℕ) → may_be_empty r (Some c) ≡ b → behind r c ≡ Never → Leads r (c ∷ cs) ys ↔ ((b ≡ true) × (ys ≡ c ∷ cs))
@@ -26,19 +26,6 @@ there : (b : Bool) (r : Rule) (ys : List ℕ) → may_be_empty r None ≡ b → 
 there true r ys e =
     let i : Leads r [] ys ↔ (ys ≡ []) = ends_there r ys e in (λ h. (refl, i.0 h), λ h. i.1 h.1)
 there false r ys e = (λ h. absurd (stuck_there r ys e h), λ h. absurd (cc))
-
--- what two tables say, they say at each of their characters
-abbrev pub is_one_of : List ℕ → ℕ → Bool
-is_one_of [] c = false
-is_one_of (n ∷ ns) c = c == n || is_one_of ns c
-
-pub entry : {A : Type 0} (f g : ℕ → A) (ns : List ℕ) (c : ℕ) → map f ns ≡ map g ns → is_one_of ns c ≡ true → f c ≡ g c
-entry f g [] c e h = absurd (cc)
-entry f g (n ∷ ns) c e h = by_head (c == n) refl h (entry f g ns c (cc))
-  where
-    by_head : (b : Bool) → (c == n) ≡ b → (b || is_one_of ns c) ≡ true → (is_one_of ns c ≡ true → f c ≡ g c) → f c ≡ g c
-    by_head true i k again = subst (λ z. f z ≡ g z) (sym (equal c n i)) (cc)
-    by_head false i k again = again k
 
 module _ {S O K : Type 0} (step : S → ℕ → Step S O) (stop : S → Result O Stop) (rest : S → K → Rule) (gives : O → K → Bool) where
   -- what a step leaves of the rule, and whether the rule may be empty before the character
@@ -93,10 +80,6 @@ module _ {S O K : Type 0} (step : S → ℕ → Step S O) (stop : S → Result O
       by_table : (b : Bool) → is_one_of ns c ≡ b → Agrees ks s c
       by_table true h = entry (grammar_at ks s) (machine_at ks s) ns c table.0 h
       by_table false h = others c h
-
--- a character that is none of these is not this one of them
-pub other_than : (ns : List ℕ) (c a : ℕ) → is_one_of ns c ≡ false → is_one_of ns a ≡ true → (c == a) ≡ false
-other_than ns c a h k = not_true (c == a) (λ e. differ (is_one_of ns c) h (subst (λ z. is_one_of ns z ≡ true) (sym (equal c a e)) k))
 
 -- what equal entries have
 

@@ -1,5 +1,5 @@
 -- What tests on characters tell, and answers.
-use Rattle.std.proofs.Common.{◌≡◌, ℕ, Bool, true, false, cond, ◌&&◌, ◌||◌, not, ◌==◌, Option, Some, None, Result, Ok, Err, refl, sym, subst, arith}
+use Rattle.std.proofs.Common.{◌≡◌, ℕ, Bool, true, false, cond, ◌&&◌, ◌||◌, not, ◌==◌, List, [], ◌∷◌, map, Option, Some, None, Result, Ok, Err, refl, sym, subst, arith}
 use Rattle.std.proofs.lemmas.Bool.Decides.{nat_tests}
 
 pub equal : (c n : ℕ) → (c == n) ≡ true → c ≡ n
@@ -41,6 +41,23 @@ or_left a b h = rw h refl
 pub or_right : (a b : Bool) → b ≡ true → (a || b) ≡ true
 or_right true b h = refl
 or_right false b h = h
+
+-- what two tables say, they say at each of their characters
+abbrev pub is_one_of : List ℕ → ℕ → Bool
+is_one_of [] c = false
+is_one_of (n ∷ ns) c = c == n || is_one_of ns c
+
+pub entry : {A : Type 0} (f g : ℕ → A) (ns : List ℕ) (c : ℕ) → map f ns ≡ map g ns → is_one_of ns c ≡ true → f c ≡ g c
+entry f g [] c e h = absurd (cc)
+entry f g (n ∷ ns) c e h = by_head (c == n) refl h (entry f g ns c (cc))
+  where
+    by_head : (b : Bool) → (c == n) ≡ b → (b || is_one_of ns c) ≡ true → (is_one_of ns c ≡ true → f c ≡ g c) → f c ≡ g c
+    by_head true i k again = subst (λ z. f z ≡ g z) (sym (equal c n i)) (cc)
+    by_head false i k again = again k
+
+-- a character that is none of these is not this one of them
+pub other_than : (ns : List ℕ) (c a : ℕ) → is_one_of ns c ≡ false → is_one_of ns a ≡ true → (c == a) ≡ false
+other_than ns c a h k = not_true (c == a) (λ e. differ (is_one_of ns c) h (subst (λ z. is_one_of ns z ≡ true) (sym (equal c a e)) k))
 
 -- by the two cases of a test
 pub by_test : {A : Type 0} (P : A → Type 0) (b : Bool) (x y : A) → (b ≡ true → P x) → (b ≡ false → P y) → P (cond b x y)

@@ -26,8 +26,8 @@ use Rattle.js_lexer.proofs.Beginnings.{words, no_family}
 use Rattle.js_lexer.proofs.Comments_laws.{skip_exact}
 use Rattle.js_lexer.proofs.Escapes_laws.{escape_exact}
 use Rattle.js_lexer.proofs.Exactly.{Exactly, Only, in_family, is_form, of_only, one_shows, at_backslash, at_hash, at_sign}
-use Rattle.js_lexer.proofs.Firsts.{other_no_start, space_no_start, digit_no_start, start_no_mark}
-use Rattle.js_lexer.proofs.Tests.{apart, differ, equal, not_true, not_ok}
+use Rattle.js_lexer.proofs.Firsts.{signs, sign_no_start, space_no_start, digit_no_start, start_no_mark}
+use Rattle.js_lexer.proofs.Tests.{apart, differ, equal, not_true, not_ok, is_one_of}
 
 start_no_space : (c : ℕ) → is_name_start c ≡ true → (is_white_space c || is_line_terminator c) ≡ false
 start_no_space c h = not_true (is_white_space c || is_line_terminator c) (λ k. differ (is_name_start c) (space_no_start c k) h)
@@ -44,8 +44,8 @@ at_word inside c cs s = (
   simp (start_no_digit c s, no_start 35, no_start 46, no_start 64),
 )
   where
-    no_start : (n : ℕ) → nat_lt n 128 ≡ true → (is_ascii_alphabetic n || n == 36 || n == 95) ≡ false → (c == n) ≡ false
-    no_start n h k = apart is_name_start c n s (other_no_start n h k)
+    no_start : (n : ℕ) → is_one_of signs n ≡ true → (c == n) ≡ false
+    no_start n h = apart is_name_start c n s (sign_no_start n h)
 
 -- escapes
 
@@ -76,7 +76,7 @@ escape_behind c cs s (ys, (ms, inr e, (ns, h, k))) = absurd (at_backslash ms e h
   where
     at_backslash : (ms : List ℕ) → c ∷ cs ≡ ms → Leads (char 92) ms ns → ⊥
     at_backslash [] e h = h
-    at_backslash (x ∷ xs) e h = let same : c ≡ x = cc in differ (c == 92) (apart is_name_start c 92 s (other_no_start 92 refl refl)) (subst (λ z. (z == 92) ≡ true) (sym same) h.0)
+    at_backslash (x ∷ xs) e h = let same : c ≡ x = cc in differ (c == 92) (apart is_name_start c 92 s (sign_no_start 92 refl)) (subst (λ z. (z == 92) ≡ true) (sym same) h.0)
 escape_behind c cs s (ys, (ms, inl (zs, h, l), (ns, b, k))) = (ns, ys, parts ms b l, to_read ns ys k)
   where
     equal_back : (x : ℕ) → (x == 92) ≡ true → x ≡ 92
@@ -141,7 +141,7 @@ exactly_word inside c cs s = by_ending inside c cs (skip is_name_part cs) s refl
 -- a backslash
 
 backslash_reads : (cs : List ℕ) → Shows forms.Escape (92 ∷ cs) → (ys : List ℕ) × Read cs ys
-backslash_reads cs (ys, (ms, inl (zs, h, l), k)) = absurd (differ (is_name_start 92) (other_no_start 92 refl refl) h.0)
+backslash_reads cs (ys, (ms, inl (zs, h, l), k)) = absurd (differ (is_name_start 92) (sign_no_start 92 refl) h.0)
 backslash_reads cs (ys, (ms, inr e, (ns, h, k))) = (ys, to_read cs ys (subst (λ z. Leads unicode_escape z ys) (sym (tails ms e h)) k))
   where
     tails : (ms : List ℕ) → 92 ∷ cs ≡ ms → Leads (char 92) ms ns → cs ≡ ns
@@ -188,7 +188,7 @@ private_escape inside ds (Ok (u, ys)) e = (private_there (92 ∷ ds) ys (inr (ds
 private_escape inside ds (Err stop) e = private_none inside (92 ∷ ds) none
   where
     none : (ys : List ℕ) → PrivateBehind (92 ∷ ds) ys → ⊥
-    none ys (inl h) = differ (is_name_start 92) (other_no_start 92 refl refl) h.0
+    none ys (inl h) = differ (is_name_start 92) (sign_no_start 92 refl) h.0
     none ys (inr (ns, h, k)) = not_ok (escape_reading ds) (tt, ys) stop e (to_read ds ys (subst (λ z. Leads unicode_escape z ys) (sym h.1) k))
 
 pub exactly_hash : (inside : Bool) (cs : List ℕ) → Exactly inside (35 ∷ cs) (private_taken cs)

@@ -11,6 +11,7 @@ use Rattle.js_lexer.specs.declared.token.Token.{Token}
 use Rattle.js_lexer.specs.Sources.{IsBadToken, IsUnsupported, IsNotUtf8}
 
 -- the name by which a form that is left out is told
+-- own: the profile refuses these forms by name
 abbrev pub form_name : Form → List ℕ
 form_name forms.BigInt = codes "bigint"
 form_name forms.Separator = codes "separator"
@@ -19,6 +20,7 @@ form_name forms.Private = codes "private"
 form_name forms.Decorator = codes "decorator"
 
 -- what is wrong with a source, and at which place
+-- own: which of several faults is told, and where
 abbrev pub IsFault : List ℕ → Place → SyntaxWhat → Type 0
 IsFault bytes place what.NotUtf8 = IsNotUtf8 bytes place
 IsFault bytes place what.BadToken = IsBadToken bytes place

@@ -6,8 +6,6 @@ mod comments;
 mod cursor;
 mod element;
 mod escapes;
-#[cfg(test)]
-mod keyword_tests;
 pub mod keywords;
 pub mod laws;
 pub mod lexer;
@@ -15,11 +13,7 @@ mod machine;
 mod names;
 mod nesting;
 mod numbers;
-#[cfg(test)]
-mod numbers_tests;
 mod passing;
-#[cfg(test)]
-mod punctuator_tests;
 pub mod punctuators;
 mod quoted;
 mod spot;
