@@ -115,11 +115,14 @@ module _ {S O : Type 0} (step : S → ℕ → Step S O) (stop : S → Result O S
   abbrev Closes : S → Type 0
   Closes s = (more : List ℕ) × (r : O × List ℕ) × (run step stop s more ≡ Ok r)
 
-  goes_on : ((s : S) → Closes s) → (s : S) → (cs : List ℕ) → GoesOn (λ zs. run step stop s zs) cs
-  goes_on closes s cs h =
-      let e : EndsIn step stop s cs = cut_goes_on step stop s cs h in
-      let m : Closes e.0 = closes e.0 in
-      (m.0, m.1, e.2 m.0 ∙ m.2)
+  keeps_run : (taken : Reading O → Taking) → Tells taken → ((s : S) → stop s ≡ Err stops.Bad → ⊥) → ((s : S) → Closes s) → (s : S) (cs : List ℕ) → Keeps (λ zs. taken (run step stop s zs)) cs
+  keeps_run taken tells never closes s cs = keeps_reading taken tells (run step stop s) cs (λ more h. bad_stays step stop never s cs more h) on
+    where
+      on : GoesOn (run step stop s) cs
+      on h =
+          let e : EndsIn step stop s cs = cut_goes_on step stop s cs h in
+          let m : Closes e.0 = closes e.0 in
+          (m.0, m.1, e.2 m.0 ∙ m.2)
 
 -- escapes
 
@@ -144,10 +147,7 @@ escape_closes s = (rest_of_escape s, (tt, []), by_escape s)
     by_escape _ = refl
 
 keeps_escape : (form : Form) (cs : List ℕ) → Keeps (λ zs. left_out form (escape_reading zs)) cs
-keeps_escape form cs =
-    keeps_reading (left_out form) (λ r. inr (form, refl), λ stop. refl) escape_reading cs
-    (λ more h. bad_stays escape_step escape_stop escape_never_bad escapes.Backslash cs more h)
-    (goes_on escape_step escape_stop escape_closes escapes.Backslash cs)
+keeps_escape form cs = keeps_run escape_step escape_stop (left_out form) (λ r. inr (form, refl), λ stop. refl) escape_never_bad escape_closes escapes.Backslash cs
 
 -- strings and templates
 
@@ -187,17 +187,8 @@ closes_part quotes.Double _ = (34 ∷ [], (ends.Closed, []), refl)
 closes_part quotes.Single _ = (39 ∷ [], (ends.Closed, []), refl)
 closes_part quotes.Template _ = (96 ∷ [], (ends.Closed, []), refl)
 
-quoted_closes : (s : Quoted) → Closes quoted_step quoted_stop s
-quoted_closes s = closes_part s.quote s.part
-
-abbrev quoted_reading : Quote → List ℕ → Reading End
-quoted_reading quote zs = run quoted_step quoted_stop (opened quote) zs
-
-keeps_quoted : (quote : Quote) (taken : Reading End → Taking) → Tells taken → (cs : List ℕ) → Keeps (λ zs. taken (quoted_reading quote zs)) cs
-keeps_quoted quote taken tells cs =
-    keeps_reading taken tells (quoted_reading quote) cs
-    (λ more h. bad_stays quoted_step quoted_stop quoted_never_bad (opened quote) cs more h)
-    (goes_on quoted_step quoted_stop quoted_closes (opened quote) cs)
+keeps_quoted : (quote : Quote) (taken : Reading End → Taking) → Tells taken → (cs : List ℕ) → Keeps (λ zs. taken (run quoted_step quoted_stop (opened quote) zs)) cs
+keeps_quoted quote taken tells cs = keeps_run quoted_step quoted_stop taken tells quoted_never_bad (λ s. closes_part s.quote s.part) (opened quote) cs
 
 keeps_string : (quote : Quote) (c : ℕ) (cs : List ℕ) → Keeps (λ zs. string_of quote (c ∷ zs)) cs
 keeps_string quote c cs = keeps_quoted quote string_taken (λ r. inl (elements.String, r.1, refl), λ stop. refl) cs
@@ -218,10 +209,7 @@ abbrev comment_reading : List ℕ → Reading (Unit {0})
 comment_reading zs = run comment_step comment_stop comments.Inside zs
 
 keeps_comment : (cs : List ℕ) → Keeps (λ zs. gap_taken (comment_reading zs)) cs
-keeps_comment cs =
-    keeps_reading gap_taken (λ r. inl (elements.Gap, r.1, refl), λ stop. refl) comment_reading cs
-    (λ more h. bad_stays comment_step comment_stop comment_never_bad comments.Inside cs more h)
-    (goes_on comment_step comment_stop comment_closes comments.Inside cs)
+keeps_comment cs = keeps_run comment_step comment_stop gap_taken (λ r. inl (elements.Gap, r.1, refl), λ stop. refl) comment_never_bad comment_closes comments.Inside cs
 
 -- numbers
 

@@ -16,13 +16,14 @@ use Rattle.js_lexer.specs.declared.quoted.Quote.TheVariants as quotes
 use Rattle.js_lexer.specs.declared.token.TemplatePart.TheVariants as templates
 use Rattle.js_lexer.specs.Characters.{is_name_start, is_digit, is_white_space, is_line_terminator}
 use Rattle.js_lexer.specs.Elements.{gap, Stands, Shows}
-use Rattle.js_lexer.specs.Grammar.{char}
+use Rattle.js_lexer.specs.Grammar.{name, numeric_literal, bigint, escaped_name, private_name}
 use Rattle.js_lexer.specs.Machines.{Reading, run}
 use Rattle.js_lexer.specs.Numbers.{number_step, number_stop}
 use Rattle.js_lexer.specs.Punctuators.{punctuator_of, singles, named, IsPunctuator}
 use Rattle.js_lexer.specs.Rules.{Leads, begins_with}
 use Rattle.js_lexer.specs.Scanning.{Taking, number_taken, number_of, mark_of, dot_of, slash_of, escape_of, private_of, string_of, template_of, other_of, unnamed_of, element_of, escape_reading}
 use Rattle.js_lexer.proofs.Beginnings.{Family, gaps, numbers, marks, family_of}
+use Rattle.js_lexer.proofs.Derivatives.{stuck_there}
 use Rattle.js_lexer.proofs.Exactly.{Exactly, Only, in_family, no_form, number_form, only, only_form, of_only, none_shows, at_point}
 use Rattle.js_lexer.proofs.Firsts.{space_no_start, digit_no_start, digit_no_mark, space_no_mark}
 use Rattle.js_lexer.proofs.Marks_taken.{MarksAt, exactly_mark, exactly_slash}
@@ -247,15 +248,9 @@ unnamed_exactly inside c cs s =
 -- nothing stands at the end of a text
 
 pub nothing_stands : (inside : Bool) (e : Element) (ys : List ℕ) → Stands inside e [] ys → ⊥
-nothing_stands inside elements.Gap ys (inl h) = h
-nothing_stands inside elements.Gap ys (inr (inl h)) = h
-nothing_stands inside elements.Gap ys (inr (inr (inl (ms, h, k)))) = h
-nothing_stands inside elements.Gap ys (inr (inr (inr (ms, h, k)))) = h
-nothing_stands inside elements.Word ys (ms, h, k) = h
-nothing_stands inside elements.Number ys (ms, inl (inl (ns, inl h, l)), k) = h
-nothing_stands inside elements.Number ys (ms, inl (inl (ns, inr (os, h, m), l)), k) = h
-nothing_stands inside elements.Number ys (ms, inl (inr (ns, h, l)), k) = h
-nothing_stands inside elements.Number ys (ms, inr (ns, h, l), k) = h
+nothing_stands inside elements.Gap ys h = stuck_there gap ys refl h
+nothing_stands inside elements.Word ys h = stuck_there name ys refl h
+nothing_stands inside elements.Number ys h = stuck_there (numeric_literal false) ys refl h
 nothing_stands inside elements.String ys (inl (ms, h, k)) = h
 nothing_stands inside elements.String ys (inr (ms, h, k)) = h
 nothing_stands inside (elements.Template templates.Whole) ys (ms, h, k) = h
@@ -265,20 +260,10 @@ nothing_stands inside (elements.Template templates.Tail) ys (i, (ms, h, k)) = h
 nothing_stands inside (elements.Punctuator p) ys h = no_some (punctuator_of []) (p, ys) refl ((punctuator_exact p [] ys).0 h.0)
 
 pub nothing_shows : (form : Form) → Shows form [] → ⊥
-nothing_shows forms.BigInt (ys, (ms, inl (inl h), k)) = h
-nothing_shows forms.BigInt (ys, (ms, inl (inr (ns, h, l)), k)) = h
-nothing_shows forms.BigInt (ys, (ms, inr (ns, h, l), k)) = h
-nothing_shows forms.Separator (ys, (ms, inl (inl (ns, inl h, l)), k), n) = h
-nothing_shows forms.Separator (ys, (ms, inl (inl (ns, inr (os, h, m), l)), k), n) = h
-nothing_shows forms.Separator (ys, (ms, inl (inr (ns, h, l)), k), n) = h
-nothing_shows forms.Separator (ys, (ms, inr (ns, h, l), k), n) = h
-nothing_shows forms.Escape (ys, (ms, inl (zs, h, l), k)) = h
-nothing_shows forms.Escape (ys, (ms, inr e, (ns, h, k))) = none ms e h
-  where
-    none : (ms : List ℕ) → [] ≡ ms → Leads (char 92) ms ns → ⊥
-    none [] e h = h
-    none (x ∷ xs) e h = cc
-nothing_shows forms.Private (ys, (ms, h, k)) = h
+nothing_shows forms.BigInt (ys, h) = stuck_there bigint ys refl h
+nothing_shows forms.Separator (ys, h, n) = stuck_there (numeric_literal true) ys refl h
+nothing_shows forms.Escape (ys, h) = stuck_there escaped_name ys refl h
+nothing_shows forms.Private (ys, h) = stuck_there private_name ys refl h
 nothing_shows forms.Decorator (ys, h) = h
 
 -- the next element is taken exactly

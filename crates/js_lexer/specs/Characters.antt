@@ -21,7 +21,8 @@ is_line_terminator c = c == 10 || c == 13 || c == 0x2028 || c == 0x2029
 -- ECMA-262 White Space, WhiteSpace
 abbrev pub is_white_space : ℕ → Bool
 is_white_space c =
-    c == 9 || c == 11 || c == 12 || c == 32 || c == 160 || c == 0x1680 || (nat_le 0x2000 c && nat_le c 0x200a)
+    c == 9 || c == 11 || c == 12 || c == 32 || c == 160 || c == 0x1680
+    || (nat_le 0x2000 c && nat_le c 0x200a)
     || c == 0x202f || c == 0x205f || c == 0x3000 || c == 0xfeff
 
 -- `$`, `_`, or a character that Unicode lets begin an identifier
@@ -46,7 +47,8 @@ abbrev pub is_hex_digit : ℕ → Bool
 is_hex_digit c = is_ascii_hexdigit c
 
 -- the start of a name or a digit: no numeric literal ends before one. ASCII's letters, `$` and `_`
--- are starts of names; they stand here by themselves so that it can be seen without Unicode's tables
+-- are starts of names; they stand here by themselves so
+-- that it can be seen without Unicode's tables
 -- ECMA-262 Numeric Literals
 unfoldable pub bars_number_end : ℕ → Bool
 bars_number_end c = is_digit c || is_ascii_alphabetic c || c == 36 || c == 95 || is_name_start c

@@ -39,7 +39,8 @@ abbrev pub Stands : Bool → Element → List ℕ → List ℕ → Type 0
 Stands inside elements.Gap xs ys = Leads gap xs ys
 Stands inside elements.Word xs ys = Leads name xs ys
 Stands inside elements.Number xs ys = Leads (numeric_literal false) xs ys
-Stands inside elements.String xs ys = Leads (string_literal 34) xs ys ⊎ Leads (string_literal 39) xs ys
+Stands inside elements.String xs ys =
+    Leads (string_literal 34) xs ys ⊎ Leads (string_literal 39) xs ys
 Stands inside (elements.Template part) xs ys = IsTemplate inside part xs ys
 Stands inside (elements.Punctuator p) xs ys = IsPunctuator p xs ys × MayStand inside p
 
@@ -48,7 +49,9 @@ Stands inside (elements.Punctuator p) xs ys = IsPunctuator p xs ys × MayStand i
 -- own: the profile refuses these forms by name
 abbrev pub Shows : Form → List ℕ → Type 0
 Shows forms.BigInt xs = (ys : List ℕ) × Leads bigint xs ys
-Shows forms.Separator xs = (ys : List ℕ) × Leads (numeric_literal true) xs ys × ((zs : List ℕ) → ¬ (Leads (numeric_literal false) xs zs))
+Shows forms.Separator xs =
+    (ys : List ℕ) × Leads (numeric_literal true) xs ys
+    × ((zs : List ℕ) → ¬ (Leads (numeric_literal false) xs zs))
 Shows forms.Escape xs = (ys : List ℕ) × Leads escaped_name xs ys
 Shows forms.Private xs = (ys : List ℕ) × Leads private_name xs ys
 Shows forms.Decorator xs = (ys : List ℕ) × Leads decorator xs ys
@@ -59,4 +62,5 @@ IsElement inside e xs ys = Stands inside e xs ys × ((form : Form) → ¬ (Shows
 
 -- neither an element nor a form that is left out stands at the start of the text
 abbrev pub StandsNone : Bool → List ℕ → Type 0
-StandsNone inside xs = ((e : Element) (ys : List ℕ) → ¬ (Stands inside e xs ys)) × ((form : Form) → ¬ (Shows form xs))
+StandsNone inside xs =
+    ((e : Element) (ys : List ℕ) → ¬ (Stands inside e xs ys)) × ((form : Form) → ¬ (Shows form xs))

@@ -1,4 +1,5 @@
--- The lexical grammar, as far as the profile of the language has it, and the forms of it that the profile
+-- The lexical grammar, as far as the profile of the
+-- language has it, and the forms of it that the profile
 -- leaves out by name.
 use Rattle.std.specs.Prelude.{ℕ, ◌+◌, ◌*◌, ◌==◌, ◌&&◌, ◌||◌, not, nat_le, Bool, true, false, List, [], ◌∷◌}
 use Rattle.js_lexer.specs.Characters.{is_line_terminator, is_white_space, is_name_start, is_name_part, is_digit, is_hex_digit, bars_number_end, hex_value}
@@ -50,7 +51,9 @@ not_asterisk c = not (c == 42)
 -- the characters of a comment between `/*` and `*/`, and its end
 -- ECMA-262 Comments, MultiLineCommentChars
 abbrev pub rest_of_comment : Rule
-rest_of_comment = Then (Many (Or (One not_asterisk) (Then (char 42) (NotBefore (is 47))))) (Then (char 42) (char 47))
+rest_of_comment =
+    Then (Many (Or (One not_asterisk) (Then (char 42) (NotBefore (is 47)))))
+    (Then (char 42) (char 47))
 
 -- ECMA-262 Comments, MultiLineComment
 abbrev pub block_comment : Rule
@@ -71,13 +74,15 @@ name = Then (One is_name_start) name_rest
 abbrev pub hex_digit : Rule
 hex_digit = One is_hex_digit
 
--- the number that hexadecimal digits write, behind the number that the digits in front of them write
+-- the number that hexadecimal digits write, behind the
+-- number that the digits in front of them write
 -- ECMA-262 Numeric Literals, MV of HexDigits
 abbrev pub hex_from : ℕ → List ℕ → ℕ
 hex_from v [] = v
 hex_from v (c ∷ cs) = hex_from (v * 16 + hex_value c) cs
 
--- hexadecimal digits, but only if they write at most 0x10FFFF; here the ones behind digits that write v
+-- hexadecimal digits, but only if they write at most
+-- 0x10FFFF; here the ones behind digits that write v
 -- ECMA-262 Names and Keywords, CodePoint
 abbrev pub code_point_after : ℕ → Rule
 code_point_after v = OnlyIf (Many hex_digit) (λ w. nat_le (hex_from v w) 0x10FFFF)
@@ -89,7 +94,9 @@ code_point = OnlyIf (Then hex_digit (Many hex_digit)) (λ w. nat_le (hex_from 0 
 -- behind the `u` of an escape
 -- ECMA-262 String Literals, UnicodeEscapeSequence
 abbrev pub after_u : Rule
-after_u = Or (Then hex_digit (Then hex_digit (Then hex_digit hex_digit))) (Then (char 123) (Then code_point (char 125)))
+after_u =
+    Or (Then hex_digit (Then hex_digit (Then hex_digit hex_digit)))
+    (Then (char 123) (Then code_point (char 125)))
 
 -- ECMA-262 String Literals, UnicodeEscapeSequence
 abbrev pub unicode_escape : Rule
@@ -103,7 +110,8 @@ is_escape_character c = not (is_digit c || c == 120 || c == 117 || is_line_termi
 -- ECMA-262 Line Terminators, LineTerminatorSequence
 abbrev pub line_terminator_sequence : Rule
 line_terminator_sequence =
-    Or (One (λ c. c == 10 || c == 0x2028 || c == 0x2029)) (Then (char 13) (Or (char 10) (NotBefore (is 10))))
+    Or (One (λ c. c == 10 || c == 0x2028 || c == 0x2029))
+    (Then (char 13) (Or (char 10) (NotBefore (is 10))))
 
 -- what stands behind a backslash in a text: an escape, without the octal ones, or the end of a line
 -- ECMA-262 String Literals, EscapeSequence and LineContinuation
@@ -143,7 +151,8 @@ is_plain_in_template c = not (c == 96 || c == 92 || c == 36)
 
 -- ECMA-262 Template Literal Lexical Components, TemplateCharacter
 abbrev pub template_character : Rule
-template_character = Or (One is_plain_in_template) (Or (Then (char 36) (NotBefore (is 123))) escape_sequence)
+template_character =
+    Or (One is_plain_in_template) (Or (Then (char 36) (NotBefore (is 123))) escape_sequence)
 
 -- up to the closing grave accent
 abbrev pub rest_of_template : Rule
@@ -199,17 +208,21 @@ is_binary_digit c = c == 48 || c == 49
 -- without the forms with a leading zero, which strict code refuses
 -- ECMA-262 Numeric Literals, DecimalIntegerLiteral
 abbrev pub decimal_integer : Bool → Rule
-decimal_integer separators = Or (char 48) (Then (One is_nonzero_digit) (more_digits separators is_digit))
+decimal_integer separators =
+    Or (char 48) (Then (One is_nonzero_digit) (more_digits separators is_digit))
 
 -- ECMA-262 Numeric Literals, ExponentPart
 abbrev pub exponent : Bool → Rule
-exponent separators = Then (either 101 69) (Then (optional (either 43 45)) (digits separators is_digit))
+exponent separators =
+    Then (either 101 69) (Then (optional (either 43 45)) (digits separators is_digit))
 
 -- no point follows an integer that takes none
 -- ECMA-262 Numeric Literals, DecimalLiteral
 abbrev pub decimal_literal : Bool → Rule
 decimal_literal separators =
-    Or (Then (decimal_integer separators) (Then (Or (Then (char 46) (optional (digits separators is_digit))) (NotBefore (is 46))) (optional (exponent separators))))
+    Or (Then (decimal_integer separators)
+    (Then (Or (Then (char 46) (optional (digits separators is_digit))) (NotBefore (is 46)))
+    (optional (exponent separators))))
     (Then (char 46) (Then (digits separators is_digit) (optional (exponent separators))))
 
 -- ECMA-262 Numeric Literals, HexIntegerLiteral, OctalIntegerLiteral and BinaryIntegerLiteral
@@ -228,18 +241,21 @@ literal_end = NotBefore bars_number_end
 -- without BigInts
 -- ECMA-262 Numeric Literals, NumericLiteral
 abbrev pub numeric_literal : Bool → Rule
-numeric_literal separators = Then (Or (decimal_literal separators) (non_decimal_integer separators)) literal_end
+numeric_literal separators =
+    Then (Or (decimal_literal separators) (non_decimal_integer separators)) literal_end
 
 -- The forms that the profile leaves out by name
 
--- ECMA-262 Numeric Literals, DecimalBigIntegerLiteral and NonDecimalIntegerLiteral BigIntLiteralSuffix
+-- ECMA-262 Numeric Literals, DecimalBigIntegerLiteral and BigIntLiteralSuffix
 abbrev pub bigint : Rule
 bigint = Then (Or (decimal_integer true) (non_decimal_integer true)) (Then (char 110) literal_end)
 
 -- up to its first escape
 -- ECMA-262 Names and Keywords, IdentifierName
 abbrev pub escaped_name : Rule
-escaped_name = Then (optional (Then (One is_name_start) (Many (One is_name_part)))) (Then (char 92) unicode_escape)
+escaped_name =
+    Then (optional (Then (One is_name_start) (Many (One is_name_part))))
+    (Then (char 92) unicode_escape)
 
 -- its first character
 -- ECMA-262 Names and Keywords, PrivateIdentifier

@@ -84,7 +84,9 @@ Stands p xs ys = (xs ≡ text_of p ++ ys) × (follows p ys ≡ true)
 -- it is the longest that stands there
 -- ECMA-262 ECMAScript Language: Lexical Grammar
 abbrev pub IsPunctuator : Punctuator → List ℕ → List ℕ → Type 0
-IsPunctuator p xs ys = Stands p xs ys × ((q : Punctuator) (zs : List ℕ) → Stands q xs zs → length (text_of q) ≤ length (text_of p))
+IsPunctuator p xs ys =
+    Stands p xs ys
+    × ((q : Punctuator) (zs : List ℕ) → Stands q xs zs → length (text_of q) ≤ length (text_of p))
 
 -- The longest punctuator, read a character at a time
 
@@ -189,7 +191,8 @@ dots (c ∷ d ∷ cs) = cond (c == 46 && d == 46) (Ellipsis, cs) (Dot, c ∷ d �
 -- behind a `?`
 abbrev pub question : List ℕ → Punctuator × List ℕ
 question [] = (Question, [])
-question (c ∷ cs) = cond (c == 46 && follows OptionalChain cs) (OptionalChain, cs) (grown Question (c ∷ cs))
+question (c ∷ cs) =
+    cond (c == 46 && follows OptionalChain cs) (OptionalChain, cs) (grown Question (c ∷ cs))
 
 -- behind a first character
 abbrev pub started : Punctuator → List ℕ → Punctuator × List ℕ

@@ -1,4 +1,5 @@
--- The notation in which ECMA-262 writes its lexical grammar: productions over characters, with lookahead.
+-- The notation in which ECMA-262 writes its lexical
+-- grammar: productions over characters, with lookahead.
 use Rattle.std.specs.Prelude.{◌≡◌, ℕ, Bool, true, false, List, [], ◌∷◌, ◌++◌, ◌⊎◌}
 
 -- the right side of a production

@@ -18,7 +18,8 @@ use Rattle.js_lexer.specs.Nestings.{inside, nested}
 use Rattle.js_lexer.specs.Skipping.{skip, keep}
 use Rattle.js_lexer.specs.Spots.{over_all, place_at}
 
--- how far a source is read: the characters that are left, how far that is, what is open there, and the tokens so far
+-- how far a source is read: the characters that are left, how
+-- far that is, what is open there, and the tokens so far
 pub record State : Type 0 where
   pub rest : List ℕ
   pub spot : Spot
@@ -39,11 +40,18 @@ IsKind _ _ _ = ⊥
 
 -- the token between two spots
 abbrev pub token_between : Spot → Spot → TokenKind → Token
-token_between from to kind = record { start = from.place; from = from.offset; to = to.offset; kind = kind; after_line = from.after_line }
+token_between from to kind = record {
+  start = from.place;
+  from = from.offset;
+  to = to.offset;
+  kind = kind;
+  after_line = from.after_line;
+}
 
 -- a spot behind a token
 abbrev pub behind_token : Spot → Spot
-behind_token s = record { place = s.place; offset = s.offset; after_return = s.after_return; after_line = false }
+behind_token s =
+    record { place = s.place; offset = s.offset; after_return = s.after_return; after_line = false }
 
 -- the state behind a token whose text ends at a spot
 abbrev pub pushed : State → Element → TokenKind → List ℕ → Spot → State
@@ -56,7 +64,8 @@ pushed s e kind left to = record {
 
 -- the state behind a gap, and behind a token, with the text w
 abbrev pub over_gap : State → List ℕ → List ℕ → State
-over_gap s w left = record { rest = left; spot = over_all s.spot w; opens = s.opens; tokens = s.tokens }
+over_gap s w left =
+    record { rest = left; spot = over_all s.spot w; opens = s.opens; tokens = s.tokens }
 
 abbrev pub over_token : State → Element → TokenKind → List ℕ → List ℕ → State
 over_token s e kind w left = pushed s e kind left (over_all s.spot w)
@@ -64,8 +73,11 @@ over_token s e kind w left = pushed s e kind left (over_all s.spot w)
 -- one element more is taken: the one that stands there
 -- ECMA-262 ECMAScript Language: Lexical Grammar
 pub data Takes : State → State → Type 0 where
-  gap : (s : State) (w left : List ℕ) → s.rest ≡ w ++ left → IsElement (inside s.opens) elements.Gap s.rest left → Takes s (over_gap s w left)
-  token : (s : State) (e : Element) (kind : TokenKind) (w left : List ℕ) → s.rest ≡ w ++ left → IsElement (inside s.opens) e s.rest left → IsKind e w kind →
+  gap : (s : State) (w left : List ℕ) → s.rest ≡ w ++ left →
+      IsElement (inside s.opens) elements.Gap s.rest left →
+      Takes s (over_gap s w left)
+  token : (s : State) (e : Element) (kind : TokenKind) (w left : List ℕ) → s.rest ≡ w ++ left →
+      IsElement (inside s.opens) e s.rest left → IsKind e w kind →
       Takes s (over_token s e kind w left)
 
 -- any number of elements, one after the other
@@ -77,7 +89,8 @@ pub data Run : State → State → Type 0 where
 -- the start of a source
 
 abbrev pub first_spot : ℕ → Spot
-first_spot offset = record { place = place_at 1 1; offset = offset; after_return = false; after_line = false }
+first_spot offset =
+    record { place = place_at 1 1; offset = offset; after_return = false; after_line = false }
 
 -- a leading byte order mark is dropped, and is no unit of the first line
 -- own: the standard reads it as white space, and leaves dropping it to the host
@@ -109,15 +122,19 @@ opening cs = behind_hashbang (behind_mark cs)
 -- ECMA-262 ECMAScript Language: Lexical Grammar
 -- Unicode UTF-8
 abbrev pub IsTokens : List ℕ → List Token → Type 0
-IsTokens bytes tokens = IsUtf8 bytes × ((s : State) × Run (opening (chars bytes)) s × (s.rest ≡ []) × (s.tokens ≡ tokens))
+IsTokens bytes tokens =
+    IsUtf8 bytes
+    × ((s : State) × Run (opening (chars bytes)) s × (s.rest ≡ []) × (s.tokens ≡ tokens))
 
 -- the longest front of a source that is UTF-8, with whether it is the whole
 -- Unicode UTF-8
 abbrev pub IsFront : List ℕ → List ℕ → Bool → Type 0
 IsFront bytes front true = IsUtf8 bytes × (front ≡ bytes)
-IsFront bytes front false = ¬ (IsUtf8 bytes) × ((n : ℕ) × IsValidUpTo bytes n × (front ≡ take n bytes))
+IsFront bytes front false =
+    ¬ (IsUtf8 bytes) × ((n : ℕ) × IsValidUpTo bytes n × (front ≡ take n bytes))
 
--- no element stands at the start of the text, and none will whatever follows it; where it is the end of a source, nothing follows
+-- no element stands at the start of the text, and none will whatever
+-- follows it; where it is the end of a source, nothing follows
 abbrev pub IsBad : Bool → Bool → List ℕ → Type 0
 IsBad true inside xs = ¬ (xs ≡ []) × StandsNone inside xs
 IsBad false inside xs = (more : List ℕ) → StandsNone inside (xs ++ more)
@@ -127,7 +144,8 @@ IsBad false inside xs = (more : List ℕ) → StandsNone inside (xs ++ more)
 abbrev pub IsBadToken : List ℕ → Place → Type 0
 IsBadToken bytes place =
     (front : List ℕ) × (whole : Bool) × IsFront bytes front whole
-    × ((s : State) × Run (opening (chars front)) s × (s.spot.place ≡ place) × IsBad whole (inside s.opens) s.rest)
+    × ((s : State) × Run (opening (chars front)) s × (s.spot.place ≡ place)
+    × IsBad whole (inside s.opens) s.rest)
 
 -- the source is refused at this place with a form that the profile leaves out
 -- own: the profile refuses these forms by name
@@ -138,11 +156,14 @@ IsUnsupported bytes place form =
 
 -- an element or a form that is left out stands at the start of the text
 abbrev pub StandsSome : Bool → List ℕ → Type 0
-StandsSome inside xs = ((e : Element) × (ys : List ℕ) × Stands inside e xs ys) ⊎ ((form : Form) × Shows form xs)
+StandsSome inside xs =
+    ((e : Element) × (ys : List ℕ) × Stands inside e xs ys) ⊎ ((form : Form) × Shows form xs)
 
--- the text ends here, or inside an element: none stands at its start, but one would if more followed
+-- the text ends here, or inside an element: none stands
+-- at its start, but one would if more followed
 abbrev pub IsCut : Bool → List ℕ → Type 0
-IsCut inside xs = (xs ≡ []) ⊎ (StandsNone inside xs × ((more : List ℕ) × StandsSome inside (xs ++ more)))
+IsCut inside xs =
+    (xs ≡ []) ⊎ (StandsNone inside xs × ((more : List ℕ) × StandsSome inside (xs ++ more)))
 
 -- the source is refused since its bytes are not UTF-8: at the place behind the characters in front
 -- of the bad byte, where these are elements up to there, or up to one that runs into it
@@ -150,4 +171,5 @@ IsCut inside xs = (xs ≡ []) ⊎ (StandsNone inside xs × ((more : List ℕ) ×
 abbrev pub IsNotUtf8 : List ℕ → Place → Type 0
 IsNotUtf8 bytes place =
     (front : List ℕ) × IsFront bytes front false
-    × ((s : State) × Run (opening (chars front)) s × ((over_all s.spot s.rest).place ≡ place) × IsCut (inside s.opens) s.rest)
+    × ((s : State) × Run (opening (chars front)) s × ((over_all s.spot s.rest).place ≡ place)
+    × IsCut (inside s.opens) s.rest)

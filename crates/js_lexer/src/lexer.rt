@@ -226,8 +226,8 @@ fn kind_of(element: Element, bytes: &[u8]) -> TokenKind
 
 /// The tokens of a source, by ECMA-262's lexical grammar in the profile of the language.
 ///
-/// It answers `NotUtf8`, `BadToken` or `Unsupported` (`bigint`, `separator`, `escape`, `private`, `decorator`) at the first byte or token that is so,
-/// and `OutOfMemory` also for a source of more than `MAX_SOURCE` bytes.
+/// It answers `NotUtf8`, `BadToken` or `Unsupported` (`bigint`, `separator`, `escape`, `private`, `decorator`)
+/// at the first byte or token that is so, and `OutOfMemory` also for a source of more than `MAX_SOURCE` bytes.
 #[tactic(auto, using(crate::proofs::Answers_laws::only_tokens, crate::proofs::Answers_laws::only_fault, crate::proofs::Slices::in_order, crate::proofs::Slices::texts_are_slices))]
 pub fn tokens(alloc: Global, source: &[u8]) -> Result<List<Token>, SyntaxFault>
     ensures tokens { IfOk result (λ tokens. IsTokens source.now tokens) }
