@@ -10,10 +10,11 @@ use js_tree::fault::{SyntaxFault, SyntaxWhat};
 use lava_base::place::Place;
 use std::alloc::Global;
 use std::fmt::Write;
+use std::process::Abort;
 use std::test::Fail;
 
-static TEXTS: [(&str, &str); 140] = [
-    // White space, line terminators, a byte order mark and a `#!` line stand between tokens.
+// White space, line terminators, a byte order mark and a `#!` line stand between tokens.
+static GAPS: [(&str, &str); 18] = [
     ("", ""),
     (" \t", ""),
     ("\n", ""),
@@ -38,7 +39,10 @@ static TEXTS: [(&str, &str); 140] = [
     ("\u{feff}#!x\r\na", "^n8-9"),
     ("#!\u{2028}a", "^n5-6"),
     ("#!a", ""),
-    // So do comments.
+];
+
+// So do comments.
+static COMMENTS: [(&str, &str); 9] = [
     ("a//b\nc", "n0-1 ^n5-6"),
     ("//\u{2028}a", "^n5-6"),
     ("a//b", "n0-1"),
@@ -48,7 +52,10 @@ static TEXTS: [(&str, &str); 140] = [
     ("a/*\n*/b", "n0-1 ^n6-7"),
     ("/*\u{2029}*/ a", "^n8-9"),
     ("/***/a/*/*/", "n5-6"),
-    // Names and keywords.
+];
+
+// Names and keywords.
+static WORDS: [(&str, &str); 27] = [
     ("a", "n0-1"),
     ("let x = 1;", "k0-3 n4-5 p6-7 d8-9 p9-10"),
     ("await async of get set", "n0-5 n6-11 n12-14 n15-18 n19-22"),
@@ -79,7 +86,10 @@ static TEXTS: [(&str, &str); 140] = [
     ("undefined", "n0-9"),
     ("console", "n0-7"),
     ("x", "n0-1"),
-    // Numeric literals.
+];
+
+// Numeric literals.
+static NUMBERS: [(&str, &str); 40] = [
     ("0", "d0-1"),
     ("0.", "d0-2"),
     (".5", "d0-2"),
@@ -120,7 +130,10 @@ static TEXTS: [(&str, &str); 140] = [
     (".x", "p0-1 n1-2"),
     (".e5", "p0-1 n1-3"),
     (".", "p0-1"),
-    // Punctuators.
+];
+
+// Punctuators.
+static MARKS: [(&str, &str); 23] = [
     ("a/b/c", "n0-1 p1-2 n2-3 p3-4 n4-5"),
     ("a /= b", "n0-1 p2-4 n5-6"),
     ("/=/", "p0-2 p2-3"),
@@ -144,7 +157,10 @@ static TEXTS: [(&str, &str); 140] = [
     (".a", "p0-1 n1-2"),
     ("--->", "p0-2 p2-3 p3-4"),
     ("=!", "p0-1 p1-2"),
-    // String literals.
+];
+
+// String literals.
+static STRINGS: [(&str, &str); 10] = [
     ("'' \"\"", "s0-2 s3-5"),
     ("'a\"'\"b'\"", "s0-4 s4-8"),
     ("'\u{2028}'a", "s0-5 n5-6"),
@@ -155,7 +171,10 @@ static TEXTS: [(&str, &str); 140] = [
     ("'a\\\nb'c", "s0-6 n6-7"),
     ("'\\\r' '\\\r\n' '\\\u{2028}'", "s0-4 s5-10 s11-17"),
     ("'\u{1f600}\\\u{1f600}' '/*'", "s0-11 s12-16"),
-    // Templates and their parts.
+];
+
+// Templates and their parts.
+static TEMPLATES: [(&str, &str); 13] = [
     ("``", "w0-2"),
     ("`a\nb`c", "w0-5 n5-6"),
     ("`$`+`$a`", "w0-3 p3-4 w4-8"),
@@ -174,9 +193,28 @@ static TEXTS: [(&str, &str); 140] = [
     ("`${a", "h0-3 n3-4"),
 ];
 
-// Sources that are refused.
-static REFUSED: [(&[u8], &str); 158] = [
-    // Forms that the profile leaves out.
+// The places of tokens: line and unit.
+static PLACES: [(&str, &str); 16] = [
+    ("a\nb c", "1:1 2:1 2:3"),
+    ("a\rb\r\nc", "1:1 2:1 3:1"),
+    ("a\n\rb\r\r\nc", "1:1 3:1 5:1"),
+    ("a\u{2028}b\u{2029} c", "1:1 2:1 3:2"),
+    ("a\tb", "1:1 1:3"),
+    ("\u{e9}\u{4e00} b", "1:1 1:4"),
+    ("\u{10400} b", "1:1 1:4"),
+    ("'\u{1f600}' b", "1:1 1:6"),
+    ("\u{feff}a b", "1:1 1:3"),
+    ("a\u{feff}b", "1:1 1:3"),
+    ("#!x\na", "2:1"),
+    ("\u{feff}#!\u{10400}\r\n  a", "2:3"),
+    ("/*\r\n\n*/ a", "3:4"),
+    ("`a\nb${c}\n` d", "1:1 2:4 2:5 3:3"),
+    ("'a\\\r\nb' c", "1:1 2:4"),
+    ("'\u{2028}' b", "1:1 2:3"),
+];
+
+// Forms that the profile leaves out.
+static LEFT_OUT: [(&[u8], &str); 27] = [
     (b"let a = 1n;", "1:9 bigint"),
     (b"0xFn", "1:1 bigint"),
     (b"1_0n", "1:1 bigint"),
@@ -204,7 +242,10 @@ static REFUSED: [(&[u8], &str); 158] = [
     (b"0b1n", "1:1 bigint"),
     (b"1n.x", "1:1 bigint"),
     (b"@", "1:1 decorator"),
-    // Numeric literals that go on with what none does.
+];
+
+// Numeric literals that go on with what none does.
+static NO_NUMBERS: [(&[u8], &str); 38] = [
     (b"1__0", "1:1 bad token"),
     (b"1_", "1:1 bad token"),
     (b"0_1", "1:1 bad token"),
@@ -243,7 +284,10 @@ static REFUSED: [(&[u8], &str); 158] = [
     (b"1e1_", "1:1 bad token"),
     (b"0xf_", "1:1 bad token"),
     (b"0b1_", "1:1 bad token"),
-    // Characters with which no token begins or goes on.
+];
+
+// Characters with which no token begins or goes on.
+static CHARACTERS: [(&[u8], &str); 15] = [
     (b"ab\\x", "1:3 bad token"),
     (b"\\", "1:1 bad token"),
     (b"\\u{110000}", "1:1 bad token"),
@@ -259,7 +303,10 @@ static REFUSED: [(&[u8], &str); 158] = [
     (b"\xF0\x90\x90\x80+\xF0\x9F\x98\x80", "1:4 bad token"),
     (b"}`", "1:2 bad token"),
     (b"/*", "1:1 bad token"),
-    // Strings, templates and comments that do not end, or have an escape that none has.
+];
+
+// Strings, templates and comments that do not end, or have an escape that none has.
+static QUOTED: [(&[u8], &str); 24] = [
     (b"\"a", "1:1 bad token"),
     (b"'a\n", "1:1 bad token"),
     (b"a 'b\r'", "1:3 bad token"),
@@ -284,7 +331,10 @@ static REFUSED: [(&[u8], &str); 158] = [
     (b"`\\1`", "1:1 bad token"),
     (b"`\\u{110000}`", "1:1 bad token"),
     (b"`${a}\\xg`", "1:5 bad token"),
-    // Bytes that are not UTF-8, and what stands before them.
+];
+
+// Bytes that are not UTF-8, and what stands before them.
+static BROKEN: [(&[u8], &str); 26] = [
     (b"\xFF", "1:1 not utf-8"),
     (b"a\xFF", "1:2 not utf-8"),
     (b"a\xE2\x28", "1:2 not utf-8"),
@@ -311,6 +361,10 @@ static REFUSED: [(&[u8], &str); 158] = [
     (b"#\xFF", "1:2 not utf-8"),
     (b"a\\\xFF", "1:3 not utf-8"),
     (b"'\\u{11\xFF", "1:7 not utf-8"),
+];
+
+// Numbers in front of a byte that is not UTF-8: one that is cut off is no bad token.
+static CUT: [(&[u8], &str); 28] = [
     (b"00\xFF", "1:1 bad token"),
     (b"08\xFF", "1:1 bad token"),
     (b"08n\xFF", "1:1 bad token"),
@@ -339,26 +393,6 @@ static REFUSED: [(&[u8], &str); 158] = [
     (b"1e1_\xFF", "1:5 not utf-8"),
     (b"0xf_\xFF", "1:5 not utf-8"),
     (b"0b1_\xFF", "1:5 not utf-8"),
-];
-
-// The places of tokens: line and unit.
-static PLACES: [(&str, &str); 16] = [
-    ("a\nb c", "1:1 2:1 2:3"),
-    ("a\rb\r\nc", "1:1 2:1 3:1"),
-    ("a\n\rb\r\r\nc", "1:1 3:1 5:1"),
-    ("a\u{2028}b\u{2029} c", "1:1 2:1 3:2"),
-    ("a\tb", "1:1 1:3"),
-    ("\u{e9}\u{4e00} b", "1:1 1:4"),
-    ("\u{10400} b", "1:1 1:4"),
-    ("'\u{1f600}' b", "1:1 1:6"),
-    ("\u{feff}a b", "1:1 1:3"),
-    ("a\u{feff}b", "1:1 1:3"),
-    ("#!x\na", "2:1"),
-    ("\u{feff}#!\u{10400}\r\n  a", "2:3"),
-    ("/*\r\n\n*/ a", "3:4"),
-    ("`a\nb${c}\n` d", "1:1 2:4 2:5 3:3"),
-    ("'a\\\r\nb' c", "1:1 2:4"),
-    ("'\u{2028}' b", "1:1 2:3"),
 ];
 
 fn letter(kind: TokenKind) -> char {
@@ -423,19 +457,64 @@ fn answer(alloc: Global, source: &[u8], only_place: bool) -> Result<String, Fail
     Ok(text)
 }
 
+fn each_text(rt: &impl Abort, alloc: Global, table: &[(&str, &str)]) -> Result<(), Fail> {
+    for (source, expected) in table {
+        let text = answer(alloc, source.as_bytes(), false)?;
+        assert_eq!(rt; text.as_str(), *expected, "{source:?}");
+    }
+    Ok(())
+}
+
+fn each_source(rt: &impl Abort, alloc: Global, table: &[(&[u8], &str)]) -> Result<(), Fail> {
+    for (source, expected) in table {
+        let text = answer(alloc, source, false)?;
+        assert_eq!(rt; text.as_str(), *expected, "{source:?}");
+    }
+    Ok(())
+}
+
 #[test]
-fn sources_are_divided_as_the_standard_says(rt: HostRuntime) -> Result<(), Fail> {
-    for (source, expected) in &TEXTS {
-        let text = answer(rt.alloc(), source.as_bytes(), false)?;
-        assert_eq!(rt; text.as_str(), *expected, "{source:?}");
-    }
-    for (source, expected) in &REFUSED {
-        let text = answer(rt.alloc(), source, false)?;
-        assert_eq!(rt; text.as_str(), *expected, "{source:?}");
-    }
+fn words_stand_between_gaps(rt: HostRuntime) -> Result<(), Fail> {
+    each_text(&rt, rt.alloc(), &GAPS)?;
+    each_text(&rt, rt.alloc(), &COMMENTS)?;
+    each_text(&rt, rt.alloc(), &WORDS)
+}
+
+#[test]
+fn numbers_and_marks_are_told_apart(rt: HostRuntime) -> Result<(), Fail> {
+    each_text(&rt, rt.alloc(), &NUMBERS)?;
+    each_text(&rt, rt.alloc(), &MARKS)
+}
+
+#[test]
+fn strings_and_templates_end_where_they_close(rt: HostRuntime) -> Result<(), Fail> {
+    each_text(&rt, rt.alloc(), &STRINGS)?;
+    each_text(&rt, rt.alloc(), &TEMPLATES)
+}
+
+#[test]
+fn places_are_lines_and_units(rt: HostRuntime) -> Result<(), Fail> {
     for (source, expected) in &PLACES {
         let text = answer(rt.alloc(), source.as_bytes(), true)?;
         assert_eq!(rt; text.as_str(), *expected, "{source:?}");
     }
     Ok(())
+}
+
+#[test]
+fn bad_tokens_are_refused_where_they_begin(rt: HostRuntime) -> Result<(), Fail> {
+    each_source(&rt, rt.alloc(), &LEFT_OUT)?;
+    each_source(&rt, rt.alloc(), &CHARACTERS)
+}
+
+#[test]
+fn numbers_and_texts_are_refused_where_they_begin(rt: HostRuntime) -> Result<(), Fail> {
+    each_source(&rt, rt.alloc(), &NO_NUMBERS)?;
+    each_source(&rt, rt.alloc(), &QUOTED)
+}
+
+#[test]
+fn bytes_are_refused_where_they_stop_being_utf8(rt: HostRuntime) -> Result<(), Fail> {
+    each_source(&rt, rt.alloc(), &BROKEN)?;
+    each_source(&rt, rt.alloc(), &CUT)
 }

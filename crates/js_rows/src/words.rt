@@ -162,7 +162,7 @@ fn first_token(alloc: Global, source: &str) -> Result<Token, Fail> {
 }
 
 #[test]
-fn keywords_and_punctuators_are_told_by_their_texts(rt: HostRuntime) -> Result<(), Fail> {
+fn keywords_are_told_by_their_texts(rt: HostRuntime) {
     for (word, keyword) in &KEYWORDS {
         assert_eq!(rt; keyword_of(word.as_bytes()), Some(*keyword), "{word}");
         assert_eq!(rt; keyword.text(), *word);
@@ -170,6 +170,10 @@ fn keywords_and_punctuators_are_told_by_their_texts(rt: HostRuntime) -> Result<(
     for word in &NAMES {
         assert_eq!(rt; keyword_of(word.as_bytes()), None, "{word}");
     }
+}
+
+#[test]
+fn punctuators_are_told_by_their_texts(rt: HostRuntime) -> Result<(), Fail> {
     for (source, length, punctuator) in &PUNCTUATORS {
         let token = first_token(rt.alloc(), source)?;
         assert_eq!(rt; token.kind, TokenKind::Punctuator(*punctuator), "{source}");
