@@ -1,6 +1,5 @@
 -- What more characters do where no element was taken: what is bad stays so, and what is cut off goes on.
 use Rattle.std.proofs.Common.{◌≡◌, ◌⊎◌, inl, inr, ℕ, ◌==◌, ◌||◌, ◌&&◌, Bool, true, false, cond, not, List, [], ◌∷◌, ◌++◌, Option, Some, None, Result, Ok, Err, refl, sym, ap, subst, ◌∙◌, arith}
-use Rattle.std.proofs.lemmas.Bool.Decides.{nat_tests}
 use Rattle.unicode_ident.proofs.IdentLemmas.{is_xid_start-ascii}
 use Rattle.js_lexer.specs.declared.comments.Comment.{Comment}
 use Rattle.js_lexer.specs.declared.comments.Comment.TheVariants as comments
@@ -36,7 +35,7 @@ use Rattle.js_lexer.specs.Machines.{Reading, run}
 use Rattle.js_lexer.specs.Numbers.{number_step, number_stop}
 use Rattle.js_lexer.specs.Punctuators.{single, singles, named, follows, begun, started}
 use Rattle.js_lexer.specs.Quoted.{quoted_step, quoted_stop, opened}
-use Rattle.js_lexer.specs.Scanning.{Taking, refused, escape_reading, left_out, word_unless, word_ending, word_of, number_taken, number_of, string_taken, string_of, template_taken, template_of, mark_taken, mark_of, gap_taken, slash_of, dot_of, escape_of, private_taken, private_of, other_of, unnamed_of, element_of}
+use Rattle.js_lexer.specs.Scanning.{Taking, refused, escape_reading, left_out, word_unless, word_ending, word_of, number_taken, number_of, string_taken, string_of, template_taken, template_of, mark_taken, mark_of, gap_taken, slash_of, dot_of, private_taken, other_of, unnamed_of, element_of}
 use Rattle.js_lexer.specs.Skipping.{skip}
 use Rattle.js_lexer.proofs.Machine_laws.{bad_stays, EndsIn, cut_goes_on}
 use Rattle.js_lexer.proofs.Number_laws.{number_bad, number_cut}

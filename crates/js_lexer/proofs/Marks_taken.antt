@@ -1,12 +1,11 @@
 -- Punctuators, white space and comments are taken exactly.
-use Rattle.std.proofs.Common.{◌≡◌, inl, inr, ℕ, ◌==◌, ◌&&◌, ◌||◌, Bool, true, false, cond, List, [], ◌∷◌, ◌++◌, Option, Some, None, Ok, Err, refl, sym, ap, subst, ◌∙◌, arith}
+use Rattle.std.proofs.Common.{◌≡◌, inl, inr, ℕ, ◌==◌, ◌&&◌, ◌||◌, Bool, true, false, cond, List, [], ◌∷◌, ◌++◌, Option, Some, None, Ok, Err, refl, sym, ap, subst, ◌∙◌}
 use Rattle.unicode_ident.proofs.Computing.{unicode_ident}
 use Rattle.js_lexer.specs.declared.comments.Comment.TheVariants as comments
 use Rattle.js_lexer.specs.declared.element.Element.{Element}
 use Rattle.js_lexer.specs.declared.element.Element.TheVariants as elements
 use Rattle.js_lexer.specs.declared.element.Form.{Form}
 use Rattle.js_lexer.specs.declared.punctuators.Punctuator.{Punctuator}
-use Rattle.js_lexer.specs.declared.token.TemplatePart.TheVariants as templates
 use Rattle.js_lexer.specs.Characters.{is_name_start}
 use Rattle.js_lexer.specs.Comments.{comment_step, comment_stop}
 use Rattle.js_lexer.specs.Elements.{gap, Stands, Shows, MayStand}

@@ -9,7 +9,7 @@ use Rattle.js_lexer.specs.declared.numbers.Numeral.{Numeral}
 use Rattle.js_lexer.specs.declared.numbers.Numeral.TheVariants.{Number, Separated, BigInt}
 use Rattle.js_lexer.specs.declared.numbers.Radix.TheVariants.{Hexadecimal, Octal, Binary}
 use Rattle.js_lexer.specs.declared.numbers.NumberPart.{NumberPart}
-use Rattle.js_lexer.specs.declared.numbers.NumberPart.TheVariants.{Start, LeadingPoint, Zero, Integer, IntegerSeparator, Point, Fraction, FractionSeparator, ExponentIndicator, ExponentSign, ExponentDigits, ExponentSeparator, RadixPrefix, RadixDigits, RadixSeparator, BigIntSuffix}
+use Rattle.js_lexer.specs.declared.numbers.NumberPart.TheVariants.{Start, LeadingPoint, IntegerSeparator, FractionSeparator, ExponentIndicator, ExponentSign, ExponentSeparator, RadixPrefix, RadixSeparator}
 use Rattle.js_lexer.proofs.Machine_laws.{Reads, exact, bad_stays, EndsIn, cut_goes_on}
 use Rattle.js_lexer.proofs.Rule_steps.{follows_leaves, stops_leaves}
 use Rattle.js_lexer.proofs.Number_rests.{Kind, plain, with_separators, big, gives, number_rest}

@@ -1,6 +1,6 @@
 -- Each step of the machine that reads numeric literals is what the character leaves of the grammar: a table of the characters that literals have,
 -- which the checker computes for each part of a literal, and one line a part for all other characters.
-use Rattle.std.proofs.Common.{◌≡◌, ℕ, Bool, true, false, cond, ◌&&◌, not, ◌==◌, List, [], ◌∷◌, ◌++◌, map, None, refl, sym, arith}
+use Rattle.std.proofs.Common.{◌≡◌, ℕ, Bool, true, false, cond, ◌&&◌, not, ◌==◌, List, [], ◌∷◌, ◌++◌, None, refl, sym, arith}
 use Rattle.std.proofs.lemmas.Bool.Decides.{nat_tests}
 use Rattle.unicode_ident.proofs.Computing.{unicode_ident}
 use Rattle.std.specs.Int.{is_in_range}

@@ -1,5 +1,5 @@
 -- Numbers and white space are taken exactly, and so each element.
-use Rattle.std.proofs.Common.{◌≡◌, ◌⊎◌, inl, inr, ℕ, ◌==◌, ◌||◌, ◌&&◌, Bool, true, false, cond, not, List, [], ◌∷◌, Option, Some, None, is_some, Ok, Err, refl, sym, ap, subst, ◌∙◌, arith}
+use Rattle.std.proofs.Common.{◌≡◌, ◌⊎◌, inl, inr, ℕ, ◌==◌, ◌||◌, ◌&&◌, Bool, true, false, cond, List, [], ◌∷◌, Ok, Err, refl, sym, ap, subst, arith}
 use Rattle.std.proofs.lemmas.Bool.Decides.{nat_tests}
 use Rattle.unicode_ident.proofs.Computing.{unicode_ident}
 use Rattle.js_lexer.specs.declared.element.Element.{Element}
@@ -7,7 +7,6 @@ use Rattle.js_lexer.specs.declared.element.Element.TheVariants as elements
 use Rattle.js_lexer.specs.declared.element.Form.{Form}
 use Rattle.js_lexer.specs.declared.element.Form.TheVariants as forms
 use Rattle.js_lexer.specs.declared.element.NoElement.TheVariants.{LeftOut}
-use Rattle.js_lexer.specs.declared.machine.Stop.{Stop}
 use Rattle.js_lexer.specs.declared.numbers.Numeral.{Numeral}
 use Rattle.js_lexer.specs.declared.numbers.Numeral.TheVariants as numerals
 use Rattle.js_lexer.specs.declared.numbers.NumberPart.TheVariants as number_parts
@@ -19,7 +18,7 @@ use Rattle.js_lexer.specs.Elements.{gap, Stands, Shows}
 use Rattle.js_lexer.specs.Grammar.{name, numeric_literal, bigint, escaped_name, private_name}
 use Rattle.js_lexer.specs.Machines.{Reading, run}
 use Rattle.js_lexer.specs.Numbers.{number_step, number_stop}
-use Rattle.js_lexer.specs.Punctuators.{punctuator_of, singles, named, IsPunctuator}
+use Rattle.js_lexer.specs.Punctuators.{punctuator_of, IsPunctuator}
 use Rattle.js_lexer.specs.Rules.{Leads, begins_with}
 use Rattle.js_lexer.specs.Scanning.{Taking, number_taken, number_of, mark_of, dot_of, slash_of, escape_of, private_of, string_of, template_of, other_of, unnamed_of, element_of, escape_reading}
 use Rattle.js_lexer.proofs.Beginnings.{Family, gaps, numbers, marks, family_of}

@@ -1,8 +1,8 @@
 -- What is read a character at a time is the longest punctuator that stands there.
-use Rattle.std.proofs.Common.{◌≡◌, ◌↔◌, ℕ, ◌≤◌, ◌==◌, ◌&&◌, Bool, true, false, cond, List, [], ◌∷◌, ◌++◌, length, Option, Some, None, IfSome, IfNone, MatchOption, refl, sym, ap, subst, ◌∙◌, arith, append_assoc, length-append}
+use Rattle.std.proofs.Common.{◌≡◌, ◌↔◌, ℕ, ◌≤◌, ◌==◌, ◌&&◌, true, List, [], ◌∷◌, ◌++◌, length, Option, Some, None, IfSome, IfNone, MatchOption, refl, sym, ap, subst, ◌∙◌, arith, append_assoc, length-append}
 use Rattle.js_lexer.specs.Punctuators.{text_of, follows, Stands, IsPunctuator, singles, named, single, with_equals, twice, if_next, extended, grows, grown, dots, question, started, begun, punctuator_of}
 use Rattle.js_lexer.specs.declared.punctuators.Punctuator.{Punctuator}
-use Rattle.js_lexer.specs.declared.punctuators.Punctuator.TheVariants.{LeftBrace, Dot, Ellipsis, Less, Greater, Equal, NotEqual, Plus, Minus, Star, Slash, Percent, StarStar, ShiftLeft, ShiftRight, UnsignedShiftRight, Ampersand, Bar, Caret, Exclamation, LogicalAnd, LogicalOr, Coalesce, Question, OptionalChain, Assign}
+use Rattle.js_lexer.specs.declared.punctuators.Punctuator.TheVariants.{LeftBrace, Dot, Ellipsis, Less, Slash, Question, OptionalChain}
 use Rattle.js_lexer.proofs.Tests.{both, by_test, equal, no_some, same_some}
 
 -- what is found, from a punctuator with this behind it: it stands at the same place, and is no shorter

@@ -1,10 +1,9 @@
 -- The machine of strings and templates reads exactly what the grammar has.
-use Rattle.std.proofs.Common.{◌≡◌, ◌↔◌, inl, inr, ℕ, ◌==◌, ◌&&◌, ◌||◌, Bool, true, false, not, List, [], ◌∷◌, ◌++◌, Some, None, Ok, refl}
+use Rattle.std.proofs.Common.{◌≡◌, ◌↔◌, ℕ, ◌==◌, Bool, true, false, List, [], ◌∷◌, ◌++◌, Some, None, refl}
 use Rattle.std.specs.Int.{is_in_range}
 use Rattle.js_lexer.specs.declared.machine.Step.{Step}
 use Rattle.js_lexer.specs.declared.machine.Step.TheVariants.{Go, With, Before, Bad}
 use Rattle.js_lexer.specs.declared.escapes.Escape.{Escape}
-use Rattle.js_lexer.specs.declared.escapes.Escape.TheVariants as escapes
 use Rattle.js_lexer.specs.declared.quoted.Quote.{Quote}
 use Rattle.js_lexer.specs.declared.quoted.Quote.TheVariants as quotes
 use Rattle.js_lexer.specs.declared.quoted.End.{End}
@@ -12,12 +11,12 @@ use Rattle.js_lexer.specs.declared.quoted.End.TheVariants as the_ends
 use Rattle.js_lexer.specs.declared.quoted.Part.{Part}
 use Rattle.js_lexer.specs.declared.quoted.Part.TheVariants as parts
 use Rattle.js_lexer.specs.declared.quoted.Quoted.{Quoted}
-use Rattle.js_lexer.specs.Characters.{is_digit, is_hex_digit, is_line_terminator}
-use Rattle.js_lexer.specs.Rules.{Rule, Never, Nothing, NotBefore, Then, Or, Many, Leads}
-use Rattle.js_lexer.specs.Grammar.{char, is, hex_digit, after_u, after_backslash, is_escape_character, string_character, template_character}
+use Rattle.js_lexer.specs.Characters.{is_digit}
+use Rattle.js_lexer.specs.Rules.{Rule, Never, NotBefore, Then, Or, Many, Leads}
+use Rattle.js_lexer.specs.Grammar.{char, is, hex_digit, after_backslash, string_character, template_character}
 use Rattle.js_lexer.specs.Machines.{run}
 use Rattle.js_lexer.specs.Escapes.{escape_step, escape_stop}
-use Rattle.js_lexer.specs.Quoted.{quoted_step, quoted_stop, part_step, plain_step, string_step, template_step, after_backslash_step, after_escape, opened, go}
+use Rattle.js_lexer.specs.Quoted.{quoted_step, quoted_stop, part_step, after_escape, opened}
 use Rattle.js_lexer.proofs.Derivatives.{may_be_empty, stuck_there, takes_some}
 use Rattle.js_lexer.proofs.Machine_laws.{Follows, Reads, exact}
 use Rattle.js_lexer.proofs.Rule_steps.{Agrees, AgreesAt, Leaves, agrees, follows_leaves, parts as parts_of, two, hex_digits, no_hex_digit, no_digit, no_capital, no_small}

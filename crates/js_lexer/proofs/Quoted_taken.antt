@@ -2,7 +2,6 @@
 use Rattle.std.proofs.Common.{◌≡◌, ◌↔◌, inl, inr, ℕ, Bool, true, false, List, ◌∷◌, Ok, Err, refl, sym, ap, subst, ◌∙◌}
 use Rattle.js_lexer.specs.declared.element.Element.{Element}
 use Rattle.js_lexer.specs.declared.element.Element.TheVariants as elements
-use Rattle.js_lexer.specs.declared.machine.Stop.{Stop}
 use Rattle.js_lexer.specs.declared.quoted.End.{End}
 use Rattle.js_lexer.specs.declared.quoted.End.TheVariants as the_ends
 use Rattle.js_lexer.specs.declared.quoted.Quote.{Quote}

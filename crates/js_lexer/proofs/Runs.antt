@@ -1,5 +1,5 @@
 -- A source is divided into elements in one way.
-use Rattle.std.proofs.Common.{◌≡◌, ◌⊎◌, inl, inr, ℕ, Bool, List, [], ◌++◌, Some, Ok, Err, refl, sym, ap, subst, ◌∙◌}
+use Rattle.std.proofs.Common.{◌≡◌, ◌⊎◌, inl, inr, ℕ, Bool, List, [], ◌++◌, Ok, Err, refl, sym, ap, subst, ◌∙◌}
 use Rattle.std.proofs.lemmas.List.{append_cancel_right}
 use Rattle.std.specs.Str.{encode_utf8_all}
 use Rattle.js_lexer.specs.declared.element.Element.{Element}
@@ -8,8 +8,6 @@ use Rattle.js_lexer.specs.declared.element.Form.{Form}
 use Rattle.js_lexer.specs.declared.element.NoElement.TheVariants.{Stopped, LeftOut}
 use Rattle.js_lexer.specs.declared.keywords.Keyword.{Keyword}
 use Rattle.js_lexer.specs.declared.machine.Stop.{Stop}
-use Rattle.js_lexer.specs.declared.punctuators.Punctuator.{Punctuator}
-use Rattle.js_lexer.specs.declared.token.TemplatePart.{TemplatePart}
 use Rattle.js_lexer.specs.declared.token.TokenKind.{TokenKind}
 use Rattle.js_lexer.specs.declared.token.TokenKind.TheVariants as kinds
 use Rattle.js_lexer.specs.Elements.{IsElement, Shows, StandsNone}

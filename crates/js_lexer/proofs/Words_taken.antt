@@ -1,20 +1,14 @@
 -- Names are taken exactly, and the forms that are left out of them.
-use Rattle.std.proofs.Common.{◌≡◌, inl, inr, ℕ, ◌==◌, ◌||◌, ◌&&◌, Bool, true, false, cond, not, nat_lt, List, [], ◌∷◌, Some, None, is_some, Ok, Err, refl, sym, ap, subst, ◌∙◌, arith}
-use Rattle.std.proofs.lemmas.Bool.Decides.{nat_tests}
-use Rattle.std.specs.Char.{is_ascii_alphabetic}
+use Rattle.std.proofs.Common.{◌≡◌, inl, inr, ℕ, ◌==◌, ◌||◌, Bool, true, false, cond, List, [], ◌∷◌, Ok, Err, refl, sym, ap, subst, ◌∙◌, arith}
 use Rattle.js_lexer.specs.declared.element.Element.{Element}
 use Rattle.js_lexer.specs.declared.element.Element.TheVariants as elements
 use Rattle.js_lexer.specs.declared.element.Form.{Form}
 use Rattle.js_lexer.specs.declared.element.Form.TheVariants as forms
 use Rattle.js_lexer.specs.declared.escapes.Escape.TheVariants as escapes
-use Rattle.js_lexer.specs.declared.machine.Stop.{Stop}
-use Rattle.js_lexer.specs.declared.punctuators.Punctuator.{Punctuator}
-use Rattle.js_lexer.specs.declared.token.TemplatePart.TheVariants as templates
 use Rattle.js_lexer.specs.Characters.{is_name_start, is_name_part, is_digit, is_white_space, is_line_terminator}
 use Rattle.js_lexer.specs.Elements.{Stands, Shows, StandsNone}
 use Rattle.js_lexer.specs.Grammar.{char, name, name_rest, unicode_escape}
 use Rattle.js_lexer.specs.Machines.{Reading}
-use Rattle.js_lexer.specs.Punctuators.{single, singles, named}
 use Rattle.js_lexer.specs.declared.element.NoElement.TheVariants.{LeftOut}
 use Rattle.js_lexer.specs.declared.machine.Stop.TheVariants as stops
 use Rattle.unicode_ident.specs.Ident.{is_xid_continue}
