@@ -14,7 +14,7 @@ use lava_base::ids::Ref;
 use lava_base::memory::OutOfMemory;
 
 /// A definition, a letter for each field: `-` where it is absent, t and f for truth values, u for undefined.
-#[derive(Clone, Copy, Debug)]
+#[derive(Clone, Copy)]
 struct Definition {
     value: char,
     writable: char,

@@ -6,7 +6,7 @@ use std::alloc::{AllocError, AllocFailed};
 use std::fmt;
 
 /// Why a line has no answer, or that a text is refused.
-#[derive(Clone, Copy, Debug)]
+#[derive(Drop)]
 pub enum Fault {
     /// The line is no case.
     Line,

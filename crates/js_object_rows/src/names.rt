@@ -23,7 +23,10 @@ pub fn native(out: &mut String, word: &str) -> Result<(), Fault> {
 
 /// `common PATH`: the place of the common object.
 pub fn common(out: &mut String, path: &str) -> Result<(), Fault> {
-    push_count(out, common_id(path).map(|id| id.0))
+    match common_id(path) {
+        Some(id) => push_number(out, i64::from(id.0)),
+        None => push_word(out, "none"),
+    }
 }
 
 /// `path PLACE`: the path of the common object there.

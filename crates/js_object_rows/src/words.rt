@@ -9,7 +9,10 @@ use std::alloc::Global;
 
 /// A number in decimal.
 pub fn number_of(word: &str) -> Result<u32, Fault> {
-    word.parse::<u32>().map_err(|_| Fault::Line)
+    match word.parse::<u32>() {
+        Ok(number) => Ok(number),
+        Err(_) => Err(Fault::Line),
+    }
 }
 
 /// Two words.
@@ -25,7 +28,9 @@ fn push_run(units: &mut Vec<u16>, run: &str) -> Result<(), Fault> {
         }
         return Ok(());
     }
-    let unit = u16::from_str_radix(run, 16).map_err(|_| Fault::Line)?;
+    let Ok(unit) = u16::from_str_radix(run, 16) else {
+        return Err(Fault::Line);
+    };
     units.push(unit)?;
     Ok(())
 }
@@ -139,5 +144,8 @@ fn value_with(alloc: Global, word: &str) -> Result<Value, Fault> {
     if word.starts_with('\'') {
         return Ok(Value::Text(text_of(alloc, word)?));
     }
-    Ok(Value::Int(word.parse::<i64>().map_err(|_| Fault::Line)?))
+    match word.parse::<i64>() {
+        Ok(integer) => Ok(Value::Int(integer)),
+        Err(_) => Err(Fault::Line),
+    }
 }
