@@ -1,6 +1,5 @@
 -- What each core form does first, and what follows. A row sees the running party's own things and no others.
-use Rattle.std.specs.Prelude.{ℕ, ◌+◌, ◌-◌, ◌*◌, Bool, true, false, ◌&&◌, not, nat_le, nat_eq, List, [], ◌∷◌, ◌++◌, length, replicate, fold, Option, Some, None, if◌then◌else◌, codes}
-use Rattle.std.specs.List.{list_all}
+use Rattle.std.specs.Prelude.{ℕ, ◌+◌, ◌-◌, Bool, true, false, List, [], ◌∷◌, ◌++◌, length, replicate, Option, Some, None, codes}
 use Rattle.js_text.specs.Naming.{Naming, Origin, Own, Common, Foreign}
 use Rattle.js_text.specs.Indices.{key_of_text}
 use Rattle.js_text.specs.Maps.{map_symbol, map_value}

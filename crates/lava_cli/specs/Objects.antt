@@ -1,5 +1,5 @@
 -- Object records of a run.
-use Rattle.std.specs.Prelude.{ℕ, Bool, true, false, List, [], Option, None, get_or, map}
+use Rattle.std.specs.Prelude.{ℕ, Bool, true, List, [], Option, None, get_or, map}
 use Rattle.std.specs.Option.{option_map}
 use Rattle.lava_base.specs.declared.marks.Class.TheVariants as class
 use Rattle.lava_base.specs.declared.marks.Marks.{Marks}
