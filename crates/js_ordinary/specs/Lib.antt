@@ -1,0 +1,10 @@
+pub mod Calls
+pub mod Decided
+pub mod OrdinaryDefineOwnProperty
+pub mod OrdinaryDelete
+pub mod OrdinaryGet
+pub mod OrdinaryHasProperty
+pub mod OrdinarySet
+pub mod OrdinarySetPrototypeOf
+pub mod Origins
+pub mod Verdicts
