@@ -7,4 +7,5 @@ pub mod OrdinaryHasProperty
 pub mod OrdinarySet
 pub mod OrdinarySetPrototypeOf
 pub mod Origins
+pub mod Targets
 pub mod Verdicts

@@ -5,9 +5,8 @@ ghost use Rattle.js_desc.specs.declared.ask.Ask.TheVariants.{PreventExtensions};
 ghost use Rattle.js_desc.specs.declared.decision.Decision.TheVariants.{Done};
 ghost use Rattle.js_desc.specs.declared.reply.Reply.TheVariants.{Desc};
 ghost use Rattle.js_text.specs.Naming.{naming_of};
-ghost use Rattle.js_store.specs.Frozen.{common_ref};
-ghost use Rattle.js_ordinary.specs.Decided.{decided, decided_at, resumed};
-ghost use Rattle.js_ordinary.specs.Origins.{IsThere, carried_out, object_of, origin_of_target};
+ghost use Rattle.js_ordinary.specs.Decided.{decided, resumed};
+ghost use Rattle.js_ordinary.specs.Targets.{IsSeen, decided_seen};
 
 use crate::calls::{call_by, construct_by};
 use crate::next::Next;
@@ -42,7 +41,9 @@ pub fn decide<S: Store>(
     me: Ref,
     ask: &Ask,
 ) -> Result<Decision<Next>, OutOfMemory>
-    ensures ok { IfOk result (λ d. (d, S.objects store.new) ≡ decided (naming_of (S.owner store.old).0) (S.objects store.old) common.now me ask.now) }
+    ensures ok { let names = naming_of (S.owner store.old).0 in
+        let decision = decided names (S.objects store.old) common.now me ask.now in
+        IfOk result (λ d. (d, S.objects store.new) ≡ decision) }
     ensures err { OnErr result (S.objects store.new ≡ S.objects store.old) }
     ensures party { S.owner store.new ≡ S.owner store.old }
 {
@@ -60,8 +61,10 @@ fn decide_at<S: Store>(
     target: Target,
     ask: &Ask,
 ) -> Result<Decision<Next>, OutOfMemory>
-    requires { IsThere (S.objects store.old) common.now (origin_of_target target) }
-    ensures ok { IfOk result (λ d. (d, S.objects store.new) ≡ decided_at (naming_of (S.owner store.old).0) (S.objects store.old) common.now (origin_of_target target) ask.now) }
+    requires { IsSeen (S.objects store.old) common.now target }
+    ensures ok { let names = naming_of (S.owner store.old).0 in
+        let decision = decided_seen names (S.objects store.old) common.now target ask.now in
+        IfOk result (λ d. (d, S.objects store.new) ≡ decision) }
     ensures err { OnErr result (S.objects store.new ≡ S.objects store.old) }
     ensures party { S.owner store.new ≡ S.owner store.old }
 {
@@ -111,8 +114,10 @@ fn prevent_extensions<S: Store>(
     common: &FrozenStore,
     target: Target,
 ) -> Decision<Next>
-    requires { IsThere (S.objects store.old) common.now (origin_of_target target) }
-    ensures decision { (result, S.objects store.new) ≡ decided_at (naming_of (S.owner store.old).0) (S.objects store.old) common.now (origin_of_target target) PreventExtensions }
+    requires { IsSeen (S.objects store.old) common.now target }
+    ensures decision { let names = naming_of (S.owner store.old).0 in
+        let objects = S.objects store.old in
+        (result, S.objects store.new) ≡ decided_seen names objects common.now target PreventExtensions }
     ensures party { S.owner store.new ≡ S.owner store.old }
 {
     if let Target::Own(id) = target {

@@ -2,9 +2,8 @@
 
 ghost use Rattle.std.specs.Prelude.{◌≡◌, IfOk, OnErr};
 ghost use Rattle.js_text.specs.Naming.{naming_of};
-ghost use Rattle.js_store.specs.Frozen.{common_ref};
 ghost use Rattle.js_ordinary.specs.OrdinaryDefineOwnProperty.{ordinary_define_own_property};
-ghost use Rattle.js_ordinary.specs.Origins.{IsThere, carried_out, object_of, origin_of_target};
+ghost use Rattle.js_ordinary.specs.Targets.{IsSeen, carried_out_at, object_seen};
 
 use crate::next::Next;
 use crate::target::{Target, extensible, own_property};
@@ -26,8 +25,12 @@ pub(crate) fn ordinary_define_own_property<S: Store>(
     key: &Key,
     descriptor: &PartialDescriptor,
 ) -> Result<Decision<Next>, OutOfMemory>
-    requires { IsThere (S.objects store.old) common.now (origin_of_target target) }
-    ensures ok { IfOk result (λ d. (d, S.objects store.new) ≡ carried_out (S.objects store.old) (origin_of_target target) (ordinary_define_own_property (naming_of (S.owner store.old).0) (object_of common_ref (S.objects store.old) common.now (origin_of_target target)) key.now descriptor.now)) }
+    requires { IsSeen (S.objects store.old) common.now target }
+    ensures ok { let names = naming_of (S.owner store.old).0 in
+        let o = object_seen (S.objects store.old) common.now target in
+        let verdict = ordinary_define_own_property names o key.now descriptor.now in
+        let decision = carried_out_at (S.objects store.old) target verdict in
+        IfOk result (λ d. (d, S.objects store.new) ≡ decision) }
     ensures err { OnErr result (S.objects store.new ≡ S.objects store.old) }
     ensures party { S.owner store.new ≡ S.owner store.old }
 {

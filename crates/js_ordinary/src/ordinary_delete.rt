@@ -2,9 +2,8 @@
 
 ghost use Rattle.std.specs.Prelude.{◌≡◌};
 ghost use Rattle.js_text.specs.Naming.{naming_of};
-ghost use Rattle.js_store.specs.Frozen.{common_ref};
 ghost use Rattle.js_ordinary.specs.OrdinaryDelete.{ordinary_delete};
-ghost use Rattle.js_ordinary.specs.Origins.{IsThere, carried_out, object_of, origin_of_target};
+ghost use Rattle.js_ordinary.specs.Targets.{IsSeen, carried_out_at, object_seen};
 
 use crate::next::Next;
 use crate::target::{Target, own_property};
@@ -21,8 +20,11 @@ pub(crate) fn ordinary_delete<S: Store>(
     target: Target,
     key: &Key,
 ) -> Decision<Next>
-    requires { IsThere (S.objects store.old) common.now (origin_of_target target) }
-    ensures decision { (result, S.objects store.new) ≡ carried_out (S.objects store.old) (origin_of_target target) (ordinary_delete (naming_of (S.owner store.old).0) (object_of common_ref (S.objects store.old) common.now (origin_of_target target)) key.now) }
+    requires { IsSeen (S.objects store.old) common.now target }
+    ensures decision { let names = naming_of (S.owner store.old).0 in
+        let o = object_seen (S.objects store.old) common.now target in
+        let verdict = ordinary_delete names o key.now in
+        (result, S.objects store.new) ≡ carried_out_at (S.objects store.old) target verdict }
     ensures party { S.owner store.new ≡ S.owner store.old }
 {
     match own_property(store, common, target, key) {

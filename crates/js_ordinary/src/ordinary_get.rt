@@ -2,9 +2,8 @@
 
 ghost use Rattle.std.specs.Prelude.{◌≡◌, IfOk};
 ghost use Rattle.js_text.specs.Naming.{naming_of};
-ghost use Rattle.js_store.specs.Frozen.{common_ref};
 ghost use Rattle.js_ordinary.specs.OrdinaryGet.{get_by, get_by_getter, get_inherited, ordinary_get};
-ghost use Rattle.js_ordinary.specs.Origins.{IsThere, object_of, origin_of_target};
+ghost use Rattle.js_ordinary.specs.Targets.{IsSeen, object_seen};
 
 use crate::next::Next;
 use crate::target::{Target, own_property, prototype};
@@ -30,8 +29,10 @@ pub(crate) fn ordinary_get<S: Store>(
     key: &Key,
     receiver: &Value,
 ) -> Result<Decision<Next>, OutOfMemory>
-    requires { IsThere (S.objects store.now) common.now (origin_of_target target) }
-    ensures { IfOk result (λ d. d ≡ ordinary_get (naming_of (S.owner store.now).0) (object_of common_ref (S.objects store.now) common.now (origin_of_target target)) key.now receiver.now) }
+    requires { IsSeen (S.objects store.now) common.now target }
+    ensures { let names = naming_of (S.owner store.now).0 in
+        let o = object_seen (S.objects store.now) common.now target in
+        IfOk result (λ d. d ≡ ordinary_get names o key.now receiver.now) }
 {
     match own_property(store, common, target, key) {
         Some(property) => get_by(alloc, receiver, property),

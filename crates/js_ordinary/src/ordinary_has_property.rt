@@ -2,9 +2,8 @@
 
 ghost use Rattle.std.specs.Prelude.{◌≡◌, IfOk};
 ghost use Rattle.js_text.specs.Naming.{naming_of};
-ghost use Rattle.js_store.specs.Frozen.{common_ref};
 ghost use Rattle.js_ordinary.specs.OrdinaryHasProperty.{has_inherited, ordinary_has_property};
-ghost use Rattle.js_ordinary.specs.Origins.{IsThere, object_of, origin_of_target};
+ghost use Rattle.js_ordinary.specs.Targets.{IsSeen, object_seen};
 
 use crate::next::Next;
 use crate::target::{Target, own_property, prototype};
@@ -25,8 +24,10 @@ pub(crate) fn ordinary_has_property<S: Store>(
     target: Target,
     key: &Key,
 ) -> Result<Decision<Next>, OutOfMemory>
-    requires { IsThere (S.objects store.now) common.now (origin_of_target target) }
-    ensures { IfOk result (λ d. d ≡ ordinary_has_property (naming_of (S.owner store.now).0) (object_of common_ref (S.objects store.now) common.now (origin_of_target target)) key.now) }
+    requires { IsSeen (S.objects store.now) common.now target }
+    ensures { let names = naming_of (S.owner store.now).0 in
+        let o = object_seen (S.objects store.now) common.now target in
+        IfOk result (λ d. d ≡ ordinary_has_property names o key.now) }
 {
     match own_property(store, common, target, key) {
         Some(_) => Ok(Decision::Done(Reply::Flag(true))),

@@ -2,9 +2,8 @@
 
 ghost use Rattle.std.specs.Prelude.{◌≡◌, IfOk, option_map};
 ghost use Rattle.js_text.specs.Naming.{naming_of};
-ghost use Rattle.js_store.specs.Frozen.{common_ref};
 ghost use Rattle.js_ordinary.specs.OrdinarySet.{after_receiver, after_setter, create_data_property, open_data, ordinary_set, set_by_setter, set_data, set_inherited, set_on, set_on_receiver, value_alone};
-ghost use Rattle.js_ordinary.specs.Origins.{IsThere, object_of, origin_of_target};
+ghost use Rattle.js_ordinary.specs.Targets.{IsSeen, object_seen};
 
 use crate::next::Next;
 use crate::target::{Target, own_property, prototype};
@@ -32,8 +31,10 @@ pub(crate) fn ordinary_set<S: Store>(
     value: &Value,
     receiver: &Value,
 ) -> Result<Decision<Next>, OutOfMemory>
-    requires { IsThere (S.objects store.now) common.now (origin_of_target target) }
-    ensures { IfOk result (λ d. d ≡ ordinary_set (naming_of (S.owner store.now).0) (object_of common_ref (S.objects store.now) common.now (origin_of_target target)) key.now value.now receiver.now) }
+    requires { IsSeen (S.objects store.now) common.now target }
+    ensures { let names = naming_of (S.owner store.now).0 in
+        let o = object_seen (S.objects store.now) common.now target in
+        IfOk result (λ d. d ≡ ordinary_set names o key.now value.now receiver.now) }
 {
     match own_property(store, common, target, key) {
         None => set_inherited(key, value, receiver, prototype(store, common, target)),

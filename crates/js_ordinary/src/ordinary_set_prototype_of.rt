@@ -2,9 +2,8 @@
 
 ghost use Rattle.std.specs.Prelude.{◌≡◌, ◌<◌, IfSome, length, option_map};
 ghost use Rattle.js_text.specs.Naming.{naming_of};
-ghost use Rattle.js_store.specs.Frozen.{common_ref};
 ghost use Rattle.js_ordinary.specs.OrdinarySetPrototypeOf.{ends_without, is_proxy, makes_cycle, ordinary_set_prototype_of, own_prototype};
-ghost use Rattle.js_ordinary.specs.Origins.{IsThere, carried_out, object_of, origin_of_target};
+ghost use Rattle.js_ordinary.specs.Targets.{IsSeen, carried_out_at, object_seen, origin_of_target};
 
 use crate::next::Next;
 use crate::target::{Target, extensible, prototype};
@@ -23,8 +22,12 @@ pub(crate) fn ordinary_set_prototype_of<S: Store>(
     target: Target,
     proto: Option<Ref>,
 ) -> Decision<Next>
-    requires { IsThere (S.objects store.old) common.now (origin_of_target target) }
-    ensures decision { (result, S.objects store.new) ≡ carried_out (S.objects store.old) (origin_of_target target) (ordinary_set_prototype_of (naming_of (S.owner store.old).0) (makes_cycle (naming_of (S.owner store.old).0) (S.objects store.old) (origin_of_target target)) (object_of common_ref (S.objects store.old) common.now (origin_of_target target)) proto) }
+    requires { IsSeen (S.objects store.old) common.now target }
+    ensures decision { let names = naming_of (S.owner store.old).0 in
+        let o = object_seen (S.objects store.old) common.now target in
+        let cycle = makes_cycle names (S.objects store.old) (origin_of_target target) in
+        let verdict = ordinary_set_prototype_of names cycle o proto in
+        (result, S.objects store.new) ≡ carried_out_at (S.objects store.old) target verdict }
     ensures party { S.owner store.new ≡ S.owner store.old }
 {
     if is_same_function(prototype(store, common, target), proto) {
@@ -41,7 +44,8 @@ pub(crate) fn ordinary_set_prototype_of<S: Store>(
 
 /// Whether an object would stand among the prototypes of its own prototype.
 fn would_cycle<S: Store>(store: &S, target: Target, proto: Option<Ref>) -> bool
-    ensures { result ≡ makes_cycle (naming_of (S.owner store.now).0) (S.objects store.now) (origin_of_target target) proto }
+    ensures { let names = naming_of (S.owner store.now).0 in
+        result ≡ makes_cycle names (S.objects store.now) (origin_of_target target) proto }
 {
     match target {
         Target::Own(id) => !end_without(store, id, proto),
@@ -52,7 +56,9 @@ fn would_cycle<S: Store>(store: &S, target: Target, proto: Option<Ref>) -> bool
 /// Whether the way up from a prototype ends, and not at this object (ECMA-262, OrdinarySetPrototypeOf, steps 6 and 7).
 #[tactic(auto, using(crate::proofs::Chains_laws::within_step))]
 fn end_without<S: Store>(store: &S, me: ObjId, proto: Option<Ref>) -> bool
-    ensures { result ≡ ends_without (naming_of (S.owner store.now).0) (S.objects store.now) me.0 (length (S.objects store.now)) proto }
+    ensures { let names = naming_of (S.owner store.now).0 in
+        let objects = S.objects store.now in
+        result ≡ ends_without names objects me.0 (length objects) proto }
 {
     let mut above = proto;
     for passed in 0..store.count() {
@@ -74,7 +80,8 @@ fn end_without<S: Store>(store: &S, me: ObjId, proto: Option<Ref>) -> bool
 
 /// The id of a prototype that is an object of the party's own.
 fn own_prototype<S: Store>(store: &S, proto: Option<Ref>) -> Option<ObjId>
-    ensures found { option_map (λ id. id.0) result ≡ own_prototype (naming_of (S.owner store.now).0) (S.objects store.now) proto }
+    ensures found { let names = naming_of (S.owner store.now).0 in
+        option_map (λ id. id.0) result ≡ own_prototype names (S.objects store.now) proto }
     ensures within { IfSome result (λ id. id.0 < length (S.objects store.now)) }
 {
     match proto {

@@ -4,8 +4,8 @@ ghost use Rattle.std.specs.Prelude.{◌≡◌, IfOk, IfSome, option_map};
 ghost use Rattle.lava_base.specs.Ids.{same_made_symbol};
 ghost use Rattle.js_text.specs.Naming.{naming_of, origin_of};
 ghost use Rattle.js_store.specs.Objects.{ordinary_get_own_property, ordinary_own_property_keys};
-ghost use Rattle.js_store.specs.Frozen.{common_ref};
-ghost use Rattle.js_ordinary.specs.Origins.{IsThere, there, object_of, origin_of_target};
+ghost use Rattle.js_ordinary.specs.Origins.{there};
+ghost use Rattle.js_ordinary.specs.Targets.{IsSeen, object_seen, origin_of_target};
 
 use js_desc::descriptor::Descriptor;
 use js_store::frozen::FrozenStore;
@@ -29,8 +29,9 @@ pub enum Target {
 
 /// The object of a reference, if it is the store's party's own or of the common part, and if there is one.
 pub fn find_target<S: Store>(store: &S, common: &FrozenStore, reference: Ref) -> Option<Target>
-    ensures found { option_map origin_of_target result ≡ there (S.objects store.now) common.now (origin_of (S.owner store.now).0 reference) }
-    ensures within { IfSome result (λ target. IsThere (S.objects store.now) common.now (origin_of_target target)) }
+    ensures found { let origin = origin_of (S.owner store.now).0 reference in
+        option_map origin_of_target result ≡ there (S.objects store.now) common.now origin }
+    ensures within { IfSome result (λ target. IsSeen (S.objects store.now) common.now target) }
 {
     match reference {
         Ref::Common(id) => {
@@ -57,8 +58,10 @@ pub fn own_property<'a, S: Store>(
     target: Target,
     key: &Key,
 ) -> Option<&'a Descriptor>
-    requires { IsThere (S.objects store.now) common.now (origin_of_target target) }
-    ensures { option_map (λ d. d.now) result ≡ ordinary_get_own_property same_made_symbol key.now (object_of common_ref (S.objects store.now) common.now (origin_of_target target)).properties }
+    requires { IsSeen (S.objects store.now) common.now target }
+    ensures { let o = object_seen (S.objects store.now) common.now target in
+        let found = ordinary_get_own_property same_made_symbol key.now o.properties in
+        option_map (λ d. d.now) result ≡ found }
 {
     match target {
         Target::Own(id) => store.own(id, key),
@@ -68,8 +71,8 @@ pub fn own_property<'a, S: Store>(
 
 /// The prototype; None is null (ECMA-262, OrdinaryGetPrototypeOf).
 pub fn prototype<S: Store>(store: &S, common: &FrozenStore, target: Target) -> Option<Ref>
-    requires { IsThere (S.objects store.now) common.now (origin_of_target target) }
-    ensures { result ≡ (object_of common_ref (S.objects store.now) common.now (origin_of_target target)).prototype }
+    requires { IsSeen (S.objects store.now) common.now target }
+    ensures { result ≡ (object_seen (S.objects store.now) common.now target).prototype }
 {
     match target {
         Target::Own(id) => store.proto(id),
@@ -79,8 +82,8 @@ pub fn prototype<S: Store>(store: &S, common: &FrozenStore, target: Target) -> O
 
 /// Whether new properties may be made (ECMA-262, OrdinaryIsExtensible).
 pub fn extensible<S: Store>(store: &S, common: &FrozenStore, target: Target) -> bool
-    requires { IsThere (S.objects store.now) common.now (origin_of_target target) }
-    ensures { result ≡ (object_of common_ref (S.objects store.now) common.now (origin_of_target target)).extensible }
+    requires { IsSeen (S.objects store.now) common.now target }
+    ensures { result ≡ (object_seen (S.objects store.now) common.now target).extensible }
 {
     match target {
         Target::Own(id) => store.extensible(id),
@@ -95,8 +98,9 @@ pub fn own_keys<S: Store>(
     common: &FrozenStore,
     target: Target,
 ) -> Result<List<Key>, OutOfMemory>
-    requires { IsThere (S.objects store.now) common.now (origin_of_target target) }
-    ensures { IfOk result (λ keys. keys ≡ ordinary_own_property_keys (object_of common_ref (S.objects store.now) common.now (origin_of_target target)).properties) }
+    requires { IsSeen (S.objects store.now) common.now target }
+    ensures { let o = object_seen (S.objects store.now) common.now target in
+        IfOk result (λ keys. keys ≡ ordinary_own_property_keys o.properties) }
 {
     match target {
         Target::Own(id) => store.keys(alloc, id),
@@ -106,8 +110,8 @@ pub fn own_keys<S: Store>(
 
 /// What the object keeps besides its properties.
 pub fn slot<'a, S: Store>(store: &'a S, common: &'a FrozenStore, target: Target) -> &'a Slot
-    requires { IsThere (S.objects store.now) common.now (origin_of_target target) }
-    ensures { result.now ≡ (object_of common_ref (S.objects store.now) common.now (origin_of_target target)).slot }
+    requires { IsSeen (S.objects store.now) common.now target }
+    ensures { result.now ≡ (object_seen (S.objects store.now) common.now target).slot }
 {
     match target {
         Target::Own(id) => store.slot(id),
@@ -117,8 +121,8 @@ pub fn slot<'a, S: Store>(store: &'a S, common: &'a FrozenStore, target: Target)
 
 /// What everyone may know of the object.
 pub fn marks<S: Store>(store: &S, common: &FrozenStore, target: Target) -> Marks
-    requires { IsThere (S.objects store.now) common.now (origin_of_target target) }
-    ensures { result ≡ (object_of common_ref (S.objects store.now) common.now (origin_of_target target)).marks }
+    requires { IsSeen (S.objects store.now) common.now target }
+    ensures { result ≡ (object_seen (S.objects store.now) common.now target).marks }
 {
     match target {
         Target::Own(id) => store.marks(id),
