@@ -1,1 +1,2 @@
 pub mod Chains_laws
+pub mod Length_laws

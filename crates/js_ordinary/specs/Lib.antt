@@ -1,5 +1,6 @@
 pub mod Calls
 pub mod Decided
+pub mod HeldFunctions
 pub mod OrdinaryDefineOwnProperty
 pub mod OrdinaryDelete
 pub mod OrdinaryGet
@@ -7,5 +8,6 @@ pub mod OrdinaryHasProperty
 pub mod OrdinarySet
 pub mod OrdinarySetPrototypeOf
 pub mod Origins
+pub mod Primitives
 pub mod Targets
 pub mod Verdicts

@@ -1,8 +1,10 @@
 // What a call and a construction do.
 
 ghost use Rattle.std.specs.Prelude.{◌≡◌, IfOk};
+ghost use Rattle.js_text.specs.Naming.{naming_of};
 ghost use Rattle.js_ordinary.specs.Calls.{call_by, construct_by};
 
+use crate::held_functions::call_held;
 use crate::next::Next;
 use js_desc::copy::copy_values;
 use js_desc::decision::Decision;
@@ -15,14 +17,15 @@ use lava_base::list::List;
 use lava_base::memory::OutOfMemory;
 use std::alloc::Global;
 
-/// Runs the body of a function of a source (ECMA-262, "ECMAScript Function Objects", [[Call]]).
+/// Runs the body of a function of a source (ECMA-262, "ECMAScript Function Objects", [[Call]]), or does what a function of the machine does.
 pub(crate) fn call_by(
     alloc: Global,
+    party: u32,
     slot: &Slot,
     this: &Value,
     args: &List<Value>,
 ) -> Result<Decision<Next>, OutOfMemory>
-    ensures { IfOk result (λ d. d ≡ call_by slot.now this.now args.now) }
+    ensures { IfOk result (λ d. d ≡ call_by (naming_of party) slot.now this.now args.now) }
 {
     match slot {
         Slot::Closure { body, .. } => {
@@ -35,6 +38,7 @@ pub(crate) fn call_by(
                 new_target: None,
             })
         }
+        Slot::Held(held) => call_held(party, held, this, args),
         _ => Ok(Decision::Fault(FaultText::NotAFunction)),
     }
 }

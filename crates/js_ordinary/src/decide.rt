@@ -5,10 +5,12 @@ ghost use Rattle.js_desc.specs.declared.ask.Ask.TheVariants.{PreventExtensions};
 ghost use Rattle.js_desc.specs.declared.decision.Decision.TheVariants.{Done};
 ghost use Rattle.js_desc.specs.declared.reply.Reply.TheVariants.{Desc};
 ghost use Rattle.js_text.specs.Naming.{naming_of};
+ghost use Rattle.js_store.specs.Frozen.{common_ref};
 ghost use Rattle.js_ordinary.specs.Decided.{decided, resumed};
 ghost use Rattle.js_ordinary.specs.Targets.{IsSeen, decided_seen};
 
 use crate::calls::{call_by, construct_by};
+use crate::held_functions::{after_member, after_member_value, after_override, after_result};
 use crate::next::Next;
 use crate::ordinary_define_own_property::ordinary_define_own_property;
 use crate::ordinary_delete::ordinary_delete;
@@ -91,7 +93,10 @@ fn decide_at<S: Store>(
             let keys = own_keys(alloc, store, common, target)?;
             Ok(Decision::Done(Reply::Keys(keys)))
         }
-        Ask::Call { this, args } => call_by(alloc, slot(store, common, target), this, args),
+        Ask::Call { this, args } => {
+            let party = store.party().0;
+            call_by(alloc, party, slot(store, common, target), this, args)
+        },
         Ask::Construct { new_target, args } => {
             let constructor = marks(store, common, target).constructor;
             construct_by(
@@ -140,8 +145,8 @@ fn tell_property(property: Option<&Descriptor>) -> Result<Decision<Next>, OutOfM
 }
 
 /// How a decision that waits goes on with the answer to its ask. A throw goes on as it is. An answer of another kind than the ask has does not come; it would be the fault `wrong kind`.
-pub fn resume(next: Next, reply: Reply) -> Result<Decision<Next>, OutOfMemory>
-    ensures { IfOk result (λ d. d ≡ resumed next reply) }
+pub fn resume(alloc: Global, next: Next, reply: Reply) -> Result<Decision<Next>, OutOfMemory>
+    ensures { IfOk result (λ d. d ≡ resumed common_ref next reply) }
 {
     match next {
         Next::Answer => Ok(Decision::Done(reply)),
@@ -151,5 +156,14 @@ pub fn resume(next: Next, reply: Reply) -> Result<Decision<Next>, OutOfMemory>
             value,
             receiver,
         } => Ok(after_receiver(key, value, receiver, reply)),
+        Next::Member { key } => after_member(alloc, key, reply),
+        Next::MemberValue { key, value } => Ok(after_member_value(key, value, reply)),
+        Next::Override {
+            key,
+            value,
+            receiver,
+        } => Ok(after_override(key, value, receiver, reply)),
+        Next::SetResult => Ok(after_result(FaultText::CannotSet, reply)),
+        Next::DefineResult => Ok(after_result(FaultText::CannotDefine, reply)),
     }
 }

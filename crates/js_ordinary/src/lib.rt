@@ -3,6 +3,7 @@
 
 pub mod calls;
 pub mod decide;
+pub mod held_functions;
 pub mod next;
 pub mod ordinary_define_own_property;
 pub mod ordinary_delete;
@@ -10,4 +11,5 @@ pub mod ordinary_get;
 pub mod ordinary_has_property;
 pub mod ordinary_set;
 pub mod ordinary_set_prototype_of;
+pub mod primitives;
 pub mod target;

@@ -16,4 +16,23 @@ pub enum Next<R = Ref, S = MadeSymbol> {
         value: Value<R, S>,
         receiver: R,
     },
+    /// The value of a global, of which a live getter gets this member.
+    Member {
+        key: Key<S>,
+    },
+    /// The value of a global, of which a live setter sets this member.
+    MemberValue {
+        key: Key<S>,
+        value: Value<R, S>,
+    },
+    /// The own property of the receiver of a repair setter, which is set, or made where there is none.
+    Override {
+        key: Key<S>,
+        value: Value<R, S>,
+        receiver: R,
+    },
+    /// Whether a property was set, which it has to be.
+    SetResult,
+    /// Whether a property was defined, which it has to be.
+    DefineResult,
 }

@@ -208,7 +208,7 @@ fn value_alone(value: Value) -> PartialDescriptor
 }
 
 /// A definition of a data property with this value and all attributes true.
-fn open_data(value: Value) -> PartialDescriptor
+pub(crate) fn open_data(value: Value) -> PartialDescriptor
     ensures { result ≡ open_data value }
 {
     PartialDescriptor {
