@@ -1,6 +1,8 @@
 pub mod Calls
 pub mod Decided
 pub mod HeldFunctions
+pub mod Laws
+pub mod Maps
 pub mod OrdinaryDefineOwnProperty
 pub mod OrdinaryDelete
 pub mod OrdinaryGet

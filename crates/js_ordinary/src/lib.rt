@@ -4,6 +4,7 @@
 pub mod calls;
 pub mod decide;
 pub mod held_functions;
+pub mod laws;
 pub mod next;
 pub mod ordinary_define_own_property;
 pub mod ordinary_delete;
