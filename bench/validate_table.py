@@ -1,16 +1,34 @@
 #!/usr/bin/env python3
-"""The tables of crates/js_object_rows/src/table.rt, worked out from the steps of ECMA-262's ValidateAndApplyPropertyDescriptor.
+"""The cases of crates/js_object_rows and what has to come of them: its files stdin and stdout, line by line.
 
-    bench/validate_table.py            prints the file
-    bench/validate_table.py --check    ends with status 1 where the file differs
+    bench/validate_table.py            writes both files
+    bench/validate_table.py --check    ends with status 1 where one of them differs
 
-The steps below are those of the standard, one by one and under its numbers; nothing is taken from the program's own code.
+What definitions make of properties is worked out from the steps of ECMA-262's ValidateAndApplyPropertyDescriptor, which stand below one by one
+and under its numbers; the bytes and units of texts by Python's own codecs. The other answers are worked rows, read off the standard and the
+tables of natives and paths. Nothing is taken from the program's own code.
+
+A property, or what becomes of it, is a cell of two signs:
+
+  --        the definition is refused
+  ==        it is accepted, and the property stays as it is
+  V0 to V7  a data property with the value V; so X with the value X, U with undefined
+  a0 to i3  an accessor property, with the functions
+
+                        set undefined  G   H
+         get undefined        a        b   c
+             F                d        e   f
+             H                g        h   i
+
+The digit is the sum of 4 for writable, 2 for enumerable and 1 for configurable. A word has nine cells: enumerable absent, true, false, and
+under each configurable absent, true, false. A line `data PROPERTY open VALUE` has a word for each writable (absent, true, false), and a line
+`accessor PROPERTY open GET SETS` one for each set; - is a field that is absent, u undefined. An object that is not extensible is `closed`.
 """
 import os
 import sys
 
 TOP = os.path.dirname(os.path.dirname(os.path.abspath(__file__)))
-TABLE = os.path.join(TOP, 'crates/js_object_rows/src/table.rt')
+CRATE = os.path.join(TOP, 'crates/js_object_rows')
 
 # A value of the language is its type with what tells it from others of that type.
 UNDEFINED = ('undefined',)
@@ -180,102 +198,246 @@ def word(old, extensible, **fields):
     return ''.join(outcome(old, extensible, definition(enumerable=e, configurable=c, **fields)) for e in TRUTHS for c in TRUTHS)
 
 
-def lines(old, extensible):
+LETTER = {ABSENT: '-', UNDEFINED: 'u', V: 'V', X: 'X', F: 'F', G: 'G', H: 'H'}
+
+
+def definition_lines(cell, extensible):
     """Seven lines: one a value, with a word for each writable, and then one a get, with a word for each set."""
+    old, there = property_of(cell), '%s %s' % (cell, 'open' if extensible else 'closed')
     for value in VALUES:
-        yield ' '.join(word(old, extensible, value=value, writable=writable) for writable in TRUTHS)
+        yield 'data %s %s' % (there, LETTER[value]), ' '.join(word(old, extensible, value=value, writable=writable) for writable in TRUTHS)
     for get in GETS:
         # Neither get nor set is the first word of all.
         sets = SETS if get is not ABSENT else SETS[1:]
-        yield ' '.join(word(old, extensible, get=get, set=set_) for set_ in sets)
+        case = 'accessor %s %s %s' % (there, LETTER[get], ''.join(LETTER[set_] for set_ in sets))
+        yield case, ' '.join(word(old, extensible, get=get, set=set_) for set_ in sets)
 
 
 # The rows: each property that is there, and a few on an object that is not extensible.
 PRESENT = ['V%d' % digit for digit in range(8)] + ['%s%d' % (letter, digit) for letter in 'abde' for digit in range(4)]
 ROWS = [('absent', True), ('absent', False)] + [(old, True) for old in PRESENT] + [(old, False) for old in ('V0', 'V7', 'e0', 'e3')]
 
-# Values of every kind, each by its name; the two names of one text are made in different ways.
+# Values of every kind, as a line writes each; the two names of one text are made in different ways.
 KINDS = [
     ('undefined', UNDEFINED), ('null', NULL),
     ('true', ('boolean', True)), ('false', ('boolean', False)),
     ('0', ('number', 0)), ('1', ('number', 1)), ('-1', ('number', -1)),
-    ('empty text', ('string', '')), ('text ab', ('string', 'ab')), ('text a and text b', ('string', 'ab')), ('text ba', ('string', 'ba')), ('text 1', ('string', '1')),
-    ('iterator', ('symbol', 'iterator')), ('registered ab', ('symbol', 'for ab')), ('registered ba', ('symbol', 'for ba')),
-    ('made 1 0', ('symbol', 1, 0)), ('made 1 1', ('symbol', 1, 1)),
-    ('object 1 0', ('object', 1, 0)), ('object 1 1', ('object', 1, 1)), ('object 2 0', ('object', 2, 0)), ('common 0', ('object', 'common', 0)), ('common 1', ('object', 'common', 1)),
+    ("'", ('string', '')), ("'ab", ('string', 'ab')), ("'a|'b", ('string', 'ab')), ("'ba", ('string', 'ba')), ("'1", ('string', '1')),
+    ('@iterator', ('symbol', 'iterator')), ("@for'ab", ('symbol', 'for ab')), ("@for'ba", ('symbol', 'for ba')),
+    ('@1:0', ('symbol', 1, 0)), ('@1:1', ('symbol', 1, 1)), ('@2:0', ('symbol', 2, 0)),
+    ('#1:0', ('object', 1, 0)), ('#1:1', ('object', 1, 1)), ('#2:0', ('object', 2, 0)), ('#c0', ('object', 'common', 0)), ('#c1', ('object', 'common', 1)),
 ]
 
 
-def same_row(there):
-    """For each value what a definition with it alone makes of a property that is neither writable nor configurable."""
-    signs = ''
-    for _, value in KINDS:
-        fixed = {'value': there, 'writable': False, 'enumerable': False, 'configurable': False}
-        o = {'P': dict(fixed)}
-        accepted = validate_and_apply(o, True, {'value': value}, fixed)
-        assert o == {'P': fixed}
-        signs += '=' if accepted else '-'
-    return signs
+def is_kept(there, value):
+    """Whether a definition with a value alone is accepted by a property with another that is neither writable nor configurable."""
+    fixed = {'value': there, 'writable': False, 'enumerable': False, 'configurable': False}
+    o = {'P': dict(fixed)}
+    accepted = validate_and_apply(o, True, {'value': value}, fixed)
+    assert o == {'P': fixed}
+    return accepted
 
 
-HEAD = '''\
-// What ECMA-262's ValidateAndApplyPropertyDescriptor makes of properties. bench/validate_table.py works these tables out from the standard's steps and prints this file.
-//
-// A property, or what becomes of it, is a cell of two signs:
-//
-//   --        the definition is refused
-//   ==        it is accepted, and the property stays as it is
-//   V0 to V7  a data property with the value V; so X with the value X, U with undefined
-//   a0 to i3  an accessor property, with the functions
-//
-//                         set undefined  G   H
-//          get undefined        a        b   c
-//              F                d        e   f
-//              H                g        h   i
-//
-// The digit is the sum of 4 for writable, 2 for enumerable and 1 for configurable.
-
-// The property that is there, whether the object is extensible, and a cell for each definition.
-//
-// The first three lines are of definitions of a data property or of no kind: one a value (absent, V, X), with a word for each writable
-// (absent, true, false). The last four are of definitions of an accessor: one a get (absent, undefined, F, H), with a word for each set
-// (absent, undefined, G, H), where get and set are not both absent. The nine cells of a word are enumerable (absent, true, false), and
-// under each configurable (absent, true, false).
-'''
-
-MIDDLE = '''
-// A property that is neither writable, enumerable nor configurable has the value of the first name. A definition with the value of each
-// name in turn, and with no other field, is refused (-) or accepted (=); then the property stays as it is.
-'''
+# Keys, each with what it is the same as; a text of one piece and one of many, long and short.
+NAMES = [
+    ("'7", 7), ("'8", 8), ("'ab", 'ab'), ("'a|'b", 'ab'), ("'a*2000", 'a' * 2000), ("'a*1000|'a*1000", 'a' * 2000), ("'a*1999+'b", 'a' * 1999 + 'b'),
+    ('@iterator', ('iterator',)), ("@for'ab", ('for', 'ab')), ("@for'a|'b", ('for', 'ab')), ('@1:2', (1, 2)), ('@2:2', (2, 2)), ('@1:3', (1, 3)),
+]
 
 
-def table():
-    """The whole file."""
-    out = [HEAD]
-    out.append('pub static ROWS: [(&str, bool, [&str; 7]); %d] = [\n' % len(ROWS))
-    for old, extensible in ROWS:
-        out.append('    (\n        "%s",\n        %s,\n        [\n' % (old, str(extensible).lower()))
-        for line in lines(property_of(old), extensible):
-            out.append('            "%s",\n' % line)
-        out.append('        ],\n    ),\n')
-    out.append('];\n')
-    out.append(MIDDLE)
-    out.append('pub static SAME: [(&str, &str); %d] = [\n' % len(KINDS))
-    for name, value in KINDS:
-        out.append('    ("%s", "%s"),\n' % (name, same_row(value)))
-    out.append('];\n')
-    return ''.join(out)
+def rows_of(kind, names, is_same):
+    """A line a name, with a sign for each: = where it is the same, and else -."""
+    words = ' '.join(name for name, _ in names)
+    for name, there in names:
+        yield '%s %s %s' % (kind, name, words), ''.join('=' if is_same(there, given) else '-' for _, given in names)
+
+
+def runs(numbers):
+    """Numbers in hexadecimal; those that are equal and stand beside one another as one with a count."""
+    shown = []
+    for number in numbers:
+        if shown and shown[-1][0] == number:
+            shown[-1][1] += 1
+        else:
+            shown.append([number, 1])
+    return ' '.join('%X' % number if count == 1 else '%X*%d' % (number, count) for number, count in shown)
+
+
+def units_in(text):
+    """The UTF-16 of a text, as numbers."""
+    coded = text.encode('utf-16-be', 'surrogatepass')
+    return [coded[at] * 256 + coded[at + 1] for at in range(0, len(coded), 2)]
+
+
+def utf8_in(text):
+    """The UTF-8 of a text, with U+FFFD for each surrogate without its partner."""
+    return text.encode('utf-16-be', 'surrogatepass').decode('utf-16-be', 'replace').encode()
+
+
+def fault_place(bytes_):
+    """The first byte with which no UTF-8 text goes on: that which can't begin a character, or that behind what could."""
+    try:
+        bytes_.decode()
+    except UnicodeDecodeError as fault:
+        return fault.start if fault.reason == 'invalid start byte' else fault.end
+    return None
+
+
+# The smile and what stands at both sides of a seam between its halves.
+SMILE = '\U0001F600'
+SEAM = "'a*300+D83D|DE00+'b*300"
+LIMIT = 1048576
+TEXTS = ['', 'LAVA', '\u00e9', '\u20ac', '\uffff', SMILE + '!', '\ud83d!', '\ude00\ud83d', 'A\ud83d']
+
+
+def text_cases():
+    """Cases of texts: the bytes of the Unicode standard, and ECMA-262's operations on Strings."""
+    for text in TEXTS:
+        yield "write %s" % ('+'.join('%X' % unit for unit in units_in(text)) or "'"), runs(utf8_in(text))
+    yield 'write ' + SEAM, runs(utf8_in('a' * 300 + SMILE + 'b' * 300))
+    yield 'units ' + SEAM, '602 ' + runs(units_in('a' * 300 + SMILE + 'b' * 300))
+    for text in ('', 'LAVA', '\u00e9\u20ac', SMILE, '\uffff'):
+        yield "utf8 %s" % ('+'.join('%X' % byte for byte in text.encode()) or "'"), runs(units_in(text))
+    for bytes_ in (b'a\xff', b'\xed\xa0\x80', b'\xc3', b'ab\xc0\x80'):
+        yield 'utf8 ' + '+'.join('%X' % byte for byte in bytes_), 'not UTF-8 at %d' % fault_place(bytes_)
+    # A text has at most 1,048,576 units.
+    yield "units 'a*%d" % (LIMIT + 1), 'too long'
+    yield "units 'a*%d" % LIMIT, '%d 61*%d' % (LIMIT, LIMIT)
+    yield "units 'a*%d|'a" % LIMIT, 'too long'
+    yield "utf8 'a*%d" % LIMIT, '61*%d' % LIMIT
+    yield "utf8 'a*%d" % (LIMIT + 1), 'too long'
+    # Array indices are the integers up to 2 ** 32 - 2.
+    for text in ('4294967294', '4294967295', '01', '', '0', '1e3'):
+        index = str(int(text)) if text.isdigit() and text == str(int(text)) and int(text) <= 2 ** 32 - 2 else None
+        yield "index '" + text, '%s index' % index if index else 'none text'
+    for first, second in (('a', 'b'), ('a', 'B'), ('a', 'ab'), ('ab', 'ab')):
+        yield "compare '%s '%s" % (first, second), 'less' if first < second else 'greater' if first > second else 'equal'
+    yield "compare %s 'a*300+D83D+DE00+'b*300" % SEAM, 'equal'
+    yield "compare %s 'a*300+D83D+DE00+'b*301" % SEAM, 'less'
+    for part, start in (('ana', 0), ('ana', 2), ('ana', 4), ('', 6), ('', 7), ('bananas', 0)):
+        place = 'banana'.find(part, start)
+        yield "find 'banana '%s %d" % (part, start), 'none' if place < 0 else str(place)
+    yield "find %s 'a+D83D+DE00+'b 0" % SEAM, '299'
+    yield "find %s 'a+D83D+DE00+'b 300" % SEAM, 'none'
+    yield "slice 'banana 0 2", runs(units_in('ba'))
+    yield "slice 'bana|'na 3 6", runs(units_in('ana'))
+    yield 'slice %s 299 303' % SEAM, runs(units_in('a' + SMILE + 'b'))
+    for end in ('end', 'front'):
+        yield 'grow ' + end, '3000 0 1499 2999 true true'
+
+
+def name_cases():
+    """Natives with their numbers and operands and whether they cross, common objects by the order of their paths, errors and their texts."""
+    for name, number, operands, crosses in (('getProto', 1, '1', 'false'), ('concat', 26, 'none', 'false'), ('mapSet', 37, '4', 'true'), ('isModule', 52, '1', 'false')):
+        yield 'native ' + name, '%s %d %s %s' % (name, number, operands, crosses)
+    yield 'native getproto', 'none'
+    for path, place in (('Array', 0), ('Array.prototype', 4), ('Array.prototype.push', 18), ('get Map.prototype.size', 183), ('set TypeError.prototype.name', 221)):
+        yield 'common ' + path, str(place)
+        yield 'path %d' % place, path
+    yield 'common Map.prototype.size', 'none'
+    yield 'path 222', 'none'
+    for name, error, text in (
+        ('NotAFunction', 'TypeError', 'not a function'), ('BadJson', 'SyntaxError', 'bad JSON'),
+        ('NotDefined', 'ReferenceError', 'x is not defined'), ('InvalidCount', 'RangeError', 'invalid count'),
+    ):
+        yield 'fault ' + name, '%s %s' % (error, runs(units_in(text)))
+
+
+# The thirteen internal methods of ECMA-262, and what parties ask of each other.
+ASKS = [
+    'GetPrototypeOf', 'SetPrototypeOf', 'IsExtensible', 'PreventExtensions', 'GetOwnProperty', 'DefineOwnProperty', 'HasProperty', 'Get', 'Set', 'Delete',
+    'OwnPropertyKeys', 'Call', 'Construct', 'Import', 'Slot', 'Make', 'Queue', 'Turn',
+]
+REPLIES = ['value', 'prototype', 'truth', 'property', 'absent', 'keys', 'throw']
+
+
+def copy_cases():
+    """Copies are of the kind of what was copied, and all fields of a property make it."""
+    for kind, names in (('ask', ASKS), ('reply', REPLIES), ('cross', ['object', 'party', 'answer'])):
+        for name in names:
+            yield '%s %s' % (kind, name), name
+    for cell in PRESENT:
+        yield 'fields ' + cell, cell + ' true'
+
+
+# Keys that are written in turn, or taken out where a `-` stands before them, and the own keys after that, as OrdinaryOwnPropertyKeys lists them.
+ORDERS = [
+    ('b 2 a 1 @iterator', '1 2 b a @iterator'),
+    ('@iterator b 0', '0 b @iterator'),
+    ('b a -b b', 'a b'),
+    ('a b a', 'a b'),
+    ('a -b -0 -@iterator', 'a'),
+    ('a -a', ''),
+    ('0 1 2 -1 3', '0 2 3'),
+    ('0 1 2 -1 -2 5 1', '0 1 5'),
+    ('1 0 2 1', '0 1 2'),
+    ('4294967294 4294967295 10 9 01', '9 10 4294967294 4294967295 01'),
+    ('7 3 5 -5 x 4 -7', '3 4 x'),
+    ('@iterator -@iterator y @iterator', 'y @iterator'),
+]
+
+
+def key_word(name):
+    """How a line writes a key."""
+    return name if name.startswith('@') else "'" + name
+
+
+def key_shown(name):
+    """How an answer writes it: an array index as its number."""
+    return name if name.isdigit() and name == str(int(name)) and int(name) <= 2 ** 32 - 2 else key_word(name)
+
+
+def store_cases():
+    """What is done to stores, and what they answer."""
+    for words, names in ORDERS:
+        steps = ['0 remove ' + key_word(it[1:]) if it.startswith('-') else '0 write %s 1' % key_word(it) for it in words.split()]
+        yield 'store make; %s; 0 keys' % '; '.join(steps), ' '.join(['0'] + [key_shown(it) for it in names.split()])
+    yield 'store party; count', '7 0'
+    yield 'store make; make function; count; 0 marks; 1 marks; 0 proto; 1 proto; 1 extensible', '0 1 2 Object false false Function true true null c3 true'
+    yield (
+        'store make; make; 1 set_proto c0; 1 prevent; 1 swap c1; 1 slot; 0 slot; 1 proto; 0 proto; 1 extensible; 0 extensible',
+        '0 1 plain chamber plain c0 null false true',
+    )
+    yield "store make; make; 0 write '5 1; 0 write '5 2; 0 keep '5; 0 own '5; 0 own '4; 1 own '5; 0 remove '5; 0 own '5", '0 1 2 none none none'
+    yield "store make; 0 write @1:0 1; 0 write @2:0 2; 0 own @1:0; 0 own @2:0; 0 own @1:1", '0 1 2 none'
+    # A bare common part has 222 empty frozen objects without a prototype.
+    for place in (0, 221):
+        yield 'bare %d' % place, '222 Object false false null false plain none'
+    yield 'freeze', '0'
+    yield 'foreign 2:0 function; 2:0 plain; 2:0 marks; 3:0 marks', 'Function true true Object false false'
+
+
+def cases():
+    """Each line of the input, with what has to come of it."""
+    yield from text_cases()
+    yield from name_cases()
+    yield from rows_of('values', KINDS, is_kept)
+    yield from rows_of('keys', NAMES, lambda there, given: there == given)
+    yield from copy_cases()
+    yield from store_cases()
+    for cell, extensible in ROWS:
+        yield from definition_lines(cell, extensible)
+
+
+def files():
+    """The name and the text of each file."""
+    all_ = list(cases())
+    yield 'stdin', ''.join(case + '\n' for case, _ in all_)
+    yield 'stdout', ''.join('%s =%s\n' % (case, ' ' + answer if answer else '') for case, answer in all_)
 
 
 def main():
-    if sys.argv[1:] == ['--check']:
-        with open(TABLE) as file:
-            if file.read() != table():
-                sys.exit('%s differs' % TABLE)
-    elif len(sys.argv) == 1:
-        sys.stdout.write(table())
-    else:
+    if sys.argv[1:] not in ([], ['--check']):
         sys.exit(__doc__)
+    for name, text in files():
+        path = os.path.join(CRATE, name)
+        if not sys.argv[1:]:
+            with open(path, 'w') as file:
+                file.write(text)
+        else:
+            with open(path) as file:
+                if file.read() != text:
+                    sys.exit('%s differs' % path)
 
 
 main()

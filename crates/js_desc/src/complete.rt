@@ -73,7 +73,8 @@ pub(crate) fn data_from(
     enumerable: bool,
     configurable: bool,
 ) -> Result<Descriptor, OutOfMemory>
-    ensures { IfOk result (λ d. d ≡ data_with fields.now value.now writable enumerable configurable) }
+    ensures { IfOk result (λ d.
+        d ≡ data_with fields.now value.now writable enumerable configurable) }
 {
     Ok(Descriptor::Data {
         value: value_or(&fields.value, value)?,

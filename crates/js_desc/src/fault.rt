@@ -126,8 +126,10 @@ impl FaultText {
     /// The text as the error has it. `TooLong` comes exactly where a name is so long that the text would pass the limit of texts.
     pub fn message(&self, alloc: Global) -> Result<Text, TextFault>
         ensures text { IfOk result (λ text. text ≡ fault_text self.now) }
-        ensures too_long { IsErrOf result TextFault.TooLong ↔ (MAX_UNITS < length (fault_text self.now)) }
-        ensures memory { length (fault_text self.now) ≤ MAX_UNITS → IsOkUnless result TextFault.OutOfMemory }
+        ensures too_long { IsErrOf result TextFault.TooLong
+            ↔ (MAX_UNITS < length (fault_text self.now)) }
+        ensures memory { length (fault_text self.now) ≤ MAX_UNITS
+            → IsOkUnless result TextFault.OutOfMemory }
     {
         match self {
             FaultText::NotDefined(name) => not_defined(alloc, name),
@@ -139,8 +141,10 @@ impl FaultText {
 /// The text on a global that is not there.
 fn not_defined(alloc: Global, name: &Text) -> Result<Text, TextFault>
     ensures text { IfOk result (λ text. text ≡ name.now ++ codes " is not defined") }
-    ensures too_long { IsErrOf result TextFault.TooLong ↔ (MAX_UNITS < length (name.now ++ codes " is not defined")) }
-    ensures memory { length (name.now ++ codes " is not defined") ≤ MAX_UNITS → IsOkUnless result TextFault.OutOfMemory }
+    ensures too_long { IsErrOf result TextFault.TooLong
+        ↔ (MAX_UNITS < length (name.now ++ codes " is not defined")) }
+    ensures memory { length (name.now ++ codes " is not defined") ≤ MAX_UNITS
+        → IsOkUnless result TextFault.OutOfMemory }
 {
     let rest = " is not defined";
     if name.len() as usize + rest.len() > MAX_UNITS as usize {

@@ -49,7 +49,8 @@ fn is_same_data(
     enumerable: bool,
     configurable: bool,
 ) -> bool
-    ensures { result ≡ same_descriptor same_ref same_made_symbol (Data value.now writable enumerable configurable) b.now }
+    ensures { let there = Data value.now writable enumerable configurable in
+        result ≡ same_descriptor same_ref same_made_symbol there b.now }
 {
     match b {
         Descriptor::Data {
@@ -70,7 +71,8 @@ fn is_same_accessor(
     enumerable: bool,
     configurable: bool,
 ) -> bool
-    ensures { result ≡ same_descriptor same_ref same_made_symbol (Accessor get set enumerable configurable) b.now }
+    ensures { let there = Accessor get set enumerable configurable in
+        result ≡ same_descriptor same_ref same_made_symbol there b.now }
 {
     match b {
         Descriptor::Data { .. } => false,

@@ -21,7 +21,9 @@ pub fn validate_apply(
     extensible: bool,
     new: &PartialDescriptor,
 ) -> Result<Option<Change>, OutOfMemory>
-    ensures { IfOk result (λ change. change ≡ validate_and_apply_property_descriptor same_ref same_made_symbol (option_map (λ d. d.now) old.entry) extensible new.now) }
+    ensures { let there = option_map (λ d. d.now) old.entry in
+        IfOk result (λ change. change ≡ validate_and_apply_property_descriptor
+        same_ref same_made_symbol there extensible new.now) }
 {
     if is_compatible_property_descriptor(extensible, new, old) {
         Ok(Some(change_from(old, new)?))
@@ -36,7 +38,9 @@ pub fn is_compatible_property_descriptor(
     new: &PartialDescriptor,
     current: Option<&Descriptor>,
 ) -> bool
-    ensures { result ≡ is_compatible_property_descriptor same_ref same_made_symbol extensible new.now (option_map (λ d. d.now) current.entry) }
+    ensures { let there = option_map (λ d. d.now) current.entry in
+        result ≡ is_compatible_property_descriptor
+        same_ref same_made_symbol extensible new.now there }
 {
     match current {
         None => extensible,
@@ -46,7 +50,8 @@ pub fn is_compatible_property_descriptor(
 
 /// What an allowed definition makes of a property (ECMA-262, ValidateAndApplyPropertyDescriptor, steps 2 and 6).
 fn change_from(old: Option<&Descriptor>, new: &PartialDescriptor) -> Result<Change, OutOfMemory>
-    ensures { IfOk result (λ change. change ≡ change_by same_ref same_made_symbol new.now (option_map (λ d. d.now) old.entry)) }
+    ensures { let there = option_map (λ d. d.now) old.entry in
+        IfOk result (λ change. change ≡ change_by same_ref same_made_symbol new.now there) }
 {
     match old {
         None => Ok(Change::Write(complete(new)?)),

@@ -25,6 +25,7 @@ use Rattle.js_lexer.proofs.Continuations.{element_bad, element_cut}
 use Rattle.js_lexer.proofs.Exactly.{Exactly}
 use Rattle.js_lexer.proofs.Numbers_taken.{element_exactly, nothing_shows}
 use Rattle.js_lexer.proofs.Runs.{Ends, one_end, none_ends, shows_ends, empty_ends, taken_is_element, left_out_shows, stopped_is_none}
+use Rattle.js_lexer.proofs.Tests.{equal}
 
 -- a refusal has its cause
 
@@ -76,9 +77,6 @@ end_cause bytes n s u v run e = subst (λ z. IsNotUtf8 bytes (over_all s.spot z)
 one_length : (bytes : List ℕ) (m n : ℕ) → IsValidUpTo bytes m → IsValidUpTo bytes n → m ≡ n
 one_length bytes m n a b = by_order (m == n) (nat_lt m n) refl refl
   where
-    equal : (m n : ℕ) → (m == n) ≡ true → m ≡ n
-    equal m n h = grind (arith, nat_tests)
-
     less : (m n : ℕ) → nat_lt m n ≡ true → m < n
     less m n h = grind (arith, nat_tests)
 
@@ -143,7 +141,7 @@ one_form within xs f g h k = by_taking (element_of within xs) (element_exactly w
     by_taking (Err (Stopped stop)) ex = absurd (ex.1 f h)
     by_taking (Err (LeftOut form)) ex = ex.1 f h ∙ sym (ex.1 g k)
 
-tokens_tokens : (bytes : List ℕ) (ts us : List Token) → IsTokens bytes ts → IsTokens bytes us → ts ≡ us
+pub tokens_tokens : (bytes : List ℕ) (ts us : List Token) → IsTokens bytes ts → IsTokens bytes us → ts ≡ us
 tokens_tokens bytes ts us a b =
     let s : State = a.1.0 in
     let e : (a.1.0 ≡ b.1.0) × (true ≡ true) = same_ending bytes (tokens_ending bytes ts a) (tokens_ending bytes us b) in
@@ -225,18 +223,7 @@ one_fault bytes p q (what.Unsupported n) what.BadToken (form, e, a) b = absurd (
 one_fault bytes p q (what.Unsupported n) (what.Unsupported m) (f, e, a) (g, k, b) =
     let same : (p ≡ q) × (f ≡ g) = form_form bytes p q f g a b in
     (same.0, ap what.Unsupported (e ∙ ap form_name same.1 ∙ sym k))
-one_fault bytes p q what.NotUtf8 what.Unexpected a b = absurd b
-one_fault bytes p q what.NotUtf8 what.TooDeep a b = absurd b
-one_fault bytes p q what.NotUtf8 (what.Early m) a b = absurd b
-one_fault bytes p q what.BadToken what.Unexpected a b = absurd b
-one_fault bytes p q what.BadToken what.TooDeep a b = absurd b
-one_fault bytes p q what.BadToken (what.Early m) a b = absurd b
-one_fault bytes p q (what.Unsupported n) what.Unexpected a b = absurd b
-one_fault bytes p q (what.Unsupported n) what.TooDeep a b = absurd b
-one_fault bytes p q (what.Unsupported n) (what.Early m) a b = absurd b
-one_fault bytes p q what.Unexpected w a b = absurd a
-one_fault bytes p q what.TooDeep w a b = absurd a
-one_fault bytes p q (what.Early n) w a b = absurd a
+one_fault bytes p q _ _ a b = absurd (search depth 0)
 
 -- what an answer says decides it
 
@@ -268,14 +255,14 @@ broken_cause_at bytes text n first s none f u v t o run h some e = by_stop none 
 
     by_stop : (none : NoElement) → element_of (inside s.opens) s.rest ≡ Err none → IsBrokenFault s none f → HasCause bytes f
     by_stop (Stopped stops.Cut) h e = subst (HasCause bytes) (sym e) (cut_cause bytes n s u v from (cut_is_cut s h))
-    by_stop (Stopped stops.Bad) h e = broken_cause bytes n s (Stopped stops.Bad) f u v from h some (λ k. differ k) e
+    by_stop (Stopped stops.Bad) h e = broken_cause bytes n s (Stopped stops.Bad) f u v from h some not_cut e
       where
-        differ : (let x : NoElement = Stopped stops.Bad in x) ≡ Stopped stops.Cut → ⊥
-        differ k = cc
-    by_stop (LeftOut form) h e = broken_cause bytes n s (LeftOut form) f u v from h some (λ k. differ k) e
+        not_cut : Stopped stops.Bad ≡ Stopped stops.Cut → ⊥
+        not_cut k = cc
+    by_stop (LeftOut form) h e = broken_cause bytes n s (LeftOut form) f u v from h some not_cut e
       where
-        differ : (let x : NoElement = LeftOut form in x) ≡ Stopped stops.Cut → ⊥
-        differ k = cc
+        not_cut : LeftOut form ≡ Stopped stops.Cut → ⊥
+        not_cut k = cc
 
 pub end_cause_at : (bytes text : List ℕ) (n : ℕ) (first s : State) (place : Place) (f : SyntaxFault) → ¬ (IsUtf8 bytes) → IsValidUpTo bytes n → text ≡ take n bytes → first ≡ opening (chars text) → Run first s → s.rest ≡ [] →
     place ≡ s.spot.place → f ≡ faults.At place what.NotUtf8 → HasCause bytes f

@@ -1,5 +1,5 @@
 -- With which character an element or a form that is left out can begin.
-use Rattle.std.proofs.Common.{◌≡◌, inl, inr, ℕ, ◌==◌, ◌||◌, ◌&&◌, Bool, true, false, cond, not, List, [], ◌∷◌, Option, Some, None, is_some, refl, sym, subst, ◌∙◌, arith}
+use Rattle.std.proofs.Common.{◌≡◌, inl, inr, ℕ, ◌==◌, ◌||◌, ◌&&◌, Bool, true, false, cond, not, List, [], ◌∷◌, Option, Some, None, is_some, refl, sym, ap, subst, ◌∙◌, arith}
 use Rattle.std.proofs.lemmas.Bool.Decides.{nat_tests}
 use Rattle.js_lexer.specs.declared.element.Element.{Element}
 use Rattle.js_lexer.specs.declared.element.Element.TheVariants as elements
@@ -14,22 +14,39 @@ use Rattle.js_lexer.specs.Grammar.{char, is, is_nonzero_digit, digits, more_digi
 use Rattle.js_lexer.specs.Punctuators.{single, begun, grown, grows, IsPunctuator}
 use Rattle.js_lexer.specs.Rules.{Rule, Then, One, Leads, begins_with}
 use Rattle.js_lexer.proofs.Punctuator_laws.{punctuator_exact}
+use Rattle.js_lexer.proofs.Tests.{both_true, equal, or_left, or_right, same_some}
 
 -- whether a comment begins behind a `/`
 abbrev pub is_comment_second : ℕ → Bool
 is_comment_second c = c == 47 || c == 42
 
--- whether an element may begin with c, with cs behind it
-abbrev pub may_begin : Bool → Element → ℕ → List ℕ → Bool
-may_begin inside elements.Gap c cs = (is_white_space c || is_line_terminator c) || (c == 47 && begins_with is_comment_second cs)
-may_begin inside elements.Word c cs = is_name_start c
-may_begin inside elements.Number c cs = is_digit c || (c == 46 && begins_with is_digit cs)
-may_begin inside elements.String c cs = c == 34 || c == 39
-may_begin inside (elements.Template templates.Whole) c cs = c == 96
-may_begin inside (elements.Template templates.Head) c cs = c == 96
-may_begin inside (elements.Template templates.Middle) c cs = c == 125 && inside
-may_begin inside (elements.Template templates.Tail) c cs = c == 125 && inside
-may_begin inside (elements.Punctuator p) c cs = is_some (single c) && not (c == 125 && inside)
+-- families of elements
+pub data Family : Type 0 where
+  gaps : Family
+  words : Family
+  numbers : Family
+  strings : Family
+  template_parts : Family
+  marks : Family
+  no_family : Family
+
+abbrev pub family_of : Element → Family
+family_of elements.Gap = gaps
+family_of elements.Word = words
+family_of elements.Number = numbers
+family_of elements.String = strings
+family_of (elements.Template part) = template_parts
+family_of (elements.Punctuator p) = marks
+
+-- whether an element of the family may begin with c, with cs behind it
+abbrev pub may_begin : Bool → Family → ℕ → List ℕ → Bool
+may_begin inside gaps c cs = (is_white_space c || is_line_terminator c) || (c == 47 && begins_with is_comment_second cs)
+may_begin inside words c cs = is_name_start c
+may_begin inside numbers c cs = is_digit c || (c == 46 && begins_with is_digit cs)
+may_begin inside strings c cs = c == 34 || c == 39
+may_begin inside template_parts c cs = c == 96 || (c == 125 && inside)
+may_begin inside marks c cs = is_some (single c) && not (c == 125 && inside)
+may_begin inside no_family c cs = false
 
 -- whether a form may
 abbrev pub form_begins : Form → ℕ → List ℕ → Bool
@@ -38,16 +55,6 @@ form_begins forms.Separator c cs = is_digit c || (c == 46 && begins_with is_digi
 form_begins forms.Escape c cs = is_name_start c || c == 92
 form_begins forms.Private c cs = c == 35
 form_begins forms.Decorator c cs = c == 64
-
-or_left : (a b : Bool) → a ≡ true → (a || b) ≡ true
-or_left a b h = rw h refl
-
-or_right : (a b : Bool) → b ≡ true → (a || b) ≡ true
-or_right true b h = refl
-or_right false b h = h
-
-both_true : (a b : Bool) → a ≡ true → b ≡ true → (a && b) ≡ true
-both_true a b h k = rw (h, k) refl
 
 -- a sequence of a class and more
 second : (p q : ℕ → Bool) (xs ys : List ℕ) (r : Rule) → (begins : (c : ℕ) → p c ≡ true → q c ≡ true) → Leads (Then (One p) r) xs ys → begins_with q xs ≡ true
@@ -104,17 +111,11 @@ brace_alone (c ∷ cs) = by_equals (c == 61)
 brace_mark : (p : Punctuator) (cs ys : List ℕ) → IsPunctuator p (125 ∷ cs) ys → p ≡ punctuators.RightBrace
 brace_mark p cs ys h =
     let e : Some (grown punctuators.RightBrace cs) ≡ Some (p, ys) = (punctuator_exact p (125 ∷ cs) ys).0 h in
-    sym (out (grown punctuators.RightBrace cs) (p, ys) e) ∙ brace_alone cs
-  where
-    out : (r s : Punctuator × List ℕ) → Some r ≡ Some s → r.0 ≡ s.0
-    out r s h = cc
+    sym (ap (λ z. z.0) (same_some (Some (p, ys)) (grown punctuators.RightBrace cs) (p, ys) (sym e) refl)) ∙ brace_alone cs
 
 mark_stands : (inside : Bool) (p : Punctuator) (c : ℕ) (cs ys : List ℕ) → IsPunctuator p (c ∷ cs) ys → MayStand inside p → (is_some (single c) && not (c == 125 && inside)) ≡ true
 mark_stands inside p c cs ys h m = both_true (is_some (single c)) (not (c == 125 && inside)) (mark_begins p c cs ys h) (by_brace (c == 125) inside refl m)
   where
-    equal : (c n : ℕ) → (c == n) ≡ true → c ≡ n
-    equal c n h = grind (arith, nat_tests)
-
     by_brace : (b inside : Bool) → (c == 125) ≡ b → MayStand inside p → not (b && inside) ≡ true
     by_brace true true e m = absurd (m refl (brace_mark p cs ys (subst (λ z. IsPunctuator p (z ∷ cs) ys) (equal c 125 e) h)))
     by_brace true false e m = refl
@@ -130,16 +131,16 @@ gap_begins c cs ys (inr (inr (inr (ms, h, k)))) =
     or_right (is_white_space c || is_line_terminator c) (c == 47 && begins_with is_comment_second cs)
     (both_true (c == 47) (begins_with is_comment_second cs) h.0 (subst (λ z. begins_with is_comment_second z ≡ true) (sym h.1) (second (is 42) is_comment_second ms ys rest_of_comment (λ c e. or_right (c == 47) (c == 42) e) k)))
 
-pub begins : (inside : Bool) (e : Element) (c : ℕ) (cs ys : List ℕ) → Stands inside e (c ∷ cs) ys → may_begin inside e c cs ≡ true
+pub begins : (inside : Bool) (e : Element) (c : ℕ) (cs ys : List ℕ) → Stands inside e (c ∷ cs) ys → may_begin inside (family_of e) c cs ≡ true
 begins inside elements.Gap c cs ys h = gap_begins c cs ys h
 begins inside elements.Word c cs ys (ms, h, k) = h.0
 begins inside elements.Number c cs ys h = number_begins false c cs ys h
 begins inside elements.String c cs ys (inl (ms, h, k)) = or_left (c == 34) (c == 39) h.0
 begins inside elements.String c cs ys (inr (ms, h, k)) = or_right (c == 34) (c == 39) h.0
-begins inside (elements.Template templates.Whole) c cs ys (ms, h, k) = h.0
-begins inside (elements.Template templates.Head) c cs ys (ms, h, k) = h.0
-begins inside (elements.Template templates.Middle) c cs ys (i, (ms, h, k)) = both_true (c == 125) inside h.0 i
-begins inside (elements.Template templates.Tail) c cs ys (i, (ms, h, k)) = both_true (c == 125) inside h.0 i
+begins inside (elements.Template templates.Whole) c cs ys (ms, h, k) = or_left (c == 96) (c == 125 && inside) h.0
+begins inside (elements.Template templates.Head) c cs ys (ms, h, k) = or_left (c == 96) (c == 125 && inside) h.0
+begins inside (elements.Template templates.Middle) c cs ys (i, (ms, h, k)) = or_right (c == 96) (c == 125 && inside) (both_true (c == 125) inside h.0 i)
+begins inside (elements.Template templates.Tail) c cs ys (i, (ms, h, k)) = or_right (c == 96) (c == 125 && inside) (both_true (c == 125) inside h.0 i)
 begins inside (elements.Punctuator p) c cs ys h = mark_stands inside p c cs ys h.0 h.1
 
 pub form_begins_so : (form : Form) (c : ℕ) (cs : List ℕ) → Shows form (c ∷ cs) → form_begins form c cs ≡ true

@@ -1,6 +1,5 @@
 -- What more characters do where no element was taken: what is bad stays so, and what is cut off goes on.
 use Rattle.std.proofs.Common.{◌≡◌, ◌⊎◌, inl, inr, ℕ, ◌==◌, ◌||◌, ◌&&◌, Bool, true, false, cond, not, List, [], ◌∷◌, ◌++◌, Option, Some, None, Result, Ok, Err, refl, sym, ap, subst, ◌∙◌, arith}
-use Rattle.std.proofs.lemmas.Bool.Decides.{nat_tests}
 use Rattle.unicode_ident.proofs.IdentLemmas.{is_xid_start-ascii}
 use Rattle.js_lexer.specs.declared.comments.Comment.{Comment}
 use Rattle.js_lexer.specs.declared.comments.Comment.TheVariants as comments
@@ -36,39 +35,43 @@ use Rattle.js_lexer.specs.Machines.{Reading, run}
 use Rattle.js_lexer.specs.Numbers.{number_step, number_stop}
 use Rattle.js_lexer.specs.Punctuators.{single, singles, named, follows, begun, started}
 use Rattle.js_lexer.specs.Quoted.{quoted_step, quoted_stop, opened}
-use Rattle.js_lexer.specs.Scanning.{Taking, refused, escape_reading, left_out, word_unless, word_ending, word_of, number_taken, number_of, string_taken, string_of, template_taken, template_of, mark_taken, mark_of, gap_taken, slash_of, dot_of, escape_of, private_taken, private_of, other_of, unnamed_of, element_of}
+use Rattle.js_lexer.specs.Scanning.{Taking, refused, escape_reading, left_out, word_unless, word_ending, word_of, number_taken, number_of, string_taken, string_of, template_taken, template_of, mark_taken, mark_of, gap_taken, slash_of, dot_of, private_taken, other_of, unnamed_of, element_of}
 use Rattle.js_lexer.specs.Skipping.{skip}
 use Rattle.js_lexer.proofs.Machine_laws.{bad_stays, EndsIn, cut_goes_on}
 use Rattle.js_lexer.proofs.Number_laws.{number_bad, number_cut}
+use Rattle.js_lexer.proofs.Tests.{both, equal, not_ok, same_err}
 
 -- an element was taken, or a form that is left out
 abbrev Lasts : Taking → Type 0
 Lasts t = ((e : Element) × (ys : List ℕ) × (t ≡ Ok (e, ys))) ⊎ ((form : Form) × (t ≡ Err (LeftOut form)))
 
 -- with more behind the text, what is bad stays so, and what is cut off goes on
-abbrev Keeps : (List ℕ → Taking) → List ℕ → Type 0
-Keeps taking cs =
-    (taking cs ≡ refused stops.Bad → (more : List ℕ) → taking (cs ++ more) ≡ refused stops.Bad)
-    × (taking cs ≡ refused stops.Cut → (more : List ℕ) × Lasts (taking (cs ++ more)))
-
-given_not_refused : (p : Element × List ℕ) (stop : Stop) → (let t : Taking = Ok p in t) ≡ refused stop → ⊥
-given_not_refused p stop h = cc
-
-left_not_refused : (form : Form) (stop : Stop) → (let t : Taking = Err (LeftOut form) in t) ≡ refused stop → ⊥
-left_not_refused form stop h = cc
+record Keeps (taking : List ℕ → Taking) (cs : List ℕ) : Type 0 where
+  bad : taking cs ≡ refused stops.Bad → (more : List ℕ) → taking (cs ++ more) ≡ refused stops.Bad
+  cut : taking cs ≡ refused stops.Cut → (more : List ℕ) × Lasts (taking (cs ++ more))
 
 lasting : (t : Taking) (stop : Stop) → Lasts t → t ≡ refused stop → ⊥
-lasting t stop (inl (e, ys, h)) k = given_not_refused (e, ys) stop (sym h ∙ k)
-lasting t stop (inr (form, h)) k = left_not_refused form stop (sym h ∙ k)
+lasting t stop (inl (e, ys, h)) k = not_ok t (e, ys) (Stopped stop) k h
+lasting t stop (inr (form, h)) k = not_left form (same_err t (LeftOut form) (Stopped stop) h k)
+  where
+    not_left : (form : Form) → LeftOut form ≡ Stopped stop → ⊥
+    not_left form h = cc
 
 keeps_lasting : (taking : List ℕ → Taking) (cs : List ℕ) → Lasts (taking cs) → Keeps taking cs
-keeps_lasting taking cs l = (λ h more. absurd (lasting (taking cs) stops.Bad l h), λ h. absurd (lasting (taking cs) stops.Cut l h))
+keeps_lasting taking cs l = record { bad = λ h more. absurd (lasting (taking cs) stops.Bad l h); cut = λ h. absurd (lasting (taking cs) stops.Cut l h) }
 
 bad_not_cut : refused stops.Bad ≡ refused stops.Cut → ⊥
 bad_not_cut h = cc
 
 keeps_bad : (cs : List ℕ) → Keeps (λ zs. refused stops.Bad) cs
-keeps_bad cs = (λ h more. refl, λ h. absurd (bad_not_cut h))
+keeps_bad cs = record { bad = λ h more. refl; cut = λ h. absurd (bad_not_cut h) }
+
+-- with a character in front
+ahead : (taking : List ℕ → Taking) (c : ℕ) (cs : List ℕ) → Keeps (λ zs. taking (c ∷ zs)) cs → Keeps taking (c ∷ cs)
+ahead taking c cs k = record { bad = k.bad; cut = k.cut }
+
+behind : (taking : List ℕ → Taking) (c : ℕ) (cs : List ℕ) → Keeps taking (c ∷ cs) → Keeps (λ zs. taking (c ∷ zs)) cs
+behind taking c cs k = record { bad = k.bad; cut = k.cut }
 
 -- by the two cases of a test on what stands before
 keeps_test : (b : Bool) (f g : List ℕ → Taking) (cs : List ℕ) → (b ≡ true → Keeps f cs) → (b ≡ false → Keeps g cs) → Keeps (λ zs. cond b (f zs) (g zs)) cs
@@ -99,43 +102,51 @@ module _ {O : Type 0} (taken : Reading O → Taking) where
   stopped t (Err e) stop h = ap (λ s. let r : Reading O = Err s in r) (refused_same e stop (sym (t.1 e) ∙ h))
 
   keeps_reading : Tells → (reading : List ℕ → Reading O) (cs : List ℕ) → StaysBad reading cs → GoesOn reading cs → Keeps (λ zs. taken (reading zs)) cs
-  keeps_reading t reading cs bad on = (
-    λ h more. ap taken (bad more (stopped t (reading cs) stops.Bad h)) ∙ t.1 stops.Bad,
-    λ h.
+  keeps_reading t reading cs bad on = record {
+    bad = λ h more. ap taken (bad more (stopped t (reading cs) stops.Bad h)) ∙ t.1 stops.Bad;
+    cut = λ h.
         let m : (more : List ℕ) × (r : O × List ℕ) × (reading (cs ++ more) ≡ Ok r) = on (stopped t (reading cs) stops.Cut h) in
-        (m.0, subst (λ r. Lasts (taken r)) (sym m.2) (t.0 m.1)),
-  )
+        (m.0, subst (λ r. Lasts (taken r)) (sym m.2) (t.0 m.1));
+  }
 
 -- the machine reads on to an end from each of its states
 module _ {S O : Type 0} (step : S → ℕ → Step S O) (stop : S → Result O Stop) where
   abbrev Closes : S → Type 0
   Closes s = (more : List ℕ) × (r : O × List ℕ) × (run step stop s more ≡ Ok r)
 
-  goes_on : ((s : S) → Closes s) → (s : S) → (cs : List ℕ) → GoesOn (λ zs. run step stop s zs) cs
-  goes_on closes s cs h =
-      let e : EndsIn step stop s cs = cut_goes_on step stop s cs h in
-      let m : Closes e.0 = closes e.0 in
-      (m.0, m.1, e.2 m.0 ∙ m.2)
+  keeps_run : (taken : Reading O → Taking) → Tells taken → ((s : S) → stop s ≡ Err stops.Bad → ⊥) → ((s : S) → Closes s) → (s : S) (cs : List ℕ) → Keeps (λ zs. taken (run step stop s zs)) cs
+  keeps_run taken tells never closes s cs = keeps_reading taken tells (run step stop s) cs (λ more h. bad_stays step stop never s cs more h) on
+    where
+      on : GoesOn (run step stop s) cs
+      on h =
+          let e : EndsIn step stop s cs = cut_goes_on step stop s cs h in
+          let m : Closes e.0 = closes e.0 in
+          (m.0, m.1, e.2 m.0 ∙ m.2)
 
 -- escapes
+
+-- characters that end what was read of a character
+abbrev rest_of_escape : Escape → List ℕ
+rest_of_escape escapes.Backslash = 117 ∷ 48 ∷ 48 ∷ 48 ∷ 48 ∷ []
+rest_of_escape escapes.Unicode = 48 ∷ 48 ∷ 48 ∷ 48 ∷ []
+rest_of_escape escapes.ThreeDigits = 48 ∷ 48 ∷ 48 ∷ []
+rest_of_escape escapes.TwoDigits = 48 ∷ 48 ∷ []
+rest_of_escape escapes.OneDigit = 48 ∷ []
+rest_of_escape escapes.Brace = 48 ∷ 125 ∷ []
+rest_of_escape (escapes.CodePoint value) = 125 ∷ []
 
 escape_never_bad : (s : Escape) → escape_stop s ≡ Err stops.Bad → ⊥
 escape_never_bad s h = cc
 
 escape_closes : (s : Escape) → Closes escape_step escape_stop s
-escape_closes escapes.Backslash = (117 ∷ 48 ∷ 48 ∷ 48 ∷ 48 ∷ [], (tt, []), refl)
-escape_closes escapes.Unicode = (48 ∷ 48 ∷ 48 ∷ 48 ∷ [], (tt, []), refl)
-escape_closes escapes.ThreeDigits = (48 ∷ 48 ∷ 48 ∷ [], (tt, []), refl)
-escape_closes escapes.TwoDigits = (48 ∷ 48 ∷ [], (tt, []), refl)
-escape_closes escapes.OneDigit = (48 ∷ [], (tt, []), refl)
-escape_closes escapes.Brace = (48 ∷ 125 ∷ [], (tt, []), refl)
-escape_closes (escapes.CodePoint value) = (125 ∷ [], (tt, []), refl)
+escape_closes s = (rest_of_escape s, (tt, []), by_escape s)
+  where
+    by_escape : (s : Escape) → run escape_step escape_stop s (rest_of_escape s) ≡ Ok (tt, [])
+    by_escape escapes.Backslash = refl
+    by_escape _ = refl
 
 keeps_escape : (form : Form) (cs : List ℕ) → Keeps (λ zs. left_out form (escape_reading zs)) cs
-keeps_escape form cs =
-    keeps_reading (left_out form) (λ r. inr (form, refl), λ stop. refl) escape_reading cs
-    (λ more h. bad_stays escape_step escape_stop escape_never_bad escapes.Backslash cs more h)
-    (goes_on escape_step escape_stop escape_closes escapes.Backslash cs)
+keeps_escape form cs = keeps_run escape_step escape_stop (left_out form) (λ r. inr (form, refl), λ stop. refl) escape_never_bad escape_closes escapes.Backslash cs
 
 -- strings and templates
 
@@ -157,46 +168,26 @@ closed quotes.Double = refl
 closed quotes.Single = refl
 closed quotes.Template = refl
 
-closes_zero : (quote : Quote) → ClosesIn quote parts.Zero
-closes_zero quotes.Double = (34 ∷ [], (ends.Closed, []), refl)
-closes_zero quotes.Single = (39 ∷ [], (ends.Closed, []), refl)
-closes_zero quotes.Template = (96 ∷ [], (ends.Closed, []), refl)
-
-closes_return : (quote : Quote) → ClosesIn quote parts.CarriageReturn
-closes_return quotes.Double = (34 ∷ [], (ends.Closed, []), refl)
-closes_return quotes.Single = (39 ∷ [], (ends.Closed, []), refl)
-closes_return quotes.Template = (96 ∷ [], (ends.Closed, []), refl)
-
 closes_escape : (quote : Quote) (escape : Escape) → ClosesIn quote (parts.Escape escape)
-closes_escape quote escapes.Backslash = (117 ∷ 48 ∷ 48 ∷ 48 ∷ 48 ∷ closing quote ∷ [], (ends.Closed, []), closed quote)
-closes_escape quote escapes.Unicode = (48 ∷ 48 ∷ 48 ∷ 48 ∷ closing quote ∷ [], (ends.Closed, []), closed quote)
-closes_escape quote escapes.ThreeDigits = (48 ∷ 48 ∷ 48 ∷ closing quote ∷ [], (ends.Closed, []), closed quote)
-closes_escape quote escapes.TwoDigits = (48 ∷ 48 ∷ closing quote ∷ [], (ends.Closed, []), closed quote)
-closes_escape quote escapes.OneDigit = (48 ∷ closing quote ∷ [], (ends.Closed, []), closed quote)
-closes_escape quote escapes.Brace = (48 ∷ 125 ∷ closing quote ∷ [], (ends.Closed, []), closed quote)
-closes_escape quote (escapes.CodePoint value) = (125 ∷ closing quote ∷ [], (ends.Closed, []), closed quote)
+closes_escape quote escape = (rest_of_escape escape ++ closing quote ∷ [], (ends.Closed, []), by_escape escape)
+  where
+    by_escape : (escape : Escape) → run quoted_step quoted_stop (record { quote = quote; part = parts.Escape escape }) (rest_of_escape escape ++ closing quote ∷ []) ≡ Ok (ends.Closed, [])
+    by_escape escapes.Backslash = closed quote
+    by_escape _ = closed quote
 
 closes_part : (quote : Quote) (part : Part) → ClosesIn quote part
+closes_part quote (parts.Escape escape) = closes_escape quote escape
 closes_part quote parts.Plain = (closing quote ∷ [], (ends.Closed, []), closed quote)
 closes_part quote parts.Backslash = (110 ∷ closing quote ∷ [], (ends.Closed, []), closed quote)
-closes_part quote parts.Zero = closes_zero quote
 closes_part quote parts.TwoHexDigits = (48 ∷ 48 ∷ closing quote ∷ [], (ends.Closed, []), closed quote)
 closes_part quote parts.OneHexDigit = (48 ∷ closing quote ∷ [], (ends.Closed, []), closed quote)
-closes_part quote (parts.Escape escape) = closes_escape quote escape
-closes_part quote parts.CarriageReturn = closes_return quote
 closes_part quote parts.Dollar = (123 ∷ [], (ends.Substitution, []), refl)
+closes_part quotes.Double _ = (34 ∷ [], (ends.Closed, []), refl)
+closes_part quotes.Single _ = (39 ∷ [], (ends.Closed, []), refl)
+closes_part quotes.Template _ = (96 ∷ [], (ends.Closed, []), refl)
 
-quoted_closes : (s : Quoted) → Closes quoted_step quoted_stop s
-quoted_closes s = closes_part s.quote s.part
-
-abbrev quoted_reading : Quote → List ℕ → Reading End
-quoted_reading quote zs = run quoted_step quoted_stop (opened quote) zs
-
-keeps_quoted : (quote : Quote) (taken : Reading End → Taking) → Tells taken → (cs : List ℕ) → Keeps (λ zs. taken (quoted_reading quote zs)) cs
-keeps_quoted quote taken tells cs =
-    keeps_reading taken tells (quoted_reading quote) cs
-    (λ more h. bad_stays quoted_step quoted_stop quoted_never_bad (opened quote) cs more h)
-    (goes_on quoted_step quoted_stop quoted_closes (opened quote) cs)
+keeps_quoted : (quote : Quote) (taken : Reading End → Taking) → Tells taken → (cs : List ℕ) → Keeps (λ zs. taken (run quoted_step quoted_stop (opened quote) zs)) cs
+keeps_quoted quote taken tells cs = keeps_run quoted_step quoted_stop taken tells quoted_never_bad (λ s. closes_part s.quote s.part) (opened quote) cs
 
 keeps_string : (quote : Quote) (c : ℕ) (cs : List ℕ) → Keeps (λ zs. string_of quote (c ∷ zs)) cs
 keeps_string quote c cs = keeps_quoted quote string_taken (λ r. inl (elements.String, r.1, refl), λ stop. refl) cs
@@ -217,10 +208,7 @@ abbrev comment_reading : List ℕ → Reading (Unit {0})
 comment_reading zs = run comment_step comment_stop comments.Inside zs
 
 keeps_comment : (cs : List ℕ) → Keeps (λ zs. gap_taken (comment_reading zs)) cs
-keeps_comment cs =
-    keeps_reading gap_taken (λ r. inl (elements.Gap, r.1, refl), λ stop. refl) comment_reading cs
-    (λ more h. bad_stays comment_step comment_stop comment_never_bad comments.Inside cs more h)
-    (goes_on comment_step comment_stop comment_closes comments.Inside cs)
+keeps_comment cs = keeps_run comment_step comment_stop gap_taken (λ r. inl (elements.Gap, r.1, refl), λ stop. refl) comment_never_bad comment_closes comments.Inside cs
 
 -- numbers
 
@@ -263,19 +251,12 @@ anywhere p ys h = by_punctuator p h
     by_punctuator punctuators.Slash h = absurd (cc)
     by_punctuator _ h = refl
 
-equal : (c n : ℕ) → (c == n) ≡ true → c ≡ n
-equal c n h = grind (arith, nat_tests)
-
 named_anywhere : (c : ℕ) (es : List (ℕ × Punctuator)) (p : Punctuator) → (c == 46) ≡ false → (c == 47) ≡ false → all_anywhere es ≡ true → named c es ≡ Some p → stands_anywhere p ≡ true
 named_anywhere c [] p d s h k = absurd (cc)
 named_anywhere c (e ∷ es) p d s h k =
-    let t : ((e.0 == 46 || e.0 == 47 || stands_anywhere e.1) ≡ true) × (all_anywhere es ≡ true) = two (e.0 == 46 || e.0 == 47 || stands_anywhere e.1) (all_anywhere es) h in
+    let t : ((e.0 == 46 || e.0 == 47 || stands_anywhere e.1) ≡ true) × (all_anywhere es ≡ true) = both (e.0 == 46 || e.0 == 47 || stands_anywhere e.1) (all_anywhere es) h in
     by_head (c == e.0) refl k t (λ l. named_anywhere c es p d s t.1 l)
   where
-    two : (a b : Bool) → (a && b) ≡ true → (a ≡ true) × (b ≡ true)
-    two true b h = (refl, h)
-    two false b h = absurd (cc)
-
     third : (a b c : Bool) → a ≡ false → b ≡ false → (a || b || c) ≡ true → c ≡ true
     third a b c h k l = cc
 
@@ -308,11 +289,10 @@ slash_lasts c cs h k = started_lasts punctuators.Slash (c ∷ cs) (rw (h, k) ref
 keeps_slash : (cs : List ℕ) → Keeps (λ zs. slash_of (47 ∷ zs)) cs
 keeps_slash [] = keeps_lasting (λ zs. slash_of (47 ∷ zs)) [] (inl (elements.Punctuator punctuators.Slash, [], refl))
 keeps_slash (c ∷ cs) =
-    keeps_test (c == 47) (λ zs. Ok (elements.Gap, skip in_line zs)) (λ zs. cond (c == 42) (gap_taken (comment_reading zs)) (mark_of (47 ∷ c ∷ zs))) cs
-    (λ e. keeps_lasting (λ zs. Ok (elements.Gap, skip in_line zs)) cs (inl (elements.Gap, skip in_line cs, refl)))
-    (λ n. keeps_test (c == 42) (λ zs. gap_taken (comment_reading zs)) (λ zs. mark_of (47 ∷ c ∷ zs)) cs
-    (λ e. keeps_comment cs)
-    (λ m. keeps_lasting (λ zs. mark_of (47 ∷ c ∷ zs)) cs (slash_lasts c cs n m)))
+    ahead (λ zs. slash_of (47 ∷ zs)) c cs
+    (keeps_test (c == 47) _ _ cs (λ e. keeps_lasting (λ zs. Ok (elements.Gap, skip in_line zs)) cs (inl (elements.Gap, skip in_line cs, refl)))
+    (λ n. keeps_test (c == 42) _ _ cs (λ e. keeps_comment cs)
+    (λ m. keeps_lasting (λ zs. mark_of (47 ∷ c ∷ zs)) cs (slash_lasts c cs n m))))
 
 point_lasts : (c : ℕ) (cs : List ℕ) → is_digit c ≡ false → Lasts (mark_of (46 ∷ c ∷ cs))
 point_lasts c cs h = started_lasts punctuators.Dot (c ∷ cs) (ap not h)
@@ -320,9 +300,9 @@ point_lasts c cs h = started_lasts punctuators.Dot (c ∷ cs) (ap not h)
 keeps_point : (cs : List ℕ) → Keeps (λ zs. dot_of (46 ∷ zs)) cs
 keeps_point [] = keeps_lasting (λ zs. dot_of (46 ∷ zs)) [] (inl (elements.Punctuator punctuators.Dot, [], refl))
 keeps_point (c ∷ cs) =
-    keeps_test (is_digit c) (λ zs. number_of (46 ∷ c ∷ zs)) (λ zs. mark_of (46 ∷ c ∷ zs)) cs
-    (λ e. keeps_number (46 ∷ c ∷ cs))
-    (λ n. keeps_lasting (λ zs. mark_of (46 ∷ c ∷ zs)) cs (point_lasts c cs n))
+    ahead (λ zs. dot_of (46 ∷ zs)) c cs
+    (keeps_test (is_digit c) _ _ cs (λ e. behind (λ zs. number_of (46 ∷ zs)) c cs (behind number_of 46 (c ∷ cs) (keeps_number (46 ∷ c ∷ cs))))
+    (λ n. keeps_lasting (λ zs. mark_of (46 ∷ c ∷ zs)) cs (point_lasts c cs n)))
 
 -- behind a `#`, the letter `a` goes on with a private name
 a_starts : is_name_start 97 ≡ true
@@ -333,13 +313,12 @@ cut_not_bad : refused stops.Cut ≡ refused stops.Bad → ⊥
 cut_not_bad h = cc
 
 keeps_hash : (cs : List ℕ) → Keeps private_taken cs
-keeps_hash [] = (λ h more. absurd (cut_not_bad h), λ h. (97 ∷ [], inr (forms.Private, rw a_starts refl)))
+keeps_hash [] = record { bad = λ h more. absurd (cut_not_bad h); cut = λ h. (97 ∷ [], inr (forms.Private, rw a_starts refl)) }
 keeps_hash (c ∷ cs) =
-    keeps_test (c == 92) (λ zs. left_out forms.Private (escape_reading zs)) (λ zs. cond (is_name_start c) (Err (LeftOut forms.Private)) (refused stops.Bad)) cs
-    (λ e. keeps_escape forms.Private cs)
-    (λ n. keeps_test (is_name_start c) (λ zs. Err (LeftOut forms.Private)) (λ zs. refused stops.Bad) cs
-    (λ e. keeps_lasting (λ zs. Err (LeftOut forms.Private)) cs (inr (forms.Private, refl)))
-    (λ m. keeps_bad cs))
+    ahead private_taken c cs
+    (keeps_test (c == 92) _ _ cs (λ e. keeps_escape forms.Private cs)
+    (λ n. keeps_test (is_name_start c) _ _ cs (λ e. keeps_lasting (λ zs. Err (LeftOut forms.Private)) cs (inr (forms.Private, refl)))
+    (λ m. keeps_bad cs)))
 
 -- names
 
@@ -361,81 +340,36 @@ word_lasts (c ∷ cs) = by_backslash (c == 92)
 at_one : (taking : ℕ → List ℕ → Taking) (c n : ℕ) (cs : List ℕ) → (c == n) ≡ true → Keeps (λ zs. taking n zs) cs → Keeps (λ zs. taking c zs) cs
 at_one taking c n cs e h = subst (λ z. Keeps (λ zs. taking z zs) cs) (sym (equal c n e)) h
 
--- the tests in their order, each with those behind it
-abbrev at_or : ℕ → List ℕ → Taking
-at_or c zs = cond (c == 64) (Err (LeftOut forms.Decorator)) (mark_of (c ∷ zs))
-
-abbrev hash_or : ℕ → List ℕ → Taking
-hash_or c zs = cond (c == 35) (private_of (c ∷ zs)) (at_or c zs)
-
-abbrev backslash_or : ℕ → List ℕ → Taking
-backslash_or c zs = cond (c == 92) (escape_of (c ∷ zs)) (hash_or c zs)
-
-keeps_backslash_or : (c : ℕ) (cs : List ℕ) → (c == 46) ≡ false → (c == 47) ≡ false → Keeps (λ zs. backslash_or c zs) cs
-keeps_backslash_or c cs d s =
-    keeps_test (c == 92) (λ zs. escape_of (c ∷ zs)) (λ zs. hash_or c zs) cs
-    (λ e. keeps_escape forms.Escape cs)
-    (λ n. keeps_test (c == 35) (λ zs. private_of (c ∷ zs)) (λ zs. at_or c zs) cs
-    (λ e. keeps_hash cs)
-    (λ m. keeps_test (c == 64) (λ zs. Err (LeftOut forms.Decorator)) (λ zs. mark_of (c ∷ zs)) cs
-    (λ e. keeps_lasting (λ zs. Err (LeftOut forms.Decorator)) cs (inr (forms.Decorator, refl)))
-    (λ l. keeps_mark c cs d s)))
-
-abbrev point_or : ℕ → List ℕ → Taking
-point_or c zs = cond (c == 46) (dot_of (c ∷ zs)) (backslash_or c zs)
-
-abbrev slash_or : ℕ → List ℕ → Taking
-slash_or c zs = cond (c == 47) (slash_of (c ∷ zs)) (point_or c zs)
-
-keeps_slash_or : (c : ℕ) (cs : List ℕ) → Keeps (λ zs. slash_or c zs) cs
-keeps_slash_or c cs =
-    keeps_test (c == 47) (λ zs. slash_of (c ∷ zs)) (λ zs. point_or c zs) cs
-    (λ e. at_one (λ z zs. slash_of (z ∷ zs)) c 47 cs e (keeps_slash cs))
-    (λ s. keeps_test (c == 46) (λ zs. dot_of (c ∷ zs)) (λ zs. backslash_or c zs) cs
-    (λ e. at_one (λ z zs. dot_of (z ∷ zs)) c 46 cs e (keeps_point cs))
-    (λ d. keeps_backslash_or c cs d s))
-
-abbrev brace_or : Bool → ℕ → List ℕ → Taking
-brace_or inside c zs = cond (c == 125 && inside) (template_of templates.Tail templates.Middle (c ∷ zs)) (slash_or c zs)
-
-abbrev accent_or : Bool → ℕ → List ℕ → Taking
-accent_or inside c zs = cond (c == 96) (template_of templates.Whole templates.Head (c ∷ zs)) (brace_or inside c zs)
-
-abbrev single_or : Bool → ℕ → List ℕ → Taking
-single_or inside c zs = cond (c == 39) (string_of quotes.Single (c ∷ zs)) (accent_or inside c zs)
-
 keeps_other : (inside : Bool) (c : ℕ) (cs : List ℕ) → Keeps (λ zs. other_of inside c (c ∷ zs)) cs
 keeps_other inside c cs =
-    keeps_test (c == 34) (λ zs. string_of quotes.Double (c ∷ zs)) (λ zs. single_or inside c zs) cs
-    (λ e. keeps_string quotes.Double c cs)
-    (λ n. keeps_test (c == 39) (λ zs. string_of quotes.Single (c ∷ zs)) (λ zs. accent_or inside c zs) cs
-    (λ e. keeps_string quotes.Single c cs)
-    (λ m. keeps_test (c == 96) (λ zs. template_of templates.Whole templates.Head (c ∷ zs)) (λ zs. brace_or inside c zs) cs
-    (λ e. keeps_template templates.Whole templates.Head c cs)
-    (λ l. keeps_test (c == 125 && inside) (λ zs. template_of templates.Tail templates.Middle (c ∷ zs)) (λ zs. slash_or c zs) cs
-    (λ e. keeps_template templates.Tail templates.Middle c cs)
-    (λ k. keeps_slash_or c cs))))
+    keeps_test (c == 34) _ _ cs (λ e. keeps_string quotes.Double c cs)
+    (λ n. keeps_test (c == 39) _ _ cs (λ e. keeps_string quotes.Single c cs)
+    (λ m. keeps_test (c == 96) _ _ cs (λ e. keeps_template templates.Whole templates.Head c cs)
+    (λ l. keeps_test (c == 125 && inside) _ _ cs (λ e. keeps_template templates.Tail templates.Middle c cs)
+    (λ k. keeps_test (c == 47) _ _ cs (λ e. at_one (λ z zs. slash_of (z ∷ zs)) c 47 cs e (keeps_slash cs))
+    (λ s. keeps_test (c == 46) _ _ cs (λ e. at_one (λ z zs. dot_of (z ∷ zs)) c 46 cs e (keeps_point cs))
+    (λ d. keeps_test (c == 92) _ _ cs (λ e. keeps_escape forms.Escape cs)
+    (λ b. keeps_test (c == 35) _ _ cs (λ e. keeps_hash cs)
+    (λ h. keeps_test (c == 64) _ _ cs (λ e. keeps_lasting (λ zs. Err (LeftOut forms.Decorator)) cs (inr (forms.Decorator, refl)))
+    (λ a. keeps_mark c cs d s)))))))))
 
 keeps_unnamed : (inside : Bool) (c : ℕ) (cs : List ℕ) → Keeps (λ zs. unnamed_of inside c (c ∷ zs)) cs
 keeps_unnamed inside c cs =
-    keeps_test (is_white_space c || is_line_terminator c) (λ zs. Ok (elements.Gap, zs)) (λ zs. cond (is_digit c) (number_of (c ∷ zs)) (other_of inside c (c ∷ zs))) cs
-    (λ e. keeps_lasting (λ zs. Ok (elements.Gap, zs)) cs (inl (elements.Gap, cs, refl)))
-    (λ n. keeps_test (is_digit c) (λ zs. number_of (c ∷ zs)) (λ zs. other_of inside c (c ∷ zs)) cs
-    (λ e. keeps_number (c ∷ cs))
+    keeps_test (is_white_space c || is_line_terminator c) _ _ cs (λ e. keeps_lasting (λ zs. Ok (elements.Gap, zs)) cs (inl (elements.Gap, cs, refl)))
+    (λ n. keeps_test (is_digit c) _ _ cs (λ e. behind number_of c cs (keeps_number (c ∷ cs)))
     (λ m. keeps_other inside c cs))
 
 keeps_element : (inside : Bool) (c : ℕ) (cs : List ℕ) → Keeps (λ zs. element_of inside (c ∷ zs)) cs
 keeps_element inside c cs =
-    keeps_test (is_name_start c) (λ zs. word_of zs) (λ zs. unnamed_of inside c (c ∷ zs)) cs
-    (λ e. keeps_lasting (λ zs. word_of zs) cs (word_lasts (skip is_name_part cs)))
+    keeps_test (is_name_start c) _ _ cs (λ e. keeps_lasting (λ zs. word_of zs) cs (word_lasts (skip is_name_part cs)))
     (λ n. keeps_unnamed inside c cs)
 
 -- where neither an element nor a form that is left out begins, none does with more characters behind
 pub element_bad : (inside : Bool) (c : ℕ) (cs more : List ℕ) → element_of inside (c ∷ cs) ≡ Err (Stopped stops.Bad) → element_of inside (c ∷ (cs ++ more)) ≡ Err (Stopped stops.Bad)
-element_bad inside c cs more h = (keeps_element inside c cs).0 h more
+element_bad inside c cs more h = (keeps_element inside c cs).bad h more
 
 -- where the text ends inside an element, some characters behind it end the element, or a form that is left out
 pub element_cut : (inside : Bool) (xs : List ℕ) → element_of inside xs ≡ Err (Stopped stops.Cut) →
     (more : List ℕ) × (((e : Element) × (ys : List ℕ) × (element_of inside (xs ++ more) ≡ Ok (e, ys))) ⊎ ((form : Form) × (element_of inside (xs ++ more) ≡ Err (LeftOut form))))
 element_cut inside [] h = absurd (bad_not_cut h)
-element_cut inside (c ∷ cs) h = (keeps_element inside c cs).1 h
+element_cut inside (c ∷ cs) h = (keeps_element inside c cs).cut h

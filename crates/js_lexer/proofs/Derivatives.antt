@@ -2,6 +2,7 @@
 use Rattle.std.proofs.Common.{◌≡◌, ◌↔◌, ◌⊎◌, inl, inr, ℕ, Bool, true, false, cond, ◌&&◌, ◌||◌, not, List, [], ◌∷◌, ◌++◌, Option, Some, None, refl, sym, ap, subst, ◌∙◌, length, append_assoc, length-append, arith}
 use Rattle.js_lexer.specs.Characters.{first_of}
 use Rattle.js_lexer.specs.Rules.{Rule, Never, Nothing, One, NotBefore, Then, Or, Many, OnlyIf, Steps, stay, step, Leads}
+use Rattle.js_lexer.proofs.Tests.{both, both_true, differ, not_false, or_left, or_right}
 
 -- whether the rule may take nothing where this character comes next
 abbrev pub may_be_empty : Rule → Option ℕ → Bool
@@ -18,42 +19,16 @@ may_be_empty (OnlyIf a test) n = may_be_empty a n && test []
 abbrev pub then : Rule → Rule → Rule
 then Never b = Never
 then Nothing b = b
-then (One p) b = Then (One p) b
-then (NotBefore p) b = Then (NotBefore p) b
-then (Then a c) b = Then (Then a c) b
-then (Or a c) b = Then (Or a c) b
-then (Many a) b = Then (Many a) b
-then (OnlyIf a test) b = Then (OnlyIf a test) b
-
-abbrev pub unless_never : Rule → Rule → Rule
-unless_never a Never = a
-unless_never a Nothing = Or a Nothing
-unless_never a (One p) = Or a (One p)
-unless_never a (NotBefore p) = Or a (NotBefore p)
-unless_never a (Then b c) = Or a (Then b c)
-unless_never a (Or b c) = Or a (Or b c)
-unless_never a (Many b) = Or a (Many b)
-unless_never a (OnlyIf b test) = Or a (OnlyIf b test)
+then a b = Then a b
 
 abbrev pub or : Rule → Rule → Rule
 or Never b = b
-or Nothing b = unless_never Nothing b
-or (One p) b = unless_never (One p) b
-or (NotBefore p) b = unless_never (NotBefore p) b
-or (Then a c) b = unless_never (Then a c) b
-or (Or a c) b = unless_never (Or a c) b
-or (Many a) b = unless_never (Many a) b
-or (OnlyIf a test) b = unless_never (OnlyIf a test) b
+or a Never = a
+or a b = Or a b
 
 abbrev pub only_if : Rule → (List ℕ → Bool) → Rule
 only_if Never test = Never
-only_if Nothing test = OnlyIf Nothing test
-only_if (One p) test = OnlyIf (One p) test
-only_if (NotBefore p) test = OnlyIf (NotBefore p) test
-only_if (Then a b) test = OnlyIf (Then a b) test
-only_if (Or a b) test = OnlyIf (Or a b) test
-only_if (Many a) test = OnlyIf (Many a) test
-only_if (OnlyIf a t) test = OnlyIf (OnlyIf a t) test
+only_if a test = OnlyIf a test
 
 -- what is left of a rule behind a character
 abbrev pub behind : Rule → ℕ → Rule
@@ -71,12 +46,7 @@ behind (OnlyIf a test) c = only_if (behind a c) (λ w. test (c ∷ w))
 then_same : (a b : Rule) (xs ys : List ℕ) → Leads (then a b) xs ys ↔ Leads (Then a b) xs ys
 then_same Never b xs ys = (λ h. absurd h, λ h. absurd (h.1))
 then_same Nothing b xs ys = (λ h. (xs, refl, h), λ h. subst (λ z. Leads b z ys) (sym h.1) h.2)
-then_same (One p) b xs ys = (λ h. h, λ h. h)
-then_same (NotBefore p) b xs ys = (λ h. h, λ h. h)
-then_same (Then a c) b xs ys = (λ h. h, λ h. h)
-then_same (Or a c) b xs ys = (λ h. h, λ h. h)
-then_same (Many a) b xs ys = (λ h. h, λ h. h)
-then_same (OnlyIf a test) b xs ys = (λ h. h, λ h. h)
+then_same _ b xs ys = (λ h. h, λ h. h)
 
 only_left : {A : Type 0} → A ⊎ ⊥ → A
 only_left (inl a) = a
@@ -86,35 +56,14 @@ only_right : {A : Type 0} → ⊥ ⊎ A → A
 only_right (inl h) = absurd h
 only_right (inr a) = a
 
-unless_never_same : (a b : Rule) (xs ys : List ℕ) → Leads (unless_never a b) xs ys ↔ Leads (Or a b) xs ys
-unless_never_same a Never xs ys = (λ h. inl h, λ h. only_left h)
-unless_never_same a Nothing xs ys = (λ h. h, λ h. h)
-unless_never_same a (One p) xs ys = (λ h. h, λ h. h)
-unless_never_same a (NotBefore p) xs ys = (λ h. h, λ h. h)
-unless_never_same a (Then b c) xs ys = (λ h. h, λ h. h)
-unless_never_same a (Or b c) xs ys = (λ h. h, λ h. h)
-unless_never_same a (Many b) xs ys = (λ h. h, λ h. h)
-unless_never_same a (OnlyIf b test) xs ys = (λ h. h, λ h. h)
-
 or_same : (a b : Rule) (xs ys : List ℕ) → Leads (or a b) xs ys ↔ Leads (Or a b) xs ys
 or_same Never b xs ys = (λ h. inr h, λ h. only_right h)
-or_same Nothing b xs ys = unless_never_same Nothing b xs ys
-or_same (One p) b xs ys = unless_never_same (One p) b xs ys
-or_same (NotBefore p) b xs ys = unless_never_same (NotBefore p) b xs ys
-or_same (Then a c) b xs ys = unless_never_same (Then a c) b xs ys
-or_same (Or a c) b xs ys = unless_never_same (Or a c) b xs ys
-or_same (Many a) b xs ys = unless_never_same (Many a) b xs ys
-or_same (OnlyIf a test) b xs ys = unless_never_same (OnlyIf a test) b xs ys
+or_same _ Never xs ys = (λ h. inl h, λ h. only_left h)
+or_same _ _ xs ys = (λ h. h, λ h. h)
 
 only_if_same : (a : Rule) (test : List ℕ → Bool) (xs ys : List ℕ) → Leads (only_if a test) xs ys ↔ Leads (OnlyIf a test) xs ys
 only_if_same Never test xs ys = (λ h. absurd h, λ h. absurd (h.3))
-only_if_same Nothing test xs ys = (λ h. h, λ h. h)
-only_if_same (One p) test xs ys = (λ h. h, λ h. h)
-only_if_same (NotBefore p) test xs ys = (λ h. h, λ h. h)
-only_if_same (Then a b) test xs ys = (λ h. h, λ h. h)
-only_if_same (Or a b) test xs ys = (λ h. h, λ h. h)
-only_if_same (Many a) test xs ys = (λ h. h, λ h. h)
-only_if_same (OnlyIf a t) test xs ys = (λ h. h, λ h. h)
+only_if_same _ test xs ys = (λ h. h, λ h. h)
 
 -- what a rule takes is a front of the text
 
@@ -141,20 +90,6 @@ front (Many a) xs ys h = front_steps (Leads a) (front a) xs ys h
 front (OnlyIf a test) xs ys (w, e, t, h) = (w, e)
 
 -- at the end of the text
-
-both : (a b : Bool) → (a && b) ≡ true → (a ≡ true) × (b ≡ true)
-both true b h = (refl, h)
-both false b h = absurd (cc)
-
-both_true : (a b : Bool) → a ≡ true → b ≡ true → (a && b) ≡ true
-both_true a b h k = rw (h, k) refl
-
-or_left : (a b : Bool) → a ≡ true → (a || b) ≡ true
-or_left a b h = rw h refl
-
-or_right : (a b : Bool) → b ≡ true → (a || b) ≡ true
-or_right true b h = refl
-or_right false b h = h
 
 either : (a b : Bool) → (a || b) ≡ true → (a ≡ true) ⊎ (b ≡ true)
 either true b h = inl refl
@@ -197,11 +132,7 @@ takes_none Never xs n e h = absurd (cc)
 takes_none Nothing xs n e h = refl
 takes_none (One p) xs n e h = absurd (cc)
 takes_none (NotBefore p) [] n e h = (refl, refl)
-takes_none (NotBefore p) (x ∷ xs) n e h = (refl, not_true (p x) (subst (λ m. may_be_empty (NotBefore p) m ≡ true) e h))
-  where
-    not_true : (b : Bool) → not b ≡ true → b ≡ false
-    not_true true h = cc
-    not_true false h = refl
+takes_none (NotBefore p) (x ∷ xs) n e h = (refl, not_false (p x) (subst (λ m. may_be_empty (NotBefore p) m ≡ true) e h))
 takes_none (Then a b) xs n e h =
     let i : (may_be_empty a n ≡ true) × (may_be_empty b n ≡ true) = both (may_be_empty a n) (may_be_empty b n) h in
     (xs, takes_none a xs n e i.0, takes_none b xs n e i.1)
@@ -279,7 +210,7 @@ reads_from (OnlyIf a test) c cs ys (w, e, t, h) =
       | inl i ↦
           elim (front_of c cs w ys e) [
             | inl j ↦ inl (both_true (may_be_empty a (Some c)) (test []) i.0 (subst (λ z. test z ≡ true) j.0 t), j.1)
-            | inr j ↦ absurd (too_long c cs j.0 (j.2 ∙ ap (λ z. j.0 ++ z) i.1))
+            | inr j ↦ absurd (longer c cs j.0 (j.2 ∙ ap (λ z. j.0 ++ z) i.1))
           ]
       | inr i ↦
           elim (front_of c cs w ys e) [
@@ -288,9 +219,6 @@ reads_from (OnlyIf a test) c cs ys (w, e, t, h) =
           ]
     ]
   where
-    too_long : (c : ℕ) (cs v : List ℕ) → cs ≡ v ++ c ∷ cs → ⊥
-    too_long c cs v e = longer c cs v e
-
     too_short : (r : Rule) (c : ℕ) (cs ys : List ℕ) → ys ≡ c ∷ cs → Leads r cs ys → ⊥
     too_short r c cs ys e h =
         let i : (w : List ℕ) × (cs ≡ w ++ ys) = front r cs ys h in longer c cs i.0 (i.1 ∙ ap (λ z. i.0 ++ z) e)
@@ -303,9 +231,6 @@ takes_some r c cs e h =
       | inr i ↦
           let j : (w : List ℕ) × (cs ≡ w ++ c ∷ cs) = front (behind r c) cs (c ∷ cs) i in longer c cs j.0 j.1
     ]
-  where
-    differ : (b : Bool) → b ≡ false → b ≡ true → ⊥
-    differ b h k = cc
 
 cond_true : (b : Bool) (r : Rule) (xs ys : List ℕ) → Leads (cond b r Never) xs ys → (b ≡ true) × Leads r xs ys
 cond_true true r xs ys h = (refl, h)
@@ -337,26 +262,13 @@ behind_to (OnlyIf a test) c cs ys h =
     let j : (w : List ℕ) × (cs ≡ w ++ ys) × (test (c ∷ w) ≡ true) × Leads (behind a c) cs ys = (only_if_same (behind a c) (λ v. test (c ∷ v)) cs ys).0 h in
     (c ∷ j.0, ap (λ z. c ∷ z) j.1, j.2, behind_to a c cs ys j.3)
 
--- a text with a character in front is by a rule exactly where the rule takes nothing, or the text behind the character is by what is left of it
-pub at_character : (r : Rule) (c : ℕ) (cs ys : List ℕ) → Leads r (c ∷ cs) ys ↔ AtCharacter r c cs ys
-at_character r c cs ys = (
-  reads_from r c cs ys,
-  λ h. elim h [
-    | inl i ↦ subst (λ z. Leads r (c ∷ cs) z) (sym i.1) (takes_none r (c ∷ cs) (Some c) refl i.0)
-    | inr i ↦ behind_to r c cs ys i
-  ],
-)
-
 -- what a character does to a rule
-
-false_true : (b : Bool) → b ≡ false → b ≡ true → ⊥
-false_true b h k = cc
 
 -- the rule goes on as another
 pub goes : (r q : Rule) (c : ℕ) (cs ys : List ℕ) → may_be_empty r (Some c) ≡ false → behind r c ≡ q → Leads r (c ∷ cs) ys ↔ Leads q cs ys
 goes r q c cs ys e d = (
   λ h. elim (reads_from r c cs ys h) [
-    | inl i ↦ absurd (false_true (may_be_empty r (Some c)) e i.0)
+    | inl i ↦ absurd (differ (may_be_empty r (Some c)) e i.0)
     | inr i ↦ subst (λ z. Leads z cs ys) d i
   ],
   λ h. behind_to r c cs ys (subst (λ z. Leads z cs ys) (sym d) h),
@@ -386,4 +298,4 @@ pub ends_there : (r : Rule) (ys : List ℕ) → may_be_empty r None ≡ true →
 ends_there r ys e = (λ h. (end_only r ys h).1, λ h. (at_end r ys).1 (e, h))
 
 pub stuck_there : (r : Rule) (ys : List ℕ) → may_be_empty r None ≡ false → Leads r [] ys → ⊥
-stuck_there r ys e h = false_true (may_be_empty r None) e ((end_only r ys h).0)
+stuck_there r ys e h = differ (may_be_empty r None) e ((end_only r ys h).0)

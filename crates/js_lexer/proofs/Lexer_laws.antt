@@ -23,6 +23,7 @@ use Rattle.js_lexer.proofs.Derivatives.{may_be_empty, behind, front, reads_from}
 use Rattle.js_lexer.specs.Scanning.{element_of}
 use Rattle.js_lexer.proofs.Numbers_taken.{nothing_stands}
 use Rattle.js_lexer.proofs.Runs.{taken_is_element}
+use Rattle.js_lexer.proofs.Tests.{differ}
 
 -- what is kept and what is skipped are the whole
 pub keep_skip : (p : ℕ → Bool) (xs : List ℕ) → xs ≡ keep p xs ++ skip p xs
@@ -41,9 +42,6 @@ shorter r c cs ys e h = elim (reads_from r c cs ys h) [
       let k : (w : List ℕ) × (cs ≡ w ++ ys) = front (behind r c) cs ys i in
       omega (arith, ap length k.1 ∙ length-append k.0 ys)
 ]
-  where
-    differ : (b : Bool) → b ≡ false → b ≡ true → ⊥
-    differ b h k = cc
 
 abbrev is_empty : List ℕ → Bool
 is_empty [] = true

@@ -10,12 +10,11 @@ pub mod Keyword_laws
 pub mod Lexer_laws
 pub mod Machine_laws
 pub mod Marks_taken
-pub mod Number_characters
 pub mod Number_laws
 pub mod Number_rests
 pub mod Number_steps
 pub mod Numbers_taken
-pub mod Orders
+pub mod Slices
 pub mod Passing_laws
 pub mod Punctuator_laws
 pub mod Quoted_laws
@@ -24,5 +23,6 @@ pub mod Rule_steps
 pub mod Runs
 pub mod Scan_steps
 pub mod Sequences
+pub mod Tests
 pub mod Texts
 pub mod Words_taken

@@ -6,6 +6,7 @@ use Rattle.js_lexer.specs.declared.machine.Stop.{Stop}
 use Rattle.js_lexer.specs.declared.machine.Stop.TheVariants as stops
 use Rattle.js_lexer.specs.Rules.{Rule, Leads}
 use Rattle.js_lexer.specs.Machines.{Reading, ended, stepped, run}
+use Rattle.js_lexer.proofs.Tests.{not_ok, same_err}
 
 -- the two ends of a reading, with their types
 abbrev ok : {O : Type 0} → O × List ℕ → Reading O
@@ -52,10 +53,7 @@ module _ {S O K : Type 0} (step : S → ℕ → Step S O) (stop : S → Result O
   )
 
   nothing : (e : Stop) (k : K) (ys : List ℕ) → Reads (Err e) k ys → ⊥
-  nothing e k ys h = absurd (differ (h.0, ys) h.1)
-    where
-      differ : (p : O × List ℕ) → Err e ≡ Ok p → ⊥
-      differ p h = cc
+  nothing e k ys h = not_ok (failed e) (h.0, ys) e refl h.1
 
   through : {A B C : Type 0} → A ↔ B → B ↔ C → A ↔ C
   through f g = (λ a. g.0 (f.0 a), λ c. f.1 (g.1 c))
@@ -87,26 +85,14 @@ module _ {S O : Type 0} (step : S → ℕ → Step S O) (stop : S → Result O S
   NeverBad r = r ≡ Err stops.Bad → ⊥
 
   ended_bad : (xs : List ℕ) (r : Result O Stop) → NeverBad r → ended xs r ≡ Err stops.Bad → ⊥
-  ended_bad xs (Ok o) n h = absurd (differ (o, xs) h)
-    where
-      differ : (p : O × List ℕ) → Ok p ≡ Err stops.Bad → ⊥
-      differ p h = cc
-  ended_bad xs (Err e) n h = n (ap_err e h)
-    where
-      ap_err : (e : Stop) → failed {O = O} e ≡ failed stops.Bad → no_outcome {O = O} e ≡ no_outcome stops.Bad
-      ap_err e h = cc
+  ended_bad xs (Ok o) n h = absurd (not_ok (ok (o, xs)) (o, xs) stops.Bad h refl)
+  ended_bad xs (Err e) n h = n (ap no_outcome (same_err (failed e) e stops.Bad refl h))
 
   stepped_bad : (c : ℕ) (cs more : List ℕ) (x : Step S O) → ((t : S) → run step stop t cs ≡ Err stops.Bad → run step stop t (cs ++ more) ≡ Err stops.Bad) →
       stepped (λ t. run step stop t cs) c cs x ≡ Err stops.Bad → stepped (λ t. run step stop t (cs ++ more)) c (cs ++ more) x ≡ Err stops.Bad
   stepped_bad c cs more (Go t) again h = again t h
-  stepped_bad c cs more (With o) again h = absurd (differ (o, cs) h)
-    where
-      differ : (p : O × List ℕ) → Ok p ≡ Err stops.Bad → ⊥
-      differ p h = cc
-  stepped_bad c cs more (Before o) again h = absurd (differ (o, c ∷ cs) h)
-    where
-      differ : (p : O × List ℕ) → Ok p ≡ Err stops.Bad → ⊥
-      differ p h = cc
+  stepped_bad c cs more (With o) again h = absurd (not_ok (ok (o, cs)) (o, cs) stops.Bad h refl)
+  stepped_bad c cs more (Before o) again h = absurd (not_ok (ok (o, c ∷ cs)) (o, c ∷ cs) stops.Bad h refl)
   stepped_bad c cs more Bad again h = refl
 
   -- whatever follows
@@ -119,28 +105,16 @@ module _ {S O : Type 0} (step : S → ℕ → Step S O) (stop : S → Result O S
   EndsIn s xs = (t : S) × (stop t ≡ Err stops.Cut) × ((more : List ℕ) → run step stop s (xs ++ more) ≡ run step stop t more)
 
   ended_cut : (xs : List ℕ) (r : Result O Stop) → ended xs r ≡ Err stops.Cut → r ≡ Err stops.Cut
-  ended_cut xs (Ok o) h = absurd (differ (o, xs) h)
-    where
-      differ : (p : O × List ℕ) → Ok p ≡ Err stops.Cut → ⊥
-      differ p h = cc
-  ended_cut xs (Err e) h = ap_err e h
-    where
-      ap_err : (e : Stop) → failed {O = O} e ≡ failed stops.Cut → no_outcome {O = O} e ≡ no_outcome stops.Cut
-      ap_err e h = cc
+  ended_cut xs (Ok o) h = absurd (not_ok (ok (o, xs)) (o, xs) stops.Cut h refl)
+  ended_cut xs (Err e) h = ap no_outcome (same_err (failed e) e stops.Cut refl h)
 
   stepped_cut : (s : S) (c : ℕ) (cs : List ℕ) (x : Step S O) → step s c ≡ x → ((t : S) → run step stop t cs ≡ Err stops.Cut → EndsIn t cs) →
       stepped (λ t. run step stop t cs) c cs x ≡ Err stops.Cut → EndsIn s (c ∷ cs)
   stepped_cut s c cs (Go t) e again h =
       let i : EndsIn t cs = again t h in
       (i.0, i.1, λ more. ap (λ x. stepped (λ u. run step stop u (cs ++ more)) c (cs ++ more) x) e ∙ i.2 more)
-  stepped_cut s c cs (With o) e again h = absurd (differ (o, cs) h)
-    where
-      differ : (p : O × List ℕ) → Ok p ≡ Err stops.Cut → ⊥
-      differ p h = cc
-  stepped_cut s c cs (Before o) e again h = absurd (differ (o, c ∷ cs) h)
-    where
-      differ : (p : O × List ℕ) → Ok p ≡ Err stops.Cut → ⊥
-      differ p h = cc
+  stepped_cut s c cs (With o) e again h = absurd (not_ok (ok (o, cs)) (o, cs) stops.Cut h refl)
+  stepped_cut s c cs (Before o) e again h = absurd (not_ok (ok (o, c ∷ cs)) (o, c ∷ cs) stops.Cut h refl)
   stepped_cut s c cs Bad e again h = absurd (bad_cut h)
     where
       bad_cut : failed {O = O} stops.Bad ≡ failed stops.Cut → ⊥

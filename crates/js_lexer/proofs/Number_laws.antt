@@ -9,80 +9,11 @@ use Rattle.js_lexer.specs.declared.numbers.Numeral.{Numeral}
 use Rattle.js_lexer.specs.declared.numbers.Numeral.TheVariants.{Number, Separated, BigInt}
 use Rattle.js_lexer.specs.declared.numbers.Radix.TheVariants.{Hexadecimal, Octal, Binary}
 use Rattle.js_lexer.specs.declared.numbers.NumberPart.{NumberPart}
-use Rattle.js_lexer.specs.declared.numbers.NumberPart.TheVariants.{Start, LeadingPoint, Zero, Integer, IntegerSeparator, Point, Fraction, FractionSeparator, ExponentIndicator, ExponentSign, ExponentDigits, ExponentSeparator, RadixPrefix, RadixDigits, RadixSeparator, BigIntSuffix}
+use Rattle.js_lexer.specs.declared.numbers.NumberPart.TheVariants.{Start, LeadingPoint, IntegerSeparator, FractionSeparator, ExponentIndicator, ExponentSign, ExponentSeparator, RadixPrefix, RadixSeparator}
 use Rattle.js_lexer.proofs.Machine_laws.{Reads, exact, bad_stays, EndsIn, cut_goes_on}
-use Rattle.js_lexer.proofs.Rule_steps.{LeavesEnd, follows_leaves, stops_leaves}
+use Rattle.js_lexer.proofs.Rule_steps.{follows_leaves, stops_leaves}
 use Rattle.js_lexer.proofs.Number_rests.{Kind, plain, with_separators, big, gives, number_rest}
-use Rattle.js_lexer.proofs.Number_steps.{steps_to}
-
--- at the end of the text
-
-ends_at : (part : NumberPart) (k : Kind) → LeavesEnd number_step number_stop number_rest gives part k (number_stop part)
-ends_at Start plain = refl
-ends_at Start with_separators = refl
-ends_at Start big = refl
-ends_at LeadingPoint plain = refl
-ends_at LeadingPoint with_separators = refl
-ends_at LeadingPoint big = refl
-ends_at Zero plain = refl
-ends_at Zero with_separators = refl
-ends_at Zero big = refl
-ends_at (Integer false) plain = refl
-ends_at (Integer true) plain = refl
-ends_at (Integer false) with_separators = refl
-ends_at (Integer true) with_separators = refl
-ends_at (Integer false) big = refl
-ends_at (Integer true) big = refl
-ends_at IntegerSeparator plain = refl
-ends_at IntegerSeparator with_separators = refl
-ends_at IntegerSeparator big = refl
-ends_at (Point false) plain = refl
-ends_at (Point true) plain = refl
-ends_at (Point false) with_separators = refl
-ends_at (Point true) with_separators = refl
-ends_at (Point false) big = refl
-ends_at (Point true) big = refl
-ends_at (Fraction false) plain = refl
-ends_at (Fraction true) plain = refl
-ends_at (Fraction false) with_separators = refl
-ends_at (Fraction true) with_separators = refl
-ends_at (Fraction false) big = refl
-ends_at (Fraction true) big = refl
-ends_at FractionSeparator plain = refl
-ends_at FractionSeparator with_separators = refl
-ends_at FractionSeparator big = refl
-ends_at (ExponentIndicator false) plain = refl
-ends_at (ExponentIndicator true) plain = refl
-ends_at (ExponentIndicator s) with_separators = refl
-ends_at (ExponentIndicator s) big = refl
-ends_at (ExponentSign false) plain = refl
-ends_at (ExponentSign true) plain = refl
-ends_at (ExponentSign s) with_separators = refl
-ends_at (ExponentSign s) big = refl
-ends_at (ExponentDigits false) plain = refl
-ends_at (ExponentDigits true) plain = refl
-ends_at (ExponentDigits false) with_separators = refl
-ends_at (ExponentDigits true) with_separators = refl
-ends_at (ExponentDigits false) big = refl
-ends_at (ExponentDigits true) big = refl
-ends_at ExponentSeparator plain = refl
-ends_at ExponentSeparator with_separators = refl
-ends_at ExponentSeparator big = refl
-ends_at (RadixPrefix r) plain = refl
-ends_at (RadixPrefix r) with_separators = refl
-ends_at (RadixPrefix r) big = refl
-ends_at (RadixDigits r false) plain = refl
-ends_at (RadixDigits r true) plain = refl
-ends_at (RadixDigits r false) with_separators = refl
-ends_at (RadixDigits r true) with_separators = refl
-ends_at (RadixDigits r false) big = refl
-ends_at (RadixDigits r true) big = refl
-ends_at (RadixSeparator r) plain = refl
-ends_at (RadixSeparator r) with_separators = refl
-ends_at (RadixSeparator r) big = refl
-ends_at BigIntSuffix plain = refl
-ends_at BigIntSuffix with_separators = refl
-ends_at BigIntSuffix big = refl
+use Rattle.js_lexer.proofs.Number_steps.{steps_to, stops_at}
 
 -- what is read from the start on
 abbrev pub read_number : List ℕ → Reading Numeral
@@ -92,7 +23,7 @@ reads : (k : Kind) (xs ys : List ℕ) → Leads (number_rest Start k) xs ys ↔ 
 reads k xs ys =
     exact number_step number_stop number_rest gives
     (λ part c. follows_leaves number_step number_stop number_rest gives part c (number_step part c) (steps_to part c))
-    (λ part. stops_leaves number_step number_stop number_rest gives part (number_stop part) (ends_at part))
+    (λ part. stops_leaves number_step number_stop number_rest gives part (number_stop part) (stops_at part))
     Start k xs ys
 
 -- the outcomes of each kind
@@ -150,21 +81,7 @@ number_big xs ys = (
 
 never_bad : (part : NumberPart) → number_stop part ≡ Err stops.Bad → ⊥
 never_bad Start h = cc
-never_bad LeadingPoint h = cc
-never_bad Zero h = cc
-never_bad (Integer s) h = cc
-never_bad IntegerSeparator h = cc
-never_bad (Point s) h = cc
-never_bad (Fraction s) h = cc
-never_bad FractionSeparator h = cc
-never_bad (ExponentIndicator s) h = cc
-never_bad (ExponentSign s) h = cc
-never_bad (ExponentDigits s) h = cc
-never_bad ExponentSeparator h = cc
-never_bad (RadixPrefix r) h = cc
-never_bad (RadixDigits r s) h = cc
-never_bad (RadixSeparator r) h = cc
-never_bad BigIntSuffix h = cc
+never_bad _ h = cc
 
 -- none does, whatever follows
 pub number_bad : (xs more : List ℕ) → run number_step number_stop Start xs ≡ Err stops.Bad → run number_step number_stop Start (xs ++ more) ≡ Err stops.Bad
@@ -179,24 +96,18 @@ Completes part = (more : List ℕ) × (n : Numeral) × (run number_step number_s
 completes : (part : NumberPart) → number_stop part ≡ Err stops.Cut → Completes part
 completes Start h = (48 ∷ [], Number, refl)
 completes LeadingPoint h = (48 ∷ [], Number, refl)
-completes Zero h = absurd (cc)
-completes (Integer s) h = absurd (cc)
 completes IntegerSeparator h = (48 ∷ [], Separated, refl)
-completes (Point s) h = absurd (cc)
-completes (Fraction s) h = absurd (cc)
 completes FractionSeparator h = (48 ∷ [], Separated, refl)
 completes (ExponentIndicator s) h = (48 ∷ [], number s, refl)
 completes (ExponentSign s) h = (48 ∷ [], number s, refl)
-completes (ExponentDigits s) h = absurd (cc)
 completes ExponentSeparator h = (48 ∷ [], Separated, refl)
 completes (RadixPrefix Hexadecimal) h = (48 ∷ [], Number, refl)
 completes (RadixPrefix Octal) h = (48 ∷ [], Number, refl)
 completes (RadixPrefix Binary) h = (48 ∷ [], Number, refl)
-completes (RadixDigits r s) h = absurd (cc)
 completes (RadixSeparator Hexadecimal) h = (48 ∷ [], Separated, refl)
 completes (RadixSeparator Octal) h = (48 ∷ [], Separated, refl)
 completes (RadixSeparator Binary) h = (48 ∷ [], Separated, refl)
-completes BigIntSuffix h = absurd (cc)
+completes _ h = absurd (cc)
 
 -- the text is the start of one
 pub number_cut : (xs : List ℕ) → run number_step number_stop Start xs ≡ Err stops.Cut → (more : List ℕ) × (n : Numeral) × (run number_step number_stop Start (xs ++ more) ≡ Ok (n, []))

@@ -19,19 +19,12 @@ pub data Kind : Type 0 where
 abbrev pub gives : Numeral → Kind → Bool
 gives Number plain = true
 gives Number with_separators = true
-gives Number big = false
-gives Separated plain = false
 gives Separated with_separators = true
-gives Separated big = false
-gives BigInt plain = false
-gives BigInt with_separators = false
 gives BigInt big = true
+gives _ _ = false
 
 -- a separator was read
 abbrev separated : NumberPart → Bool
-separated Start = false
-separated LeadingPoint = false
-separated Zero = false
 separated (Integer s) = s
 separated IntegerSeparator = true
 separated (Point s) = s
@@ -41,10 +34,9 @@ separated (ExponentIndicator s) = s
 separated (ExponentSign s) = s
 separated (ExponentDigits s) = s
 separated ExponentSeparator = true
-separated (RadixPrefix r) = false
 separated (RadixDigits r s) = s
 separated (RadixSeparator r) = true
-separated BigIntSuffix = false
+separated _ = false
 
 -- behind the digits of a DecimalIntegerLiteral
 abbrev decimal_rest : Bool → Rule
@@ -81,21 +73,14 @@ suffix_rest = Then (char 110) literal_end
 
 abbrev pub bigint_rest : NumberPart → Rule
 bigint_rest Start = bigint
-bigint_rest LeadingPoint = Never
 bigint_rest Zero = Then (Or Nothing (radix_rest true)) suffix_rest
 bigint_rest (Integer s) = Then (more_digits true is_digit) suffix_rest
 bigint_rest IntegerSeparator = Then (digits true is_digit) suffix_rest
-bigint_rest (Point s) = Never
-bigint_rest (Fraction s) = Never
-bigint_rest FractionSeparator = Never
-bigint_rest (ExponentIndicator s) = Never
-bigint_rest (ExponentSign s) = Never
-bigint_rest (ExponentDigits s) = Never
-bigint_rest ExponentSeparator = Never
 bigint_rest (RadixPrefix r) = Then (digits true (is_radix_digit r)) suffix_rest
 bigint_rest (RadixDigits r s) = Then (more_digits true (is_radix_digit r)) suffix_rest
 bigint_rest (RadixSeparator r) = Then (digits true (is_radix_digit r)) suffix_rest
 bigint_rest BigIntSuffix = literal_end
+bigint_rest _ = Never
 
 -- what is left of the literal: of one without separators nothing, where a separator was read
 abbrev pub number_rest : NumberPart → Kind → Rule

@@ -1,8 +1,9 @@
 -- What is read a character at a time is the longest punctuator that stands there.
-use Rattle.std.proofs.Common.{◌≡◌, ◌↔◌, ℕ, ◌≤◌, ◌==◌, ◌&&◌, Bool, true, false, cond, List, [], ◌∷◌, ◌++◌, length, Option, Some, None, IfSome, IfNone, MatchOption, refl, sym, ap, subst, ◌∙◌, arith, append_assoc, length-append}
+use Rattle.std.proofs.Common.{◌≡◌, ◌↔◌, ℕ, ◌≤◌, ◌==◌, ◌&&◌, true, List, [], ◌∷◌, ◌++◌, length, Option, Some, None, IfSome, IfNone, MatchOption, refl, sym, ap, subst, ◌∙◌, arith, append_assoc, length-append}
 use Rattle.js_lexer.specs.Punctuators.{text_of, follows, Stands, IsPunctuator, singles, named, single, with_equals, twice, if_next, extended, grows, grown, dots, question, started, begun, punctuator_of}
 use Rattle.js_lexer.specs.declared.punctuators.Punctuator.{Punctuator}
-use Rattle.js_lexer.specs.declared.punctuators.Punctuator.TheVariants.{LeftBrace, Dot, Ellipsis, Less, Greater, Equal, NotEqual, Plus, Minus, Star, Slash, Percent, StarStar, ShiftLeft, ShiftRight, UnsignedShiftRight, Ampersand, Bar, Caret, Exclamation, LogicalAnd, LogicalOr, Coalesce, Question, OptionalChain, Assign}
+use Rattle.js_lexer.specs.declared.punctuators.Punctuator.TheVariants.{LeftBrace, Dot, Ellipsis, Less, Slash, Question, OptionalChain}
+use Rattle.js_lexer.proofs.Tests.{both, by_test, equal, no_some, same_some}
 
 -- what is found, from a punctuator with this behind it: it stands at the same place, and is no shorter
 record Grows (p : Punctuator) (cs : List ℕ) (r : Punctuator × List ℕ) : Type 0 where
@@ -16,59 +17,22 @@ IsLonger p c q = (text_of q ≡ text_of p ++ c ∷ []) × ((ys : List ℕ) → f
 
 equals_longer : (p : Punctuator) → IfSome (with_equals p) (λ q. IsLonger p 61 q)
 equals_longer Less = (refl, λ ys. refl)
-equals_longer Greater = (refl, λ ys. refl)
-equals_longer Equal = (refl, λ ys. refl)
-equals_longer NotEqual = (refl, λ ys. refl)
-equals_longer Plus = (refl, λ ys. refl)
-equals_longer Minus = (refl, λ ys. refl)
-equals_longer Star = (refl, λ ys. refl)
-equals_longer Slash = (refl, λ ys. refl)
-equals_longer Percent = (refl, λ ys. refl)
-equals_longer StarStar = (refl, λ ys. refl)
-equals_longer ShiftLeft = (refl, λ ys. refl)
-equals_longer ShiftRight = (refl, λ ys. refl)
-equals_longer UnsignedShiftRight = (refl, λ ys. refl)
-equals_longer Ampersand = (refl, λ ys. refl)
-equals_longer Bar = (refl, λ ys. refl)
-equals_longer Caret = (refl, λ ys. refl)
-equals_longer Exclamation = (refl, λ ys. refl)
-equals_longer LogicalAnd = (refl, λ ys. refl)
-equals_longer LogicalOr = (refl, λ ys. refl)
-equals_longer Coalesce = (refl, λ ys. refl)
-equals_longer Assign = (refl, λ ys. refl)
-equals_longer _ = tt
+equals_longer _ = search
 
 twice_longer : (p : Punctuator) → IfSome (twice p) (λ e. IsLonger p e.0 e.1)
 twice_longer Less = (refl, λ ys. refl)
-twice_longer Greater = (refl, λ ys. refl)
-twice_longer Plus = (refl, λ ys. refl)
-twice_longer Minus = (refl, λ ys. refl)
-twice_longer Star = (refl, λ ys. refl)
-twice_longer ShiftRight = (refl, λ ys. refl)
-twice_longer Ampersand = (refl, λ ys. refl)
-twice_longer Bar = (refl, λ ys. refl)
-twice_longer Question = (refl, λ ys. refl)
-twice_longer Assign = (refl, λ ys. refl)
-twice_longer _ = tt
-
--- a test of a number that came out true
-equal_numbers : (a b : ℕ) → (a == b) ≡ true → a ≡ b
-equal_numbers a b h = grind (arith, h)
+twice_longer _ = search
 
 -- a choice by a test
-by_test : {T : Type 0} (P : T → Type 0) (b : Bool) (x y : T) → (b ≡ true → P x) → (b ≡ false → P y) → P (cond b x y)
-by_test P true x y f g = f refl
-by_test P false x y f g = g refl
-
 if_next_longer : (p : Punctuator) (c : ℕ) (o : Option (ℕ × Punctuator)) → IfSome o (λ e. IsLonger p e.0 e.1) → IfSome (if_next c o) (λ q. IsLonger p c q)
 if_next_longer p c None h = tt
 if_next_longer p c (Some e) h =
-    by_test (λ o. IfSome o (λ q. IsLonger p c q)) (c == e.0) (Some e.1) None (λ t. subst (λ z. IsLonger p z e.1) (sym (equal_numbers c e.0 t)) h) (λ _. tt)
+    by_test (λ o. IfSome o (λ q. IsLonger p c q)) (c == e.0) (Some e.1) None (λ t. subst (λ z. IsLonger p z e.1) (sym (equal c e.0 t)) h) (λ _. tt)
 
 extended_longer : (p : Punctuator) (c : ℕ) → IfSome (extended p c) (λ q. IsLonger p c q)
 extended_longer p c =
     by_test (λ o. IfSome o (λ q. IsLonger p c q)) (c == 61) (with_equals p) (if_next c (twice p))
-    (λ t. subst (λ z. IfSome (with_equals p) (λ q. IsLonger p z q)) (sym (equal_numbers c 61 t)) (equals_longer p))
+    (λ t. subst (λ z. IfSome (with_equals p) (λ q. IsLonger p z q)) (sym (equal c 61 t)) (equals_longer p))
     (λ _. if_next_longer p c (twice p) (twice_longer p))
 
 -- growing
@@ -89,10 +53,6 @@ grown_grows : (p : Punctuator) (cs : List ℕ) → follows p cs ≡ true → Gro
 grown_grows p [] f = record { same = refl; longer = omega arith; next = f }
 grown_grows p (c ∷ cs) f = grows_by p c cs (extended p c) f (extended_longer p c) (λ q. grown_grows q cs)
 
-both : (a b : Bool) → (a && b) ≡ true → (a ≡ true) × (b ≡ true)
-both true b h = (refl, h)
-both false b h = absurd (cc)
-
 dots_grow : (cs : List ℕ) → follows Dot cs ≡ true → Grows Dot cs (dots cs)
 dots_grow [] f = record { same = refl; longer = omega arith; next = f }
 dots_grow (c ∷ []) f = record { same = refl; longer = omega arith; next = f }
@@ -102,8 +62,8 @@ dots_grow (c ∷ d ∷ cs) f =
     three : (c == 46 && d == 46) ≡ true → Grows Dot (c ∷ d ∷ cs) (Ellipsis, cs)
     three t =
         let i : ((c == 46) ≡ true) × ((d == 46) ≡ true) = both (c == 46) (d == 46) t in
-        let u : c ≡ 46 = equal_numbers c 46 i.0 in
-        let v : d ≡ 46 = equal_numbers d 46 i.1 in
+        let u : c ≡ 46 = equal c 46 i.0 in
+        let v : d ≡ 46 = equal d 46 i.1 in
         record { same = rw (u, v) refl; longer = omega arith; next = refl }
 
 question_grows : (cs : List ℕ) → Grows Question cs (question cs)
@@ -114,7 +74,7 @@ question_grows (c ∷ cs) =
     chain : (c == 46 && follows OptionalChain cs) ≡ true → Grows Question (c ∷ cs) (OptionalChain, cs)
     chain t =
         let i : ((c == 46) ≡ true) × (follows OptionalChain cs ≡ true) = both (c == 46) (follows OptionalChain cs) t in
-        let u : c ≡ 46 = equal_numbers c 46 i.0 in
+        let u : c ≡ 46 = equal c 46 i.0 in
         record { same = rw u refl; longer = omega arith; next = i.1 }
 
 started_grows : (p : Punctuator) (cs : List ℕ) → follows p cs ≡ true → Grows p cs (started p cs)
@@ -132,7 +92,7 @@ named_single : (c : ℕ) (es : List (ℕ × Punctuator)) → AllNamed es → IfS
 named_single c [] h = tt
 named_single c (e ∷ es) h =
     by_test (λ o. IfSome o (λ p. text_of p ≡ c ∷ [])) (c == e.0) (Some e.1) (named c es)
-    (λ t. h.0 ∙ ap (λ z. z ∷ []) (sym (equal_numbers c e.0 t)))
+    (λ t. h.0 ∙ ap (λ z. z ∷ []) (sym (equal c e.0 t)))
     (λ _. named_single c es h.1)
 
 single_text : (c : ℕ) → IfSome (single c) (λ p. text_of p ≡ c ∷ [])
@@ -179,10 +139,7 @@ whole LeftBrace = refl
 whole _ = refl
 
 one_punctuator : (p q : Punctuator) → text_of p ≡ text_of q → p ≡ q
-one_punctuator p q h = out (p, []) (q, []) (sym (whole p) ∙ ap punctuator_of h ∙ whole q)
-  where
-    out : (r s : Punctuator × List ℕ) → Some r ≡ Some s → r.0 ≡ s.0
-    out r s h = cc
+one_punctuator p q h = ap (λ z. z.0) (same_some (punctuator_of (text_of p)) (p, []) (q, []) (whole p) (ap punctuator_of h ∙ whole q))
 
 same_fronts : (us vs ys zs : List ℕ) → us ++ ys ≡ vs ++ zs → length us ≡ length vs → (us ≡ vs) × (ys ≡ zs)
 same_fronts [] [] ys zs e l = (refl, e)
@@ -221,20 +178,14 @@ punctuator_exact p xs ys = (to, from)
         r.read ∙ ap (λ z. Some (z, r.reached.1)) i.0 ∙ ap (λ z. Some (p, z)) i.1
 
     longest : punctuator_of xs ≡ Some (p, ys) → (q : Punctuator) (r : Reaches q xs) → length (text_of q) ≤ length (text_of p)
-    longest e q r = subst (λ z. length (text_of q) ≤ length (text_of z)) (out r.reached (p, ys) (sym r.read ∙ e)) r.longer
-      where
-        out : (r s : Punctuator × List ℕ) → Some r ≡ Some s → r.0 ≡ s.0
-        out r s h = cc
+    longest e q r = subst (λ z. length (text_of q) ≤ length (text_of z.0)) (same_some (punctuator_of xs) r.reached (p, ys) r.read e) r.longer
 
     from : punctuator_of xs ≡ Some (p, ys) → IsPunctuator p xs ys
     from e = (some_at (Found xs) (punctuator_of xs) (p, ys) e (found xs), λ q zs h. longest e q (standing_reaches q xs zs h))
 
 -- where nothing is read, none stands there
 pub punctuator_none : (xs : List ℕ) → punctuator_of xs ≡ None → (p : Punctuator) (ys : List ℕ) → IsPunctuator p xs ys → ⊥
-punctuator_none xs e p ys h = differ (p, ys) (sym e ∙ (punctuator_exact p xs ys).0 h)
-  where
-    differ : (r : Punctuator × List ℕ) → None ≡ Some r → ⊥
-    differ r h = cc
+punctuator_none xs e p ys h = no_some (punctuator_of xs) (p, ys) e ((punctuator_exact p xs ys).0 h)
 
 -- the same, of an answer
 pub longest_read : (r : Option Punctuator) (old new : List ℕ) → MatchOption r (punctuator_of old ≡ None) (λ p. punctuator_of old ≡ Some (p, new)) →

@@ -1,5 +1,5 @@
 -- A source is divided into elements in one way.
-use Rattle.std.proofs.Common.{◌≡◌, ◌⊎◌, inl, inr, ℕ, Bool, List, [], ◌++◌, Some, Ok, Err, refl, sym, ap, subst, ◌∙◌}
+use Rattle.std.proofs.Common.{◌≡◌, ◌⊎◌, inl, inr, ℕ, Bool, List, [], ◌++◌, Ok, Err, refl, sym, ap, subst, ◌∙◌}
 use Rattle.std.proofs.lemmas.List.{append_cancel_right}
 use Rattle.std.specs.Str.{encode_utf8_all}
 use Rattle.js_lexer.specs.declared.element.Element.{Element}
@@ -8,96 +8,40 @@ use Rattle.js_lexer.specs.declared.element.Form.{Form}
 use Rattle.js_lexer.specs.declared.element.NoElement.TheVariants.{Stopped, LeftOut}
 use Rattle.js_lexer.specs.declared.keywords.Keyword.{Keyword}
 use Rattle.js_lexer.specs.declared.machine.Stop.{Stop}
-use Rattle.js_lexer.specs.declared.punctuators.Punctuator.{Punctuator}
-use Rattle.js_lexer.specs.declared.token.TemplatePart.{TemplatePart}
 use Rattle.js_lexer.specs.declared.token.TokenKind.{TokenKind}
 use Rattle.js_lexer.specs.declared.token.TokenKind.TheVariants as kinds
 use Rattle.js_lexer.specs.Elements.{IsElement, Shows, StandsNone}
-use Rattle.js_lexer.specs.Keywords.{keyword_text}
+use Rattle.js_lexer.specs.Keywords.{keyword_text, keyword_named}
 use Rattle.js_lexer.specs.Nestings.{inside}
 use Rattle.js_lexer.specs.Scanning.{Taking, element_of}
 use Rattle.js_lexer.specs.Sources.{State, IsKind, over_gap, over_token, Takes, gap, token, Run, start, further}
 use Rattle.js_lexer.proofs.Exactly.{Exactly}
 use Rattle.js_lexer.proofs.Keyword_laws.{keyword_exact}
 use Rattle.js_lexer.proofs.Numbers_taken.{element_exactly}
+use Rattle.js_lexer.proofs.Tests.{same_some}
 
 -- what is left decides what was in front of it
 front_cancel : (v w xs : List ℕ) → v ++ xs ≡ w ++ xs → v ≡ w
 front_cancel v w xs h = append_cancel_right v w xs h
 
 -- one kind at most
-some_keyword : (w : List ℕ) (k l : Keyword) → keyword_text k ≡ w → keyword_text l ≡ w → k ≡ l
-some_keyword w k l h g = out k l (sym ((keyword_exact w k).0 h) ∙ (keyword_exact w l).0 g)
-  where
-    out : (k l : Keyword) → Some k ≡ Some l → k ≡ l
-    out k l h = cc
-
-word_kind : (w : List ℕ) (k l : TokenKind) → IsKind elements.Word w k → IsKind elements.Word w l → k ≡ l
-word_kind w kinds.Name kinds.Name h g = refl
-word_kind w kinds.Name (kinds.Keyword l) h g = absurd (h l g)
-word_kind w (kinds.Keyword k) kinds.Name h g = absurd (g k h)
-word_kind w (kinds.Keyword k) (kinds.Keyword l) h g = ap kinds.Keyword (some_keyword (encode_utf8_all w) k l h g)
-word_kind w kinds.Name (kinds.Punctuator l) h g = absurd g
-word_kind w kinds.Name kinds.Number h g = absurd g
-word_kind w kinds.Name kinds.String h g = absurd g
-word_kind w kinds.Name (kinds.Template l) h g = absurd g
-word_kind w (kinds.Keyword k) (kinds.Punctuator l) h g = absurd g
-word_kind w (kinds.Keyword k) kinds.Number h g = absurd g
-word_kind w (kinds.Keyword k) kinds.String h g = absurd g
-word_kind w (kinds.Keyword k) (kinds.Template l) h g = absurd g
-word_kind w (kinds.Punctuator k) l h g = absurd h
-word_kind w kinds.Number l h g = absurd h
-word_kind w kinds.String l h g = absurd h
-word_kind w (kinds.Template k) l h g = absurd h
-
--- the kind of an element that is no word
-number_kind : (w : List ℕ) (k : TokenKind) → IsKind elements.Number w k → k ≡ kinds.Number
-number_kind w kinds.Number h = refl
-number_kind w kinds.Name h = absurd h
-number_kind w (kinds.Keyword k) h = absurd h
-number_kind w (kinds.Punctuator k) h = absurd h
-number_kind w kinds.String h = absurd h
-number_kind w (kinds.Template k) h = absurd h
-
-string_kind : (w : List ℕ) (k : TokenKind) → IsKind elements.String w k → k ≡ kinds.String
-string_kind w kinds.String h = refl
-string_kind w kinds.Name h = absurd h
-string_kind w (kinds.Keyword k) h = absurd h
-string_kind w (kinds.Punctuator k) h = absurd h
-string_kind w kinds.Number h = absurd h
-string_kind w (kinds.Template k) h = absurd h
-
-template_kind : (part : TemplatePart) (w : List ℕ) (k : TokenKind) → IsKind (elements.Template part) w k → k ≡ kinds.Template part
-template_kind part w (kinds.Template p) h = ap kinds.Template h
-template_kind part w kinds.Name h = absurd h
-template_kind part w (kinds.Keyword k) h = absurd h
-template_kind part w (kinds.Punctuator k) h = absurd h
-template_kind part w kinds.Number h = absurd h
-template_kind part w kinds.String h = absurd h
-
-mark_kind : (mark : Punctuator) (w : List ℕ) (k : TokenKind) → IsKind (elements.Punctuator mark) w k → k ≡ kinds.Punctuator mark
-mark_kind mark w (kinds.Punctuator p) h = ap kinds.Punctuator h
-mark_kind mark w kinds.Name h = absurd h
-mark_kind mark w (kinds.Keyword k) h = absurd h
-mark_kind mark w (kinds.Template k) h = absurd h
-mark_kind mark w kinds.Number h = absurd h
-mark_kind mark w kinds.String h = absurd h
-
 gap_kind : (w : List ℕ) (k : TokenKind) → IsKind elements.Gap w k → ⊥
 gap_kind w kinds.Name h = h
-gap_kind w (kinds.Keyword k) h = h
-gap_kind w (kinds.Punctuator k) h = h
-gap_kind w kinds.Number h = h
-gap_kind w kinds.String h = h
-gap_kind w (kinds.Template k) h = h
+gap_kind w _ h = h
+
+some_keyword : (w : List ℕ) (k l : Keyword) → keyword_text k ≡ w → keyword_text l ≡ w → k ≡ l
+some_keyword w k l h g = same_some (keyword_named w) k l ((keyword_exact w k).0 h) ((keyword_exact w l).0 g)
 
 pub one_kind : (e : Element) (w : List ℕ) (k l : TokenKind) → IsKind e w k → IsKind e w l → k ≡ l
-one_kind elements.Gap w k l h g = absurd (gap_kind w k h)
-one_kind elements.Word w k l h g = word_kind w k l h g
-one_kind elements.Number w k l h g = number_kind w k h ∙ sym (number_kind w l g)
-one_kind elements.String w k l h g = string_kind w k h ∙ sym (string_kind w l g)
-one_kind (elements.Template part) w k l h g = template_kind part w k h ∙ sym (template_kind part w l g)
-one_kind (elements.Punctuator mark) w k l h g = mark_kind mark w k h ∙ sym (mark_kind mark w l g)
+one_kind elements.Word w kinds.Name kinds.Name h g = refl
+one_kind elements.Word w kinds.Name (kinds.Keyword l) h g = absurd (h l g)
+one_kind elements.Word w (kinds.Keyword k) kinds.Name h g = absurd (g k h)
+one_kind elements.Word w (kinds.Keyword k) (kinds.Keyword l) h g = ap kinds.Keyword (some_keyword (encode_utf8_all w) k l h g)
+one_kind elements.Number w kinds.Number kinds.Number h g = refl
+one_kind elements.String w kinds.String kinds.String h g = refl
+one_kind (elements.Template part) w (kinds.Template p) (kinds.Template q) h g = ap kinds.Template (h ∙ sym g)
+one_kind (elements.Punctuator mark) w (kinds.Punctuator p) (kinds.Punctuator q) h g = ap kinds.Punctuator (h ∙ sym g)
+one_kind _ w _ _ h g = absurd (search depth 0)
 
 -- one element at most stands at the start of a text
 both_stand : (within : Bool) (xs : List ℕ) (t : Taking) → Exactly within xs t → (e f : Element) (ys zs : List ℕ) → IsElement within e xs ys → IsElement within f xs zs → (e ≡ f) × (ys ≡ zs)

@@ -1,19 +1,6 @@
 -- What a character does to the first part of a sequence.
-use Rattle.std.proofs.Common.{◌≡◌, ◌↔◌, ℕ, Bool, true, false, List, refl, sym, subst}
-use Rattle.js_lexer.specs.Rules.{Rule, NotBefore, Then, Leads, begins_with}
-
--- a lookahead in front
-pub past_lookahead : (p : ℕ → Bool) (m e : Rule) (xs ys : List ℕ) → begins_with p xs ≡ false → Leads (Then (Then (NotBefore p) m) e) xs ys ↔ Leads (Then m e) xs ys
-past_lookahead p m e xs ys h = (
-  λ k. let same : xs ≡ k.1.0 = k.1.1.0 in (k.0, subst (λ z. Leads m z k.0) (sym same) k.1.2, k.2),
-  λ k. (k.0, (xs, (refl, h), k.1), k.2),
-)
-
-pub no_lookahead : (p : ℕ → Bool) (m e : Rule) (xs ys : List ℕ) → begins_with p xs ≡ true → Leads (Then (Then (NotBefore p) m) e) xs ys → ⊥
-no_lookahead p m e xs ys h k = differ (begins_with p xs) h (k.1.1.1)
-  where
-    differ : (b : Bool) → b ≡ true → b ≡ false → ⊥
-    differ b h k = cc
+use Rattle.std.proofs.Common.{◌≡◌, ◌↔◌, ℕ, List, refl, subst}
+use Rattle.js_lexer.specs.Rules.{Rule, Then, Leads}
 
 -- the first part goes on
 pub first_goes : (a b m e : Rule) (xs zs ys : List ℕ) → ((ms : List ℕ) → Leads a xs ms ↔ Leads b zs ms) → Leads (Then (Then a m) e) xs ys ↔ Leads (Then (Then b m) e) zs ys

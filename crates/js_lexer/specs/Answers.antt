@@ -11,6 +11,7 @@ use Rattle.js_lexer.specs.declared.token.Token.{Token}
 use Rattle.js_lexer.specs.Sources.{IsBadToken, IsUnsupported, IsNotUtf8}
 
 -- the name by which a form that is left out is told
+-- own: the profile refuses these forms by name
 abbrev pub form_name : Form → List ℕ
 form_name forms.BigInt = codes "bigint"
 form_name forms.Separator = codes "separator"
@@ -19,10 +20,12 @@ form_name forms.Private = codes "private"
 form_name forms.Decorator = codes "decorator"
 
 -- what is wrong with a source, and at which place
+-- own: which of several faults is told, and where
 abbrev pub IsFault : List ℕ → Place → SyntaxWhat → Type 0
 IsFault bytes place what.NotUtf8 = IsNotUtf8 bytes place
 IsFault bytes place what.BadToken = IsBadToken bytes place
-IsFault bytes place (what.Unsupported name) = (form : Form) × (name ≡ form_name form) × IsUnsupported bytes place form
+IsFault bytes place (what.Unsupported name) =
+    (form : Form) × (name ≡ form_name form) × IsUnsupported bytes place form
 IsFault bytes place what.Unexpected = ⊥
 IsFault bytes place what.TooDeep = ⊥
 IsFault bytes place (what.Early name) = ⊥
@@ -34,11 +37,13 @@ HasCause bytes fault.OutOfMemory = Unit {0}
 
 -- the answer is these tokens, or want of memory
 abbrev pub GivesTokens : Result (List Token) SyntaxFault → List Token → Type 0
-GivesTokens answer tokens = MatchResult answer (λ given. given ≡ tokens) (λ f. f ≡ fault.OutOfMemory)
+GivesTokens answer tokens =
+    MatchResult answer (λ given. given ≡ tokens) (λ f. f ≡ fault.OutOfMemory)
 
 -- the answer is this refusal, or want of memory
 abbrev pub Refuses : Result (List Token) SyntaxFault → Place → SyntaxWhat → Type 0
-Refuses answer place what = MatchResult answer (λ given. ⊥) (λ f. (f ≡ fault.At place what) ⊎ (f ≡ fault.OutOfMemory))
+Refuses answer place what =
+    MatchResult answer (λ given. ⊥) (λ f. (f ≡ fault.At place what) ⊎ (f ≡ fault.OutOfMemory))
 
 -- the tokens stand one after the other, from one byte on up to another
 abbrev pub StandInOrder : ℕ → List Token → ℕ → Type 0

@@ -5,7 +5,8 @@ use Rattle.std.specs.Str.{bytes_eq}
 use Rattle.js_lexer.specs.declared.keywords.Keyword.{Keyword}
 use Rattle.js_lexer.specs.declared.keywords.Keyword.TheVariants.{Break, Case, Catch, Class, Const, Continue, Debugger, Default, Delete, Do, Else, Enum, Export, Extends, False, Finally, For, Function, If, Import, In, Instanceof, New, Null, Return, Super, Switch, This, Throw, True, Try, Typeof, Var, Void, While, With, Yield, Let, Static, Implements, Interface, Package, Private, Protected, Public}
 
--- the word (ECMA-262, "Keywords and Reserved Words")
+-- the word
+-- ECMA-262 Keywords and Reserved Words, ReservedWord
 abbrev pub keyword_text : Keyword → List ℕ
 keyword_text Break = codes "break"
 keyword_text Case = codes "case"

@@ -24,17 +24,20 @@ abbrev pub AfterTake : State → Result (Unit {0}) Refusal → State → Type 0
 AfterTake s answer t = MatchResult answer (λ done. Takes s t) (λ refusal. NotTaken s refusal t)
 
 abbrev pub Stuck : State → Refusal → State → Type 0
-Stuck s (refusals.NoElement none) t = Run s t × (element_of (inside t.opens) t.rest ≡ Err none) × ¬ (t.rest ≡ [])
+Stuck s (refusals.NoElement none) t =
+    Run s t × (element_of (inside t.opens) t.rest ≡ Err none) × ¬ (t.rest ≡ [])
 Stuck s refusals.OutOfMemory t = Unit {0}
 
 -- all elements were taken, or those up to one that could not be
 abbrev pub AfterRun : State → Result (Unit {0}) Refusal → State → Type 0
-AfterRun s answer t = MatchResult answer (λ done. Run s t × (t.rest ≡ [])) (λ refusal. Stuck s refusal t)
+AfterRun s answer t =
+    MatchResult answer (λ done. Run s t × (t.rest ≡ [])) (λ refusal. Stuck s refusal t)
 
 -- the fault that it is at a place that no element is taken
 abbrev pub IsFaultOf : NoElement → Place → SyntaxFault → Type 0
 IsFaultOf (Stopped stop) place f = f ≡ faults.At place what.BadToken
-IsFaultOf (LeftOut form) place f = (f ≡ faults.At place (what.Unsupported (form_name form))) ⊎ (f ≡ faults.OutOfMemory)
+IsFaultOf (LeftOut form) place f =
+    (f ≡ faults.At place (what.Unsupported (form_name form))) ⊎ (f ≡ faults.OutOfMemory)
 
 -- the same where the source is no longer UTF-8 behind the text
 abbrev pub IsBrokenFault : State → NoElement → SyntaxFault → Type 0

@@ -15,4 +15,5 @@ pub mod Rules
 pub mod Scanning
 pub mod Skipping
 pub mod Sources
+pub mod Spelled
 pub mod Spots

@@ -20,11 +20,13 @@ stepped go c cs (With k) = Ok (k, cs)
 stepped go c cs (Before k) = Ok (k, c ∷ cs)
 stepped go c cs Bad = Err stops.Bad
 
--- what a machine reads: `step` says what a character does in a state, and `stop` what the end of the text does
+-- what a machine reads: `step` says what a character does in
+-- a state, and `stop` what the end of the text does
 abbrev pub run : {S K : Type 0} → (S → ℕ → Step S K) → (S → Result K Stop) → S → List ℕ → Reading K
 run step stop s [] = ended [] (stop s)
 run step stop s (c ∷ cs) = stepped (λ t. run step stop t cs) c cs (step s c)
 
 -- a function's answer and what it leaves of the text are this reading
 abbrev pub Gives : {K E : Type 0} → Result (K × List ℕ) E → Result K E → List ℕ → Type 0
-Gives reading answer left = MatchResult answer (λ k. reading ≡ Ok (k, left)) (λ stop. reading ≡ Err stop)
+Gives reading answer left =
+    MatchResult answer (λ k. reading ≡ Ok (k, left)) (λ stop. reading ≡ Err stop)

@@ -18,6 +18,7 @@ closed [] = []
 closed (o ∷ os) = os
 
 -- what is open behind a token: `{` and `${` open, and `}` closes the innermost
+-- ECMA-262 ECMAScript Language: Lexical Grammar, InputElementTemplateTail
 abbrev pub nested : Element → List Open → List Open
 nested (elements.Punctuator punctuators.LeftBrace) os = Brace ∷ os
 nested (elements.Punctuator punctuators.RightBrace) os = closed os

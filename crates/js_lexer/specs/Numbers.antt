@@ -1,4 +1,5 @@
--- What a character, and the end of the text, do to a numeric literal of which a first part was read: one function a Rust function.
+-- What a character, and the end of the text, do to a numeric literal
+-- of which a first part was read: one function a Rust function.
 -- What the machine reads is said by the lexical grammar, in the theorems on numeric literals.
 use Rattle.std.specs.Prelude.{ℕ, Bool, true, false, ◌==◌, ◌||◌, if◌then◌else◌, Result, Ok, Err}
 use Rattle.js_lexer.specs.Characters.{is_digit, is_hex_digit, bars_number_end}
@@ -86,7 +87,8 @@ after_exponent_digits separated c =
     else number_end (number separated) c
 
 abbrev pub only_radix_digit : Radix → Bool → ℕ → NumberStep
-only_radix_digit radix separated c = if is_radix_digit radix c then Go (RadixDigits radix separated) else Bad
+only_radix_digit radix separated c =
+    if is_radix_digit radix c then Go (RadixDigits radix separated) else Bad
 
 abbrev pub after_radix_digits : Radix → Bool → ℕ → NumberStep
 after_radix_digits radix separated c =

@@ -1,11 +1,12 @@
 -- Punctuators.
-use Rattle.std.specs.Prelude.{◌≡◌, ℕ, ◌≤◌, ◌==◌, ◌&&◌, ◌||◌, not, Bool, true, cond, List, [], ◌∷◌, ◌++◌, length, codes, Option, Some, None}
+use Rattle.std.specs.Prelude.{◌≡◌, ℕ, ◌≤◌, ◌==◌, ◌&&◌, ◌||◌, not, Bool, true, cond, List, [], ◌∷◌, ◌++◌, length, codes, Option, Some, None, MatchOption}
 use Rattle.js_lexer.specs.Characters.{is_digit}
 use Rattle.js_lexer.specs.Rules.{begins_with}
 use Rattle.js_lexer.specs.declared.punctuators.Punctuator.{Punctuator}
 use Rattle.js_lexer.specs.declared.punctuators.Punctuator.TheVariants.{LeftBrace, RightBrace, LeftParenthesis, RightParenthesis, LeftBracket, RightBracket, Dot, Ellipsis, Semicolon, Comma, Less, Greater, LessOrEqual, GreaterOrEqual, Equal, NotEqual, StrictEqual, StrictNotEqual, Plus, Minus, Star, Slash, Percent, StarStar, Increment, Decrement, ShiftLeft, ShiftRight, UnsignedShiftRight, Ampersand, Bar, Caret, Exclamation, Tilde, LogicalAnd, LogicalOr, Coalesce, Question, OptionalChain, Colon, Assign, AddAssign, SubtractAssign, MultiplyAssign, DivideAssign, RemainderAssign, ExponentiateAssign, ShiftLeftAssign, ShiftRightAssign, UnsignedShiftRightAssign, BitAndAssign, BitOrAssign, BitXorAssign, LogicalAndAssign, LogicalOrAssign, CoalesceAssign, Arrow}
 
--- the text of a punctuator (ECMA-262, Punctuators)
+-- the text of a punctuator
+-- ECMA-262 Punctuators
 abbrev pub text_of : Punctuator → List ℕ
 text_of LeftBrace = codes "{"
 text_of RightBrace = codes "}"
@@ -65,8 +66,11 @@ text_of LogicalOrAssign = codes "||="
 text_of CoalesceAssign = codes "??="
 text_of Arrow = codes "=>"
 
--- what may follow a punctuator: a point before a digit begins a number, and two characters begin a comment behind a slash
--- (ECMA-262, OptionalChainingPunctuator, NumericLiteral and Comment)
+-- what may follow a punctuator: a point before a digit begins a number,
+-- and two characters begin a comment behind a slash
+-- ECMA-262 Punctuators, OptionalChainingPunctuator
+-- ECMA-262 Numeric Literals, DecimalLiteral
+-- ECMA-262 Comments, Comment
 abbrev pub follows : Punctuator → List ℕ → Bool
 follows Dot ys = not (begins_with is_digit ys)
 follows OptionalChain ys = not (begins_with is_digit ys)
@@ -78,8 +82,11 @@ abbrev pub Stands : Punctuator → List ℕ → List ℕ → Type 0
 Stands p xs ys = (xs ≡ text_of p ++ ys) × (follows p ys ≡ true)
 
 -- it is the longest that stands there
+-- ECMA-262 ECMAScript Language: Lexical Grammar
 abbrev pub IsPunctuator : Punctuator → List ℕ → List ℕ → Type 0
-IsPunctuator p xs ys = Stands p xs ys × ((q : Punctuator) (zs : List ℕ) → Stands q xs zs → length (text_of q) ≤ length (text_of p))
+IsPunctuator p xs ys =
+    Stands p xs ys
+    × ((q : Punctuator) (zs : List ℕ) → Stands q xs zs → length (text_of q) ≤ length (text_of p))
 
 -- The longest punctuator, read a character at a time
 
@@ -184,7 +191,8 @@ dots (c ∷ d ∷ cs) = cond (c == 46 && d == 46) (Ellipsis, cs) (Dot, c ∷ d �
 -- behind a `?`
 abbrev pub question : List ℕ → Punctuator × List ℕ
 question [] = (Question, [])
-question (c ∷ cs) = cond (c == 46 && follows OptionalChain cs) (OptionalChain, cs) (grown Question (c ∷ cs))
+question (c ∷ cs) =
+    cond (c == 46 && follows OptionalChain cs) (OptionalChain, cs) (grown Question (c ∷ cs))
 
 -- behind a first character
 abbrev pub started : Punctuator → List ℕ → Punctuator × List ℕ
@@ -199,3 +207,11 @@ begun (Some p) cs = cond (follows p cs) (Some (started p cs)) None
 abbrev pub punctuator_of : List ℕ → Option (Punctuator × List ℕ)
 punctuator_of [] = None
 punctuator_of (c ∷ cs) = begun (single c) cs
+
+-- the answer and what is left of the text are this reading
+abbrev pub IsReading : Option (Punctuator × List ℕ) → Option Punctuator → List ℕ → Type 0
+IsReading reading answer left = MatchOption answer (reading ≡ None) (λ p. reading ≡ Some (p, left))
+
+-- no punctuator stands at the start of the text
+abbrev pub NoPunctuator : List ℕ → Type 0
+NoPunctuator xs = (p : Punctuator) (ys : List ℕ) → ¬ (IsPunctuator p xs ys)

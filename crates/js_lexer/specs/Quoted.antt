@@ -1,4 +1,5 @@
--- The machine of strings and templates, one function a Rust function. `Grammar` says what they mean.
+-- The machine of strings and templates, one function a
+-- Rust function. `Grammar` says what they mean.
 use Rattle.std.specs.Prelude.{ℕ, ◌==◌, ◌||◌, if◌then◌else◌, Result, Err}
 use Rattle.js_lexer.specs.declared.machine.Step.{Step}
 use Rattle.js_lexer.specs.declared.machine.Step.TheVariants.{Go, With, Before, Bad}
@@ -66,7 +67,8 @@ part_step quote parts.Zero c = if is_digit c then Bad else plain_step quote c
 part_step quote parts.TwoHexDigits c = if is_hex_digit c then go quote parts.OneHexDigit else Bad
 part_step quote parts.OneHexDigit c = if is_hex_digit c then go quote parts.Plain else Bad
 part_step quote (parts.Escape escape) c = after_escape quote (escape_step escape c)
-part_step quote parts.CarriageReturn c = if c == 10 then go quote parts.Plain else plain_step quote c
+part_step quote parts.CarriageReturn c =
+    if c == 10 then go quote parts.Plain else plain_step quote c
 part_step quote parts.Dollar c = if c == 123 then With ends.Substitution else plain_step quote c
 
 abbrev pub quoted_step : Quoted → ℕ → QuotedStep

@@ -1,7 +1,9 @@
--- The notation in which ECMA-262 writes its lexical grammar: productions over characters, with lookahead.
+-- The notation in which ECMA-262 writes its lexical
+-- grammar: productions over characters, with lookahead.
 use Rattle.std.specs.Prelude.{◌≡◌, ℕ, Bool, true, false, List, [], ◌∷◌, ◌++◌, ◌⊎◌}
 
 -- the right side of a production
+-- ECMA-262 Grammar Notation
 pub data Rule : Type 0 where
   -- no alternative
   Never : Rule
@@ -31,6 +33,7 @@ pub data Steps (P : List ℕ → List ℕ → Type 0) : List ℕ → List ℕ �
   step : (xs ms ys : List ℕ) → P xs ms → Steps P ms ys → Steps P xs ys
 
 -- a text, from its start, is by the rule until only this rest of it is left
+-- ECMA-262 Grammar Notation
 abbrev pub Leads : Rule → List ℕ → List ℕ → Type 0
 Leads Never xs ys = ⊥
 Leads Nothing xs ys = xs ≡ ys

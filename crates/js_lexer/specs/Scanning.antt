@@ -58,7 +58,8 @@ word_unless xs (Err stop) = Ok (elements.Word, xs)
 -- what is behind a name
 abbrev pub word_ending : List ℕ → Taking
 word_ending [] = Ok (elements.Word, [])
-word_ending (c ∷ cs) = if c == 92 then word_unless (c ∷ cs) (escape_reading cs) else Ok (elements.Word, c ∷ cs)
+word_ending (c ∷ cs) =
+    if c == 92 then word_unless (c ∷ cs) (escape_reading cs) else Ok (elements.Word, c ∷ cs)
 
 abbrev pub word_of : List ℕ → Taking
 word_of xs = word_ending (skip is_name_part xs)

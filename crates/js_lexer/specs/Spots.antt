@@ -1,5 +1,6 @@
 -- How far a source is read, as lines, units and bytes.
 use Rattle.std.specs.Prelude.{ℕ, ◌+◌, ◌≤◌, ◌==◌, ◌&&◌, ◌||◌, if◌then◌else◌, List, [], ◌∷◌, length}
+use Rattle.std.specs.Str.{encode_utf8_all}
 use Rattle.std.specs.Char.{encode_utf8}
 use Rattle.std.specs.Char.Escape.{encode_utf16}
 use Rattle.lava_base.specs.declared.place.Place.{Place}
@@ -9,7 +10,10 @@ use Rattle.js_lexer.specs.Characters.{is_line_terminator}
 abbrev pub place_at : ℕ → ℕ → Place
 place_at line unit = record { line = line; unit = unit }
 
--- the place behind a character: lines end with line terminators (ECMA-262, LineTerminatorSequence: CR and LF are one), and units are those of UTF-16
+-- the place behind a character: lines end with line terminators, of which CR and LF are one,
+-- and units are those of UTF-16
+-- ECMA-262 Line Terminators, LineTerminatorSequence
+-- ECMA-262 UTF16EncodeCodePoint
 abbrev pub place_over : Spot → ℕ → Place
 place_over s c =
     if c == 10 && s.after_return then s.place
@@ -29,6 +33,10 @@ over s c = record {
 abbrev pub over_all : Spot → List ℕ → Spot
 over_all s [] = s
 over_all s (c ∷ cs) = over_all (over s c) cs
+
+-- how many bytes a source has that is read up to the spot, with this left
+abbrev pub size_of : Spot → List ℕ → ℕ
+size_of s rest = s.offset + length (encode_utf8_all rest)
 
 -- lines and units are no more than the bytes, and one
 abbrev pub IsSound : Spot → Type 0

@@ -1,9 +1,9 @@
 // What is left of a source.
 
-ghost use Rattle.std.specs.Prelude.{◌≡◌, ◌↔◌, ℕ, List, ◌∷◌, ◌++◌, [], length, MatchOption, IsTrue};
+ghost use Rattle.std.specs.Prelude.{◌≡◌, ◌↔◌, ℕ, List, ◌++◌, [], length, IsTrue};
 ghost use Rattle.std.specs.Str.{encode_utf8_all};
 ghost use Rattle.std.specs.Str.{chars};
-ghost use Rattle.js_lexer.specs.Characters.{first_of};
+ghost use Rattle.js_lexer.specs.Characters.{first_of, TakesFirst};
 
 use std::marker::Model;
 use std::str::Chars;
@@ -51,7 +51,7 @@ impl<'a> Cursor<'a> {
     /// Takes the next character.
     #[tactic(auto, using(crate::proofs::Texts::next_character, crate::proofs::Texts::no_characters))]
     pub fn bump(&mut self) -> Option<char>
-        ensures { MatchOption result ((self.old ≡ []) × (self.new ≡ [])) (λ c. self.old ≡ c ∷ self.new) }
+        ensures { TakesFirst self.old result self.new }
     {
         let bytes = self.rest.as_str().as_bytes();
         if bytes.is_empty() {

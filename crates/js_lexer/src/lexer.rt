@@ -1,6 +1,6 @@
 // The tokens of a source.
 
-ghost use Rattle.std.specs.Prelude.{◌≡◌, ◌+◌, ◌≤◌, ℕ, ◌++◌, [], length, List as Listed, IfOk, IfErr, OnOk, OnErr};
+ghost use Rattle.std.specs.Prelude.{◌≡◌, ◌+◌, ◌≤◌, ℕ, ◌++◌, [], length, List as Listed, All, IfOk, IfErr, OnOk, OnErr};
 ghost use Rattle.std.specs.Str.{IsUtf8, IsValidUpTo, chars, encode_utf8_all};
 ghost use Rattle.lava_base.specs.declared.place.Place.{Place};
 ghost use Rattle.js_tree.specs.declared.fault.SyntaxFault.TheVariants as faults;
@@ -9,7 +9,8 @@ ghost use Rattle.js_tree.specs.declared.fault.SyntaxWhat.TheVariants as what;
 ghost use Rattle.js_lexer.specs.Answers.{HasCause, GivesTokens, Refuses, IsFault, StandInOrder};
 ghost use Rattle.js_lexer.specs.Lexing.{AfterTake, AfterRun, IsFaultOf, IsBrokenFault};
 ghost use Rattle.js_lexer.specs.Sources.{State, IsKind, IsTokens, pushed, opening, behind_mark, begins_hashbang, behind_hashbang};
-ghost use Rattle.js_lexer.specs.Spots.{IsSound, over_all};
+ghost use Rattle.js_lexer.specs.Spelled.{IsTextOf};
+ghost use Rattle.js_lexer.specs.Spots.{IsSound, over_all, size_of};
 ghost use Rattle.js_lexer.specs.declared.element.Element.{Element};
 ghost use Rattle.js_lexer.specs.declared.element.Element.TheVariants as elements;
 ghost use Rattle.js_lexer.specs.declared.lexer.Refusal.TheVariants as refusals;
@@ -42,17 +43,16 @@ pub struct Lexer<'a> {
 }
 
 impl<'a> Model for Lexer<'a> {
-    ghost use Rattle.std.specs.Prelude.{◌+◌, ◌≤◌, length};
-    ghost use Rattle.std.specs.Str.{encode_utf8_all};
+    ghost use Rattle.std.specs.Prelude.{◌≤◌};
     ghost use Rattle.js_lexer.specs.Sources.{State};
-    ghost use Rattle.js_lexer.specs.Spots.{IsSound};
+    ghost use Rattle.js_lexer.specs.Spots.{IsSound, size_of};
     ghost use Rattle.js_lexer.specs.declared.spot.TheConstants.{MAX_SOURCE};
 
     ghost Value = { State };
 
     ghost view = { λ l. record { rest = l.rest; spot = l.spot; opens = l.nesting; tokens = l.tokens } };
 
-    ghost invariant = { λ l. IsSound l.spot × (l.spot.offset + length (encode_utf8_all l.rest) ≤ MAX_SOURCE) };
+    ghost invariant = { λ l. IsSound l.spot × (size_of l.spot l.rest ≤ MAX_SOURCE) };
 }
 
 /// Why no more elements are taken.
@@ -186,7 +186,7 @@ impl<'a> Lexer<'a> {
         spot: Spot,
     ) -> Result<(), OutOfMemory>
         requires sound { IsSound spot }
-        requires room { spot.offset + length (encode_utf8_all rest) ≤ MAX_SOURCE }
+        requires room { size_of spot rest ≤ MAX_SOURCE }
         ensures { OnOk result (self.new ≡ pushed self.old element kind rest.entry spot) }
     {
         self.nesting.pass(element)?;
@@ -226,15 +226,16 @@ fn kind_of(element: Element, bytes: &[u8]) -> TokenKind
 
 /// The tokens of a source, by ECMA-262's lexical grammar in the profile of the language.
 ///
-/// It answers `NotUtf8`, `BadToken` or `Unsupported` (`bigint`, `separator`, `escape`, `private`, `decorator`) at the first byte or token that is so,
-/// and `OutOfMemory` also for a source of more than 4,294,967,280 bytes.
-#[tactic(auto, using(crate::proofs::Answers_laws::only_tokens, crate::proofs::Answers_laws::only_fault, crate::proofs::Orders::in_order))]
+/// It answers `NotUtf8`, `BadToken` or `Unsupported` (`bigint`, `separator`, `escape`, `private`, `decorator`)
+/// at the first byte or token that is so, and `OutOfMemory` also for a source of more than `MAX_SOURCE` bytes.
+#[tactic(auto, using(crate::proofs::Answers_laws::only_tokens, crate::proofs::Answers_laws::only_fault, crate::proofs::Slices::in_order, crate::proofs::Slices::texts_are_slices))]
 pub fn tokens(alloc: Global, source: &[u8]) -> Result<List<Token>, SyntaxFault>
     ensures tokens { IfOk result (λ tokens. IsTokens source.now tokens) }
-    ensures only { (tokens : Listed Token) → IsTokens source.now tokens → GivesTokens result tokens }
+    ensures only { (list : Listed Token) → IsTokens source.now list → GivesTokens result list }
     ensures cause { IfErr result (HasCause source.now) }
-    ensures refused { (place : Place) (what : SyntaxWhat) → IsFault source.now place what → Refuses result place what }
+    ensures refused { (p : Place) (w : SyntaxWhat) → IsFault source.now p w → Refuses result p w }
     ensures in_order { IfOk result (λ tokens. StandInOrder 0 tokens (length source.now)) }
+    ensures texts_are_slices { IfOk result (λ tokens. All (IsTextOf source.now) tokens) }
 {
     if source.len() > MAX_SOURCE as usize {
         return Err(SyntaxFault::OutOfMemory);

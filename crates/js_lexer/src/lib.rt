@@ -6,19 +6,14 @@ mod comments;
 mod cursor;
 mod element;
 mod escapes;
-#[cfg(test)]
-mod keyword_tests;
 pub mod keywords;
+pub mod laws;
 pub mod lexer;
 mod machine;
 mod names;
 mod nesting;
 mod numbers;
-#[cfg(test)]
-mod numbers_tests;
 mod passing;
-#[cfg(test)]
-mod punctuator_tests;
 pub mod punctuators;
 mod quoted;
 mod spot;

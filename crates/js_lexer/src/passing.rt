@@ -1,8 +1,7 @@
 // The spot behind what stands between two cursors.
 
-ghost use Rattle.std.specs.Prelude.{◌≡◌, ◌+◌, ◌≤◌, ℕ, ◌++◌, length, List};
-ghost use Rattle.std.specs.Str.{encode_utf8_all};
-ghost use Rattle.js_lexer.specs.Spots.{IsSound, over_all};
+ghost use Rattle.std.specs.Prelude.{◌≡◌, ◌≤◌, ℕ, ◌++◌, List};
+ghost use Rattle.js_lexer.specs.Spots.{IsSound, over_all, size_of};
 
 use crate::cursor::Cursor;
 use crate::spot::{MAX_SOURCE, Spot};
@@ -11,10 +10,10 @@ use crate::spot::{MAX_SOURCE, Spot};
 pub fn passed(spot: Spot, from: &Cursor, to: &Cursor) -> Spot
     requires behind { (w : List ℕ) × (from.now ≡ w ++ to.now) }
     requires sound { IsSound spot }
-    requires room { spot.offset + length (encode_utf8_all from.now) ≤ MAX_SOURCE }
+    requires room { size_of spot from.now ≤ MAX_SOURCE }
     ensures over { (w : List ℕ) → from.now ≡ w ++ to.now → result ≡ over_all spot w }
     ensures sound { IsSound result }
-    ensures room { result.offset + length (encode_utf8_all to.now) ≡ spot.offset + length (encode_utf8_all from.now) }
+    ensures room { size_of result to.now ≡ size_of spot from.now }
 {
     let mut rest = from.copy();
     let mut spot = spot;

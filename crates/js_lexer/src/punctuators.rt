@@ -1,8 +1,8 @@
 // Punctuators.
 
-ghost use Rattle.std.specs.Prelude.{◌≡◌, ℕ, List, IsTrue, MatchOption, IfSome, IfNone};
+ghost use Rattle.std.specs.Prelude.{◌≡◌, IfSome, IfNone};
 ghost use Rattle.js_lexer.specs.Characters.{first_of};
-ghost use Rattle.js_lexer.specs.Punctuators.{IsPunctuator, follows, single, with_equals, twice, extended, grown, dots, question, started, punctuator_of};
+ghost use Rattle.js_lexer.specs.Punctuators.{IsPunctuator, IsReading, NoPunctuator, follows, single, with_equals, twice, extended, grown, dots, question, started, punctuator_of};
 ghost use Rattle.js_lexer.specs.declared.punctuators.Punctuator.{Punctuator};
 
 use crate::characters::is_digit;
@@ -286,9 +286,9 @@ fn started(cursor: &mut Cursor, first: Punctuator) -> Punctuator
 /// Takes the longest punctuator that stands at the cursor, or nothing where none stands there.
 #[tactic(auto, using(crate::proofs::Punctuator_laws::none_read))]
 pub fn read_punctuator(cursor: &mut Cursor) -> Option<Punctuator>
-    ensures gives { MatchOption result (punctuator_of cursor.old ≡ None) (λ p. punctuator_of cursor.old ≡ Some (p, cursor.new)) }
+    ensures gives { IsReading (punctuator_of cursor.old) result cursor.new }
     ensures longest { IfSome result (λ p. IsPunctuator p cursor.old cursor.new) }
-    ensures none { IfNone result ((p : Punctuator) (ys : List ℕ) → ¬ (IsPunctuator p cursor.old ys)) }
+    ensures none { IfNone result (NoPunctuator cursor.old) }
     ensures unmoved { IfNone result (cursor.new ≡ cursor.old) }
 {
     let mut ahead = cursor.copy();

@@ -1,6 +1,7 @@
 // The cells of the tables: how they write properties, and what becomes of them.
 
 use js_desc::descriptor::{Change, Descriptor};
+use js_desc::same::is_same_function;
 use js_text::value::Value;
 use lava_base::ids::{ObjId, PartyId, Ref};
 
@@ -104,10 +105,10 @@ fn letter_of_value(value: &Value) -> char {
 fn letter_of_function(function: Option<Ref>) -> char {
     match function {
         None => 'u',
-        Some(function) if function.is_same(F) => 'F',
-        Some(function) if function.is_same(G) => 'G',
-        Some(function) if function.is_same(H) => 'H',
-        Some(_) => '?',
+        _ if is_same_function(function, Some(F)) => 'F',
+        _ if is_same_function(function, Some(G)) => 'G',
+        _ if is_same_function(function, Some(H)) => 'H',
+        _ => '?',
     }
 }
 

@@ -1,111 +1,220 @@
-// What stores show of objects.
+// What is done to a store, and what it answers.
 
-ghost use Rattle.std.specs.Prelude.{◌≡◌, ◌<◌, length};
+ghost use Rattle.std.specs.Prelude.{◌<◌, length};
 
+use crate::fault::Fault;
+use crate::shown::{push_key, push_number, push_reference, push_truth, push_word};
+use crate::words::{key_of, number_of, reference_of, two_of};
 use js_desc::descriptor::{Change, Descriptor};
-use js_store::flat::FlatStore;
 use js_store::slot::Slot;
 use js_store::store::{PLAIN_MARKS, Store};
-use js_text::index::key_of_text;
-use js_text::same::is_same_key;
-use js_text::utf8::from_utf8;
-use js_text::value::{Key, Symbol, Value};
-use lava_base::ids::{ObjId, PartyId, Ref};
+use js_text::value::{Key, Value};
+use lava_base::ids::{CommonId, ObjId, PartyId, Ref};
 use lava_base::list::List;
+use lava_base::marks::{Class, Marks};
 use std::alloc::Global;
-use std::process::Abort;
-use std::test::Fail;
 
-// Keys that are added in turn, or taken out where a `-` stands before them, and the own keys after that. `@iterator` is Symbol.iterator.
-static ROWS: [(&[&str], &[&str]); 12] = [
-    (
-        &["b", "2", "a", "1", "@iterator"],
-        &["1", "2", "b", "a", "@iterator"],
-    ),
-    (&["@iterator", "b", "0"], &["0", "b", "@iterator"]),
-    (&["b", "a", "-b", "b"], &["a", "b"]),
-    (&["a", "b", "a"], &["a", "b"]),
-    (&["a", "-b", "-0", "-@iterator"], &["a"]),
-    (&["a", "-a"], &[]),
-    (&["0", "1", "2", "-1", "3"], &["0", "2", "3"]),
-    (&["0", "1", "2", "-1", "-2", "5", "1"], &["0", "1", "5"]),
-    (&["1", "0", "2", "1"], &["0", "1", "2"]),
-    (
-        &["4294967294", "4294967295", "10", "9", "01"],
-        &["9", "10", "4294967294", "4294967295", "01"],
-    ),
-    (&["7", "3", "5", "-5", "x", "4", "-7"], &["3", "4", "x"]),
-    (
-        &["@iterator", "-@iterator", "y", "@iterator"],
-        &["y", "@iterator"],
-    ),
-];
+/// The marks of a function that can construct.
+pub const FUNCTION: Marks = Marks {
+    class: Class::Function,
+    callable: true,
+    constructor: true,
+};
 
-// The key of a name of the rows.
-fn key_named(alloc: Global, name: &str) -> Result<Key, Fail> {
-    if name == "@iterator" {
-        return Ok(Key::Symbol(Symbol::Iterator));
+/// `store STEP; STEP; ..`: what the steps answer that are done to a new store of party 7.
+pub fn steps<S: Store + Drop>(alloc: Global, out: &mut String, words: &str) -> Result<(), Fault> {
+    let mut store = S::empty(alloc, PartyId(7));
+    for step in words.split("; ") {
+        push_step(alloc, out, &mut store, step)?;
     }
-    Ok(key_of_text(from_utf8(alloc, name.as_bytes())?))
+    Ok(())
 }
 
-// A property with a value.
-fn property(value: i64) -> Descriptor {
+/// Does a step, and appends what it answers.
+fn push_step<S: Store>(
+    alloc: Global,
+    out: &mut String,
+    store: &mut S,
+    step: &str,
+) -> Result<(), Fault> {
+    match step {
+        "party" => push_number(out, i64::from(store.party().0)),
+        "count" => push_number(out, i64::from(store.count())),
+        "make" => make(out, store, None, PLAIN_MARKS),
+        "make function" => make(out, store, Some(Ref::Common(CommonId(3))), FUNCTION),
+        _ => push_step_at(alloc, out, store, step),
+    }
+}
+
+/// Makes an object, and appends its id.
+fn make<S: Store>(
+    out: &mut String,
+    store: &mut S,
+    proto: Option<Ref>,
+    marks: Marks,
+) -> Result<(), Fault> {
+    let id = store.make(proto, marks, Slot::Plain)?;
+    push_number(out, i64::from(id.0))
+}
+
+/// Does a step to the object whose id stands first.
+fn push_step_at<S: Store>(
+    alloc: Global,
+    out: &mut String,
+    store: &mut S,
+    step: &str,
+) -> Result<(), Fault> {
+    let (id, step) = two_of(step)?;
+    let id = ObjId(number_of(id)?);
+    if id.0 >= store.count() {
+        return Err(Fault::Line);
+    }
+    match step.split_once(' ') {
+        None => push_of(alloc, out, store, id, step),
+        Some((name, word)) => change(alloc, out, store, id, name, word),
+    }
+}
+
+/// Does a step of one word.
+fn push_of<S: Store>(
+    alloc: Global,
+    out: &mut String,
+    store: &mut S,
+    id: ObjId,
+    name: &str,
+) -> Result<(), Fault>
+    requires { id.0 < length (S.objects store.old) }
+{
+    match name {
+        "marks" => push_marks(out, store.marks(id)),
+        "proto" => push_proto(out, store.proto(id)),
+        "extensible" => push_truth(out, store.extensible(id)),
+        "slot" => push_word(out, slot_name(store.slot(id))),
+        "keys" => push_keys(alloc, out, &store.keys(alloc, id)?),
+        "prevent" => {
+            store.prevent(id);
+            Ok(())
+        }
+        _ => Err(Fault::Line),
+    }
+}
+
+/// Does a step with something behind its name.
+fn change<S: Store>(
+    alloc: Global,
+    out: &mut String,
+    store: &mut S,
+    id: ObjId,
+    name: &str,
+    word: &str,
+) -> Result<(), Fault>
+    requires { id.0 < length (S.objects store.old) }
+{
+    match name {
+        "set_proto" => {
+            store.set_proto(id, Some(reference_of(word)?));
+            Ok(())
+        }
+        "swap" => push_word(out, slot_name(&swap(store, id, reference_of(word)?))),
+        "write" => write(alloc, store, id, word),
+        _ => at_key(out, store, id, name, key_of(alloc, word)?),
+    }
+}
+
+/// Puts a compartment's slot in place, and gives the old one.
+fn swap<S: Store>(store: &mut S, id: ObjId, global: Ref) -> Slot
+    requires { id.0 < length (S.objects store.old) }
+{
+    store.swap_slot(id, Slot::Chamber { global })
+}
+
+/// Writes a property with a number.
+fn write<S: Store>(alloc: Global, store: &mut S, id: ObjId, words: &str) -> Result<(), Fault>
+    requires { id.0 < length (S.objects store.old) }
+{
+    let (key, number) = two_of(words)?;
+    let number = number_of(number)?;
+    Ok(store.apply(id, key_of(alloc, key)?, Change::Write(property(number)))?)
+}
+
+/// A property with a number, which may change.
+fn property(number: u32) -> Descriptor {
     Descriptor::Data {
-        value: Value::Int(value),
+        value: Value::Int(i64::from(number)),
         writable: true,
         enumerable: true,
         configurable: true,
     }
 }
 
-// Adds a key to an object, or takes one out.
-fn step<S: Store>(alloc: Global, store: &mut S, id: ObjId, word: &str) -> Result<(), Fail>
+/// Does a step to the property of a key.
+fn at_key<S: Store>(
+    out: &mut String,
+    store: &mut S,
+    id: ObjId,
+    name: &str,
+    key: Key,
+) -> Result<(), Fault>
     requires { id.0 < length (S.objects store.old) }
-    ensures { length (S.objects store.new) ≡ length (S.objects store.old) }
 {
-    match word.strip_prefix('-') {
-        Some(name) => store.remove(id, &key_named(alloc, name)?),
-        None => store.apply(id, key_named(alloc, word)?, Change::Write(property(1)))?,
+    match name {
+        "own" => push_value(out, store.own(id, &key)),
+        "keep" => Ok(store.apply(id, key, Change::Nothing)?),
+        "remove" => {
+            store.remove(id, &key);
+            Ok(())
+        }
+        _ => Err(Fault::Line),
+    }
+}
+
+/// Appends the number of a property.
+pub fn push_value(out: &mut String, property: Option<&Descriptor>) -> Result<(), Fault> {
+    match property {
+        Some(
+            Descriptor::Data {
+                value: Value::Int(number),
+                ..
+            },
+        ) => push_number(out, *number),
+        Some(_) => push_word(out, "other"),
+        None => push_word(out, "none"),
+    }
+}
+
+/// Appends marks.
+pub fn push_marks(out: &mut String, marks: Marks) -> Result<(), Fault> {
+    let Marks {
+        class,
+        callable,
+        constructor,
+    } = marks;
+    write!(out, " {class:?}")?;
+    push_truth(out, callable)?;
+    push_truth(out, constructor)
+}
+
+/// Appends a prototype.
+pub fn push_proto(out: &mut String, proto: Option<Ref>) -> Result<(), Fault> {
+    match proto {
+        Some(reference) => push_reference(out, reference),
+        None => push_word(out, "null"),
+    }
+}
+
+/// Appends keys.
+pub fn push_keys(alloc: Global, out: &mut String, keys: &List<Key>) -> Result<(), Fault> {
+    for key in keys.as_slice() {
+        push_key(alloc, out, key)?;
     }
     Ok(())
 }
 
-// The own keys of a new object to which this was done.
-fn keys_after<S: Store + Drop>(alloc: Global, words: &[&str]) -> Result<List<Key>, Fail> {
-    let mut store = S::empty(alloc, PartyId(1));
-    let id = store.make(None, PLAIN_MARKS, Slot::Plain)?;
-    for word in words {
-        step(alloc, &mut store, id, word)?;
+/// The name of what a slot is.
+pub fn slot_name(slot: &Slot) -> &'static str {
+    match slot {
+        Slot::Plain => "plain",
+        Slot::Chamber { .. } => "chamber",
+        _ => "other",
     }
-    Ok(store.keys(alloc, id)?)
-}
-
-// The keys have these names, in this order.
-fn are_named(rt: &impl Abort, alloc: Global, keys: &List<Key>, names: &[&str]) -> Result<(), Fail> {
-    assert_eq!(rt; keys.len(), names.len(), "{names:?}");
-    let mut rest = keys.as_slice().iter();
-    for name in names {
-        let named = key_named(alloc, name)?;
-        let same = match rest.next() {
-            Some(key) => is_same_key(key, &named),
-            None => false,
-        };
-        assert!(rt; same, "{name} in {names:?}");
-    }
-    Ok(())
-}
-
-// The rows hold of a store of any kind.
-fn rows_hold<S: Store + Drop>(rt: &impl Abort, alloc: Global) -> Result<(), Fail> {
-    for (words, names) in &ROWS {
-        let keys = keys_after::<S>(alloc, words)?;
-        are_named(rt, alloc, &keys, names)?;
-    }
-    Ok(())
-}
-
-#[test]
-fn own_keys_stand_in_the_normal_order(rt: HostRuntime) -> Result<(), Fail> {
-    rows_hold::<FlatStore>(&rt, rt.alloc())
 }

@@ -1,8 +1,7 @@
-// Sources with their tokens, sources that are refused, and a law of tokens.
+// Tables of what sources are divided into.
 #![tactic(auto)]
 
-pub mod laws;
 #[cfg(test)]
-mod refusals;
+mod rows;
 #[cfg(test)]
-mod tokens;
+mod words;

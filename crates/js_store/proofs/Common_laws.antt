@@ -1,12 +1,12 @@
 -- What frozen objects are as the common part is read as they are.
-use Rattle.std.proofs.Common.{◌≡◌, ℕ, zero, suc, ◌<◌, List, [], ◌∷◌, ◌++◌, length, map, replicate, arith, Option, Some, None, refl, sym, ap, ◌∙◌}
+use Rattle.std.proofs.Common.{◌≡◌, ℕ, zero, suc, ◌<◌, List, [], ◌∷◌, ◌++◌, length, map, replicate, arith, Option, Some, None, refl, ap, ◌∙◌}
 use Rattle.std.specs.List.{All, AllByRecursion}
 use Rattle.std.specs.Option.{option_map}
 use Rattle.std.proofs.lemmas.List.{get_or-map, length-map}
 use Rattle.lava_base.specs.declared.ids.MadeSymbol.{MadeSymbol}
 use Rattle.lava_base.specs.declared.ids.Ref.{Ref}
 use Rattle.lava_base.specs.declared.ids.Ref.TheVariants as reference
-use Rattle.js_text.specs.Identities.{Identity, Of_object, Of_symbol, symbol_identities, key_identities, value_identities}
+use Rattle.js_text.specs.Identities.{Identity, symbol_identities, key_identities, value_identities}
 use Rattle.js_text.specs.Maps.{map_symbol, map_key, map_value}
 use Rattle.js_text.specs.declared.value.Key.{Key}
 use Rattle.js_text.specs.declared.value.Key.TheVariants as key

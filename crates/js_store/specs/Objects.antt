@@ -95,6 +95,7 @@ ordinary_own_property_keys ps = filter is_text (keys_of ps) ++ filter is_symbol 
 abbrev pub with_prototype : {R S : Type 0} → Option R → Object R S → Object R S
 with_prototype prototype o = record o { prototype = prototype }
 
+-- ECMA-262 ValidateAndApplyPropertyDescriptor, steps 2 and 6, what becomes of the object
 abbrev pub with_change : {R S : Type 0} → (S → S → Bool) → Key S → Change R S → Object R S → Object R S
 with_change same key c o = record o { properties = after same key c o.properties }
 

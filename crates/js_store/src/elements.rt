@@ -39,7 +39,8 @@ impl Model for Elements {
 
     ghost view = { λ e. present 0 e.dense.items ++ e.sparse.entries };
 
-    ghost invariant = { λ e. (length e.dense.items ≤ 2 ^ 32) × AllByRecursion (λ k. length e.dense.items ≤ k) (keys_of e.sparse.entries) };
+    ghost invariant = { λ e. (length e.dense.items ≤ 2 ^ 32)
+        × AllByRecursion (λ k. length e.dense.items ≤ k) (keys_of e.sparse.entries) };
 }
 
 impl Elements {
@@ -148,7 +149,8 @@ fn insert(
     index: u32,
     property: Descriptor,
 ) -> Result<(), OutOfMemory>
-    ensures ok { OnOk result (sparse.new.entries ≡ insert_entry nat_cmp sparse.old.entries index property) }
+    ensures ok { let after = insert_entry nat_cmp sparse.old.entries index property in
+        OnOk result (sparse.new.entries ≡ after) }
     ensures err { OnErr result (sparse.new.entries ≡ sparse.old.entries) }
 {
     sparse.insert(index, property)?;

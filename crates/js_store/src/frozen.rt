@@ -75,7 +75,9 @@ impl FrozenStore {
     /// The own property of a key (ECMA-262, OrdinaryGetOwnProperty), with references of the reader.
     pub fn own(&self, id: CommonId, key: &Key) -> Option<&Descriptor>
         requires { id.0 < length self.now }
-        ensures { option_map (λ d. d.now) result ≡ ordinary_get_own_property same_made_symbol key.now (common_at self.now id.0).properties }
+        ensures { let found = option_map (λ d. d.now) result in
+            let o = common_at self.now id.0 in
+            found ≡ ordinary_get_own_property same_made_symbol key.now o.properties }
     {
         self.store.own(ObjId(id.0), key)
     }
@@ -83,7 +85,8 @@ impl FrozenStore {
     /// The own keys: array indices ascending, then other texts in order of creation, then symbols in order of creation (ECMA-262, OrdinaryOwnPropertyKeys).
     pub fn keys(&self, alloc: Global, id: CommonId) -> Result<List<Key>, OutOfMemory>
         requires { id.0 < length self.now }
-        ensures keys { IfOk result (λ keys. keys ≡ ordinary_own_property_keys (common_at self.now id.0).properties) }
+        ensures keys { let o = common_at self.now id.0 in
+            IfOk result (λ keys. keys ≡ ordinary_own_property_keys o.properties) }
         ensures order { IsInOrder same_made_symbol (common_at self.now id.0).properties }
     {
         self.store.keys(alloc, ObjId(id.0))

@@ -35,7 +35,13 @@ impl Model for FlatObject {
 
     ghost Value = { Object Ref MadeSymbol };
 
-    ghost view = { λ o. record { prototype = o.prototype; extensible = o.extensible; properties = o.properties; slot = o.slot; marks = o.marks } };
+    ghost view = { λ o. record {
+      prototype = o.prototype;
+      extensible = o.extensible;
+      properties = o.properties;
+      slot = o.slot;
+      marks = o.marks;
+    } };
 }
 
 impl FlatObject {
@@ -104,7 +110,8 @@ impl FlatObject {
 
     /// The own property of a key.
     pub(crate) fn own(&self, key: &Key) -> Option<&Descriptor>
-        ensures { option_map (λ d. d.now) result ≡ ordinary_get_own_property same_made_symbol key.now self.now.properties }
+        ensures { let found = option_map (λ d. d.now) result in
+            found ≡ ordinary_get_own_property same_made_symbol key.now self.now.properties }
     {
         self.properties.own(key)
     }

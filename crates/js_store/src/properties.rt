@@ -57,7 +57,8 @@ impl Properties {
     /// The property of a key.
     #[tactic(auto, using(crate::proofs::Halves_laws::own_index, crate::proofs::Halves_laws::own_named))]
     pub(crate) fn own(&self, key: &Key) -> Option<&Descriptor>
-        ensures { option_map (λ d. d.now) result ≡ ordinary_get_own_property same_made_symbol key.now self.now }
+        ensures { let found = option_map (λ d. d.now) result in
+            found ≡ ordinary_get_own_property same_made_symbol key.now self.now }
     {
         match key {
             Key::Index(index) => self.elements.get(*index),
@@ -118,7 +119,8 @@ fn write_named(
     key: Key,
     property: Descriptor,
 ) -> Result<(), OutOfMemory>
-    ensures ok { OnOk result (named.new.entries ≡ insert_entry (same_key same_made_symbol) named.old.entries key property) }
+    ensures ok { let same = same_key same_made_symbol in
+        OnOk result (named.new.entries ≡ insert_entry same named.old.entries key property) }
     ensures err { OnErr result (named.new.entries ≡ named.old.entries) }
 {
     named.insert(key, property)?;
@@ -127,7 +129,8 @@ fn write_named(
 
 /// Takes the property of a key that is no index out, if there is one.
 fn remove_named(named: &mut IndexMap<Key, Descriptor>, key: &Key)
-    ensures { named.new.entries ≡ remove_entry (same_key same_made_symbol key.now) named.old.entries }
+    ensures { let same = same_key same_made_symbol in
+        named.new.entries ≡ remove_entry (same key.now) named.old.entries }
 {
     named.shift_remove(key);
 }

@@ -46,7 +46,8 @@ pub trait Store {
     /// Makes an extensible object without properties, at the end of the list. Want of memory is answered too where the count would pass 4,294,967,295; the store is then as before.
     fn make(&mut self, proto: Option<Ref>, marks: Marks, slot: Slot) -> Result<ObjId, OutOfMemory>
         ensures id { IfOk result (λ id. id.0 ≡ length (objects self.old)) }
-        ensures ok { OnOk result (objects self.new ≡ objects self.old ++ fresh proto marks slot ∷ []) }
+        ensures ok { let made = fresh proto marks slot in
+            OnOk result (objects self.new ≡ objects self.old ++ made ∷ []) }
         ensures err { OnErr result (objects self.new ≡ objects self.old) }
         ensures party { owner self.new ≡ owner self.old };
 
@@ -67,31 +68,37 @@ pub trait Store {
     /// Puts another prototype in place, whatever the object is.
     fn set_proto(&mut self, id: ObjId, proto: Option<Ref>)
         requires { id.0 < length (objects self.old) }
-        ensures objects { objects self.new ≡ at_place (objects self.old) id.0 (with_prototype proto) }
+        ensures objects { let after = with_prototype proto in
+            objects self.new ≡ at_place (objects self.old) id.0 after }
         ensures party { owner self.new ≡ owner self.old };
 
     /// The own property of a key (ECMA-262, OrdinaryGetOwnProperty).
     fn own(&self, id: ObjId, key: &Key) -> Option<&Descriptor>
         requires { id.0 < length (objects self.now) }
-        ensures { option_map (λ d. d.now) result ≡ ordinary_get_own_property same_made_symbol key.now (object_at (objects self.now) id.0).properties };
+        ensures { let found = option_map (λ d. d.now) result in
+            let o = object_at (objects self.now) id.0 in
+            found ≡ ordinary_get_own_property same_made_symbol key.now o.properties };
 
     /// Writes a property as a change says. A key that is there keeps its place, and a new one goes to its place in the normal order.
     fn apply(&mut self, id: ObjId, key: Key, change: Change) -> Result<(), OutOfMemory>
         requires { id.0 < length (objects self.old) }
-        ensures ok { OnOk result (objects self.new ≡ at_place (objects self.old) id.0 (with_change same_made_symbol key change)) }
+        ensures ok { let after = with_change same_made_symbol key change in
+            OnOk result (objects self.new ≡ at_place (objects self.old) id.0 after) }
         ensures err { OnErr result (objects self.new ≡ objects self.old) }
         ensures party { owner self.new ≡ owner self.old };
 
     /// Takes the property of a key out, if there is one.
     fn remove(&mut self, id: ObjId, key: &Key)
         requires { id.0 < length (objects self.old) }
-        ensures objects { objects self.new ≡ at_place (objects self.old) id.0 (without_property same_made_symbol key.now) }
+        ensures objects { let after = without_property same_made_symbol key.now in
+            objects self.new ≡ at_place (objects self.old) id.0 after }
         ensures party { owner self.new ≡ owner self.old };
 
     /// The own keys: array indices ascending, then other texts in order of creation, then symbols in order of creation (ECMA-262, OrdinaryOwnPropertyKeys).
     fn keys(&self, alloc: Global, id: ObjId) -> Result<List<Key>, OutOfMemory>
         requires { id.0 < length (objects self.now) }
-        ensures keys { IfOk result (λ keys. keys ≡ ordinary_own_property_keys (object_at (objects self.now) id.0).properties) }
+        ensures keys { let o = object_at (objects self.now) id.0 in
+            IfOk result (λ keys. keys ≡ ordinary_own_property_keys o.properties) }
         ensures order { IsInOrder same_made_symbol (object_at (objects self.now) id.0).properties };
 
     /// Whether new properties may be made (ECMA-262, OrdinaryIsExtensible).

@@ -1,5 +1,5 @@
 -- The key that a text is by the relation is the one that the function gives.
-use Rattle.std.proofs.Common.{◌≡◌, ℕ, ◌<◌, ◌≤◌, Bool, true, false, not, ◌&&◌, ◌==◌, nat_lt, nat_le, List, [], ◌∷◌, length, get_or, if◌then◌else◌, refl, sym, ap, subst, ◌∙◌, arith}
+use Rattle.std.proofs.Common.{◌≡◌, ℕ, ◌<◌, ◌≤◌, Bool, true, false, not, ◌&&◌, ◌==◌, nat_lt, nat_le, List, [], ◌∷◌, length, get_or, if◌then◌else◌, refl, sym, ap, ◌∙◌, arith}
 use Rattle.std.proofs.lemmas.Bool.{and_parts, cases_Bool, true≢false}
 use Rattle.std.proofs.lemmas.Bool.{leb-true, le-leb}
 use Rattle.std.proofs.lemmas.Bool.Decides.{Decides-ltb}
@@ -10,7 +10,7 @@ use Rattle.std.specs.Char.{digit_value}
 use Rattle.std.specs.Cmp.{unsigned_Decides}
 use Rattle.std.specs.List.{list_all}
 use Rattle.std.specs.Str.Parse.{AllDigits, digits_value}
-use Rattle.js_text.specs.Indices.{WritesIndex, WritesNoIndex, IsKeyOf, is_digit, is_short, has_leading_zero, is_array_index, key_of_text}
+use Rattle.js_text.specs.Indices.{IsKeyOf, is_digit, is_short, has_leading_zero, is_array_index, key_of_text}
 use Rattle.js_text.specs.declared.value.Key.{Key}
 use Rattle.js_text.specs.declared.value.Key.TheVariants as key
 use Rattle.js_text.proofs.Decimals.{IsShort, short_index, value_of_index, index_of_short}
@@ -39,14 +39,14 @@ lead_decides units = (
     by_lead : not (has_leading_zero units) ≡ true → get_or units 0 0 ≡ 48 → length units ≤ 1
     by_lead e h = ⊎_elim
         (λ t. let l = (both (nat_lt 1 (length units)) (get_or units 0 0 == 48) (less 1 (length units)) (unsigned_Decides (get_or units 0 0) 48)).1 in
-          absurd (true≢false (sym e ∙ ap not (l ((less 1 (length units)).0 t, h)))))
+        absurd (true≢false (sym e ∙ ap not (l ((less 1 (length units)).0 t, h)))))
         (λ f. ⊎_elim (λ k. absurd (true≢false (sym ((less 1 (length units)).1 k) ∙ f))) (λ k. k) (order 1 (length units)))
         (cases_Bool (nat_lt 1 (length units)))
 
     by_short : (get_or units 0 0 ≡ 48 → length units ≤ 1) → not (has_leading_zero units) ≡ true
     by_short h = ⊎_elim
         (λ t. let parts = (both (nat_lt 1 (length units)) (get_or units 0 0 == 48) (less 1 (length units)) (unsigned_Decides (get_or units 0 0) 48)).0 t in
-          absurd (omega (arith, parts.0, h parts.1)))
+        absurd (omega (arith, parts.0, h parts.1)))
         (λ f. ap not f)
         (cases_Bool (has_leading_zero units))
 
@@ -77,7 +77,7 @@ key_is units (key.Index n) h =
 key_is units (key.Text t) h =
     ap key.Text h.0
     ∙ ⊎_elim
-      (λ e. let s = short_of units e in absurd (h.1 (digits_value 10 units) (index_of_short units s.0 s.1)))
-      (λ e. sym (key_by units false e))
-      (cases_Bool (is_array_index units))
+    (λ e. let s = short_of units e in absurd (h.1 (digits_value 10 units) (index_of_short units s.0 s.1)))
+    (λ e. sym (key_by units false e))
+    (cases_Bool (is_array_index units))
 key_is units (key.Symbol s) h = absurd h

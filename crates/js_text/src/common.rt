@@ -2,7 +2,7 @@
 
 ghost use Rattle.std.specs.Prelude.{◌≡◌, ℕ, ◌<◌, List, map, IfSome, IsTrue, slice_get};
 ghost use Rattle.std.specs.Option.{option_copied};
-ghost use Rattle.js_text.specs.CommonPaths.{common_paths, all_rise};
+ghost use Rattle.js_text.specs.CommonPaths.{common_paths, IsPathOf, all_rise};
 ghost use Rattle.js_text.specs.Search.{order_of_units};
 
 use lava_base::ids::CommonId;
@@ -245,8 +245,8 @@ pub fn common_path(id: CommonId) -> Option<&'static str>
 
 /// The common object with this path. None comes exactly where there is no such object.
 pub fn common_id(path: &str) -> Option<CommonId>
-    ensures place { IfSome result (λ id. slice_get common_paths id.0 ≡ Some path.now) }
-    ensures each { (place : ℕ) → slice_get common_paths place ≡ Some path.now → result ≡ Some (record { 0 = place }) }
+    ensures place { IfSome result (λ id. IsPathOf path.now id.0) }
+    ensures each { (place : ℕ) → IsPathOf path.now place → result ≡ Some (record { 0 = place }) }
 {
     match place_of(&COMMON_PATHS, path) {
         Some(place) => Some(CommonId(place as u32)),
@@ -256,7 +256,8 @@ pub fn common_id(path: &str) -> Option<CommonId>
 
 /// The paths stand in byte order, and none stands twice.
 pub fn common_paths_rise()
-    ensures { (i j : ℕ) (a b : List ℕ) → i < j → slice_get common_paths i ≡ Some a → slice_get common_paths j ≡ Some b → order_of_units a b ≡ Ordering.Less }
+    ensures { (i j : ℕ) (a b : List ℕ) → i < j → IsPathOf a i → IsPathOf b j
+        → order_of_units a b ≡ Ordering.Less }
 {}
 
 /// The text at a place, counted from 0.
@@ -269,32 +270,10 @@ fn text_at(texts: &[&'static str], at: usize) -> Option<&'static str>
 /// The place of a text among texts that rise.
 fn place_of(texts: &[&str], text: &str) -> Option<usize>
     requires { IsTrue (all_rise (map (λ text. text.now) texts.now)) }
-    ensures place { IfSome result (λ at. slice_get (map (λ text. text.now) texts.now) at ≡ Some text.now) }
-    ensures each { (at : ℕ) → slice_get (map (λ text. text.now) texts.now) at ≡ Some text.now → result ≡ Some at }
+    ensures place { let known = map (λ text. text.now) texts.now in
+        IfSome result (λ at. slice_get known at ≡ Some text.now) }
+    ensures each { let known = map (λ text. text.now) texts.now in
+        (at : ℕ) → slice_get known at ≡ Some text.now → result ≡ Some at }
 {
     texts.binary_search(&text).ok()
-}
-
-#[cfg(test)]
-mod tests {
-    use crate::common::{common_id, common_path};
-    use lava_base::ids::CommonId;
-
-    // No clause names a path outside the definition.
-    #[test]
-    fn common_objects_are_found_by_their_paths(rt: HostRuntime) {
-        let cases = [
-            ("Array", 0),
-            ("Array.prototype.push", 18),
-            ("get Map.prototype.size", 183),
-            ("set TypeError.prototype.name", 221),
-        ];
-        for (path, place) in cases {
-            assert_eq!(rt; common_path(CommonId(place)), Some(path));
-            assert_eq!(rt; common_id(path), Some(CommonId(place)));
-        }
-        assert_eq!(rt; common_path(CommonId(222)), None);
-        assert_eq!(rt; common_id("Array.prototype"), Some(CommonId(4)));
-        assert_eq!(rt; common_id("Map.prototype.size"), None);
-    }
 }

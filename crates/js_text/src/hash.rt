@@ -72,7 +72,8 @@ impl Hash for Text {
 impl Hash for Symbol {
     ghost hash_input = { symbol_writes made_symbol_writes };
 
-    ghost respects_eq = { λ a b h. ap (symbol_writes made_symbol_writes) ((same_symbol_decides same_made_symbol_decides a b).0 h) };
+    ghost respects_eq = { λ a b h. ap (symbol_writes made_symbol_writes)
+        ((same_symbol_decides same_made_symbol_decides a b).0 h) };
 
     fn hash<H: Hasher>(&self, state: &mut H) {
         match self {
@@ -92,7 +93,8 @@ impl Hash for Symbol {
 impl Hash for Key {
     ghost hash_input = { key_writes made_symbol_writes };
 
-    ghost respects_eq = { λ a b h. ap (key_writes made_symbol_writes) ((same_key_decides same_made_symbol_decides a b).0 h) };
+    ghost respects_eq = { λ a b h. ap (key_writes made_symbol_writes)
+        ((same_key_decides same_made_symbol_decides a b).0 h) };
 
     fn hash<H: Hasher>(&self, state: &mut H) {
         match self {

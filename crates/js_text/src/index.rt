@@ -48,7 +48,8 @@ fn has_leading_zero(text: &Text) -> bool
 /// The number that at most ten decimal digits write, and none where a unit is no digit.
 fn value_of_digits(text: &Text) -> Option<u64>
     requires { length text.now ≤ MAX_DIGITS }
-    ensures { MatchOption result (¬ (AllDigits 10 text.now)) (λ value. AllDigits 10 text.now × (value ≡ digits_value 10 text.now)) }
+    ensures { MatchOption result (¬ (AllDigits 10 text.now))
+        (λ value. AllDigits 10 text.now × (value ≡ digits_value 10 text.now)) }
 {
     let mut value = 0;
     for at in 0..text.len() {

@@ -382,7 +382,8 @@ pub fn native_of(name: &str) -> Option<Native>
 /// The first of these natives that has the name.
 fn first_named(natives: &[Native], name: &str) -> Option<Native>
     ensures named { IfSome result (λ n. native_name n ≡ name.now) }
-    ensures none { IfNone result ((k : ℕ) (d : Native) → k < length natives.now → ¬ (native_name (slice_index_or natives.now k d) ≡ name.now)) }
+    ensures none { IfNone result ((k : ℕ) (d : Native) → k < length natives.now
+        → ¬ (native_name (slice_index_or natives.now k d) ≡ name.now)) }
 {
     for native in natives {
         if native.name() == name {
@@ -390,28 +391,4 @@ fn first_named(natives: &[Native], name: &str) -> Option<Native>
         }
     }
     None
-}
-
-#[cfg(test)]
-mod tests {
-    use crate::native::{Native, native_of};
-
-    // No clause names a native outside the definitions.
-    #[test]
-    fn natives_are_found_by_their_names(rt: HostRuntime) {
-        let cases = [
-            (Native::GetProto, "getProto", 1, Some(1), false),
-            (Native::Concat, "concat", 26, None, false),
-            (Native::MapSet, "mapSet", 37, Some(4), true),
-            (Native::IsModule, "isModule", 52, Some(1), false),
-        ];
-        for (native, name, number, operands, crosses) in cases {
-            assert_eq!(rt; native.name(), name);
-            assert_eq!(rt; native_of(name), Some(native));
-            assert_eq!(rt; native.number(), number);
-            assert_eq!(rt; native.operands(), operands);
-            assert_eq!(rt; native.crosses(), crosses);
-        }
-        assert_eq!(rt; native_of("getproto"), None);
-    }
 }

@@ -109,7 +109,8 @@ fn pair(alloc: Global, left: Text, right: Text) -> Result<Text, OutOfMemory>
 
 /// The two texts, one after the other, where one may be two joins higher than the other: then it is turned, as in a tree of Adelson-Velsky and Landis.
 fn balanced(alloc: Global, left: &Text, right: &Text) -> Result<Text, OutOfMemory>
-    requires { (0 < length left.now) × (0 < length right.now) × (length left.now + length right.now ≤ MAX_UNITS) }
+    requires { (0 < length left.now) × (0 < length right.now)
+        × (length left.now + length right.now ≤ MAX_UNITS) }
     ensures { IfOk result (λ text. text ≡ left.now ++ right.now) }
 {
     let (l, r) = (left.height(), right.height());

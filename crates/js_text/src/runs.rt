@@ -24,7 +24,8 @@ pub(crate) fn even_runs<'a>(a: &'a Text, at: u32, b: &'a Text, place: u32) -> (&
     ensures second { result.1.now ≡ take (length result.0.now) (drop place b.now) }
     ensures even { length result.1.now ≡ length result.0.now }
     ensures some { 0 < length result.0.now }
-    ensures within { (at + length result.0.now ≤ length a.now) × (place + length result.0.now ≤ length b.now) }
+    ensures within { (at + length result.0.now ≤ length a.now)
+        × (place + length result.0.now ≤ length b.now) }
 {
     let first = a.run_at(at);
     let second = b.run_at(place);

@@ -294,8 +294,10 @@ impl Text {
     /// The units of this text, and then those of the other. `TooLong` comes exactly where they are more than `MAX_UNITS`.
     pub fn concat(&self, alloc: Global, other: &Text) -> Result<Text, TextFault>
         ensures units { IfOk result (λ text. text ≡ self.now ++ other.now) }
-        ensures too_long { IsErrOf result TextFault.TooLong ↔ (MAX_UNITS < length self.now + length other.now) }
-        ensures memory { length self.now + length other.now ≤ MAX_UNITS → IsOkUnless result TextFault.OutOfMemory }
+        ensures too_long { IsErrOf result TextFault.TooLong
+            ↔ (MAX_UNITS < length self.now + length other.now) }
+        ensures memory { length self.now + length other.now ≤ MAX_UNITS
+            → IsOkUnless result TextFault.OutOfMemory }
     {
         if self.len() + other.len() > MAX_UNITS {
             return Err(TextFault::TooLong);
@@ -342,7 +344,8 @@ impl Text {
     fn character_at(&self, at: u32) -> (char, u32)
         requires { at < length self.now }
         ensures bound { (at < result.1) × (result.1 ≤ length self.now) }
-        ensures first { utf16_lossy_chars (drop at self.now) ≡ result.0 ∷ utf16_lossy_chars (drop result.1 self.now) }
+        ensures first { utf16_lossy_chars (drop at self.now)
+            ≡ result.0 ∷ utf16_lossy_chars (drop result.1 self.now) }
     {
         let len = self.len();
         let unit = self.unit(at);

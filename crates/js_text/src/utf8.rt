@@ -17,9 +17,11 @@ use std::alloc::Global;
 pub fn from_utf8(alloc: Global, bytes: &[u8]) -> Result<Text, TextFault>
     ensures utf8 { OnOk result (IsUtf8 bytes.now) }
     ensures units { IfOk result (λ text. text ≡ units_of bytes.now) }
-    ensures not_utf8 { (at : ℕ) → at < 2 ^ 32 → IsErrOf result (fault.NotUtf8 at) ↔ IsFault bytes.now at }
+    ensures not_utf8 { (at : ℕ) → at < 2 ^ 32
+        → IsErrOf result (fault.NotUtf8 at) ↔ IsFault bytes.now at }
     ensures too_long { IsErrOf result TextFault.TooLong ↔ IsTooLong bytes.now }
-    ensures memory { IsUtf8 bytes.now → length (units_of bytes.now) ≤ MAX_UNITS → IsOkUnless result TextFault.OutOfMemory }
+    ensures memory { IsUtf8 bytes.now → length (units_of bytes.now) ≤ MAX_UNITS
+        → IsOkUnless result TextFault.OutOfMemory }
 {
     match str::from_utf8(bytes) {
         Ok(text) => text_of_str(alloc, text),
@@ -31,7 +33,8 @@ pub fn from_utf8(alloc: Global, bytes: &[u8]) -> Result<Text, TextFault>
 fn text_of_str(alloc: Global, text: &str) -> Result<Text, TextFault>
     ensures units { IfOk result (λ made. made ≡ units_of text.now) }
     ensures too_long { IsErrOf result TextFault.TooLong ↔ (MAX_UNITS < length (units_of text.now)) }
-    ensures memory { length (units_of text.now) ≤ MAX_UNITS → IsOkUnless result TextFault.OutOfMemory }
+    ensures memory { length (units_of text.now) ≤ MAX_UNITS
+        → IsOkUnless result TextFault.OutOfMemory }
 {
     let len = capped_len(text);
     if len > MAX_UNITS as usize {

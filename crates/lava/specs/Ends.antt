@@ -1,5 +1,5 @@
 -- How the program ends.
-use Rattle.std.specs.Prelude.{◌≡◌, ℕ, List, None}
+use Rattle.std.specs.Prelude.{ℕ, List, None}
 use Rattle.lava_streams.specs.Files.{Files}
 use Rattle.lava_streams.specs.Outside.{Stand, outside}
 use Rattle.lava_cli.specs.Answers.{Answers}

@@ -8,7 +8,7 @@ use Rattle.lava_cli.specs.declared.outcome.TheConstants.{DONE_STATUS, OUTSIDE_ST
 use Rattle.lava_cli.specs.declared.program.Statement.{Statement}
 use Rattle.lava_cli.specs.declared.outcome.Outcome.{Outcome}
 use Rattle.lava_cli.specs.declared.outcome.Outcome.TheVariants as outcome
-use Rattle.lava_cli.specs.Answers.{directory_of, file_of, IsFileOf, IsFirstForm, IsUnsupported, ComesIn, Comes, status_of, Writes, Reports, Answers, IsDone, SomeFailed, StopsEarly, Tells, MissingComes, UnsupportedComes, RunComes}
+use Rattle.lava_cli.specs.Answers.{directory_of, file_of, IsFileOf, IsFirstForm, IsUnsupported, ComesIn, Comes, status_of, Writes, Reports, Answers, IsDone, SomeFailed, StopsEarly, MissingComes, UnsupportedComes, RunComes}
 
 -- a folder that tells its files told what was read
 told_is : (told : Option Files) (d : List ℕ) (r : FileRead) (files : Files) → told ≡ Some files → IsFileOf told d r → r ≡ file_of files d

@@ -3,8 +3,7 @@ use Rattle.std.proofs.Common.{◌≡◌, ℕ, List, Ok}
 use Rattle.js_lexer.specs.declared.token.Token.{Token as SourceToken}
 use Rattle.js_lexer.specs.Sources.{IsTokens}
 use Rattle.js_lexer.proofs.Answers_laws.{only_tokens}
-use Rattle.lava_cli.specs.declared.program.Statement.{Statement}
-use Rattle.lava_cli.specs.Syntax.{IsFirstFormText, One_program}
+use Rattle.lava_cli.specs.Syntax.{One_program}
 use Rattle.lava_cli.proofs.Whole.{AreAll, read_complete, read_unique}
 
 -- a source is divided into one list of tokens at most

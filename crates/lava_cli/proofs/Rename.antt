@@ -2,16 +2,12 @@
 use Rattle.std.proofs.Common.{◌≡◌, ℕ, List, map, Option, refl, sym, ap, ◌∙◌, subst}
 use Rattle.std.specs.Option.{option_map}
 use Rattle.js_text.specs.Naming.{Naming}
-use Rattle.js_text.specs.Maps.{map_symbol, map_key, map_value}
+use Rattle.js_text.specs.Maps.{map_symbol, map_value}
 use Rattle.js_text.specs.declared.value.Value as v
 use Rattle.js_text.proofs.Moves.{to, to_symbol, key_moves, value_moves}
 use Rattle.lava_cli.specs.Terms.{Template}
-use Rattle.js_text.specs.declared.value.Key.{Key}
-use Rattle.js_desc.specs.Maps.{map_descriptor}
-use Rattle.js_desc.specs.declared.descriptor.Descriptor.{Descriptor}
-use Rattle.js_desc.proofs.Moves.{option_moves, list_moves, reference_moves, values_move, descriptor_moves}
+use Rattle.js_desc.proofs.Moves.{option_moves, list_moves, reference_moves, values_move}
 use Rattle.js_desc.proofs.Renamed.{ua, ua_to, back, there_and_back}
-use Rattle.js_store.specs.Maps.{map_property}
 use Rattle.js_store.proofs.Moves.{properties_move}
 use Rattle.lava_cli.specs.Objects.{Slot, Plain, Closure, Object, CommonPart, map_slot, map_object}
 use Rattle.lava_cli.specs.Asks.{Ask, HasProperty, Get, Call, Import, Reply, Value, Flag, Throw, CrossBody, Asks, Answers}

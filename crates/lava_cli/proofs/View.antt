@@ -8,7 +8,7 @@ use Rattle.lava_base.specs.SameSymbols.{same_made_symbol_decides}
 use Rattle.lava_base.specs.declared.ids.MadeSymbol.{MadeSymbol}
 use Rattle.lava_base.specs.declared.ids.Ref.{Ref}
 use Rattle.js_text.specs.Identities.{Identity, Of_object, Of_symbol}
-use Rattle.js_text.specs.Naming.{Foreign, origin_of, naming_of}
+use Rattle.js_text.specs.Naming.{origin_of, naming_of}
 use Rattle.js_text.specs.Values.{IsSameness}
 use Rattle.lava_cli.specs.Asks.{CrossBody}
 use Rattle.lava_cli.specs.Party.{Party}

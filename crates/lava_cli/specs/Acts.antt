@@ -1,6 +1,5 @@
 -- What each core form does first, and what follows. A row sees the running party's own things and no others.
-use Rattle.std.specs.Prelude.{ℕ, ◌+◌, ◌-◌, ◌*◌, Bool, true, false, ◌&&◌, not, nat_le, nat_eq, List, [], ◌∷◌, ◌++◌, length, replicate, fold, Option, Some, None, if◌then◌else◌, codes}
-use Rattle.std.specs.List.{list_all}
+use Rattle.std.specs.Prelude.{ℕ, ◌+◌, ◌-◌, Bool, true, false, List, [], ◌∷◌, ◌++◌, length, replicate, Option, Some, None, codes}
 use Rattle.js_text.specs.Naming.{Naming, Origin, Own, Common, Foreign}
 use Rattle.js_text.specs.Indices.{key_of_text}
 use Rattle.js_text.specs.Maps.{map_symbol, map_value}
@@ -77,7 +76,8 @@ ask_at names _ x p k = faults p
 
 -- FUNCTIONS AND MODULES
 
--- a function's body gives what it returns, or undefined. ECMA-262: OrdinaryCallEvaluateBody
+-- a function's body gives what it returns, or undefined
+-- ECMA-262 OrdinaryCallEvaluateBody
 abbrev pub body_ends : {R S : Type 0} → Completion R S → Party R S → Act R S
 body_ends (Returned v) p = give v p
 body_ends (Replied (Value v)) p = give value.Undefined p
@@ -159,7 +159,9 @@ init_slot hops s i v p = give value.Undefined (initialised p (outwards p hops s)
 abbrev pub get_global : {R S : Type 0} → Naming R S → Key S → Party R S → Act R S
 get_global names k p = Decide_at (Own 0) (ask.Get k (value.Ref (names.own 0))) p as_it_is
 
--- a free name that the global lacks is a fault, or undefined where it is soft. ECMA-262: GetValue of an unresolvable reference, HasBinding of the global environment
+-- a free name that the global lacks is a fault, or undefined where it is soft
+-- ECMA-262 GetValue, of an unresolvable reference
+-- ECMA-262 Global Environment Records, HasBinding
 abbrev pub found_global : {R S : Type 0} → Naming R S → Key S → (soft : Bool) → Completion R S → Party R S → Act R S
 found_global names k soft (Replied (Flag true)) p = get_global names k p
 found_global names k true (Replied (Flag false)) p = give value.Undefined p
@@ -184,14 +186,15 @@ all_values (And_then t ts) s vs go p = Evaluate t s p (with_value (λ w q. all_v
 abbrev pub call_with : {R S : Type 0} → Naming R S → (function this : v.Value R S) → List (v.Value R S) → Party R S → Act R S
 call_with names f this arguments p = ask_at names f (ask.Call this arguments) p as_it_is
 
--- ECMA-262: EvaluateCall
+-- ECMA-262 EvaluateCall
 abbrev pub call_function : {R S : Type 0} → Naming R S → Terms → (scope : ℕ) → v.Value R S → Party R S → Act R S
 call_function names ts s f p = all_values ts s [] (call_with names f value.Undefined) p
 
 abbrev pub call_on_function : {R S : Type 0} → Naming R S → (this : v.Value R S) → Terms → (scope : ℕ) → v.Value R S → Party R S → Act R S
 call_on_function names this ts s f p = all_values ts s [] (call_with names f this) p
 
--- a value made a key. ECMA-262: ToPropertyKey. The first form has texts alone, and other values are a fault
+-- a value made a key. The first form has texts alone, and other values are a fault
+-- ECMA-262 ToPropertyKey, of texts and symbols
 abbrev pub get_key : {R S : Type 0} → Naming R S → (object key : v.Value R S) → Party R S → Next R S → Act R S
 get_key names o (value.Text u) p k = ask_at names o (ask.Get (key_of_text u) o) p k
 get_key names o (value.Symbol s) p k = ask_at names o (ask.Get (key.Symbol s) o) p k
@@ -206,7 +209,8 @@ call_on_object names k ts s o p = Evaluate k s p (with_value (call_on_key names 
 abbrev pub return_value : {R S : Type 0} → v.Value R S → Party R S → Act R S
 return_value v p = Give (Returned v) p
 
--- a function object over a scope. ECMA-262: InstantiateOrdinaryFunctionObject. Its own properties come with the object model
+-- a function object over a scope. Its own properties come with the object model
+-- ECMA-262 InstantiateOrdinaryFunctionObject
 abbrev pub function_object : {R S : Type 0} → Naming R S → Template → (scope : ℕ) → Party R S → Object R S
 function_object names t s p =
     record { prototype = Some (names.common p.common.function_prototype); extensible = true; properties = []; slot = Closure t s; marks = function_marks }

@@ -15,6 +15,7 @@ use Rattle.lava_cli.specs.Journal.{Application}
 
 -- the global of a package that is granted the whole console: an ordinary object of the class Global, which is the first object of its party.
 -- The names of the intrinsics come to it with the common part
+-- SES Compartment, its global
 abbrev pub global_object : CommonPart → Object Ref MadeSymbol
 global_object common =
     record (ordinary (Some (ref.Common (record { 0 = common.object_prototype }))) (open_property (key.Text (codes "console")) (value.Ref (host_ref 0)) ∷ []))

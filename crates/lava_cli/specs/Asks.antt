@@ -1,8 +1,9 @@
--- What is asked of an object or a party, and what is answered. ECMA-262: Object Internal Methods and Internal Slots.
+-- What is asked of an object or a party, and what is answered.
 use Rattle.std.specs.Prelude.{ℕ, Bool, List, Option}
 use Rattle.js_text.specs.declared.value.Value as v
 use Rattle.js_text.specs.declared.value.Key.{Key}
 
+-- ECMA-262 Object Internal Methods and Internal Slots, three of the methods
 pub data Ask (R S : Type 0) : Type 0 where
   HasProperty : Key S → Ask R S
   Get : Key S → (receiver : v.Value R S) → Ask R S
@@ -15,7 +16,8 @@ pub data Reply (R S : Type 0) : Type 0 where
   Flag : Bool → Reply R S
   Throw : v.Value R S → Reply R S
 
--- how a form ends: with a reply, or by leaving its body with a value. ECMA-262: The Completion Record Specification Type
+-- how a form ends: with a reply, or by leaving its body with a value
+-- ECMA-262 The Completion Record Specification Type
 pub data Completion (R S : Type 0) : Type 0 where
   Replied : Reply R S → Completion R S
   Returned : v.Value R S → Completion R S

@@ -1,5 +1,4 @@
 -- What one object decides: the reply, the next ask that it makes, or the body that it runs. None of these methods changes the object.
--- ECMA-262: OrdinaryHasProperty, OrdinaryGet, [[Call]] of ECMAScript function objects.
 use Rattle.std.specs.Prelude.{ℕ, Bool, true, false, List, [], Option, Some, None}
 use Rattle.js_text.specs.Maps.{map_symbol}
 use Rattle.js_text.specs.Naming.{Naming, Origin, Own, Common, Foreign}
@@ -27,6 +26,7 @@ abbrev pub has_above : {R S : Type 0} → Key S → Option R → Decision R S
 has_above key None = Done (Flag false)
 has_above key (Some o) = Ask o (HasProperty key)
 
+-- ECMA-262 OrdinaryHasProperty
 abbrev pub has_own : {R S : Type 0} → Key S → Option R → Option (Descriptor R S) → Decision R S
 has_own key prototype None = has_above key prototype
 has_own key prototype (Some d) = Done (Flag true)
@@ -39,11 +39,13 @@ abbrev pub get_by : {R S : Type 0} → v.Value R S → Option R → Decision R S
 get_by receiver None = Done (Value value.Undefined)
 get_by receiver (Some getter) = Ask getter (Call receiver [])
 
+-- ECMA-262 OrdinaryGet
 abbrev pub get_own : {R S : Type 0} → Key S → v.Value R S → Option R → Option (Descriptor R S) → Decision R S
 get_own key receiver prototype None = get_above key receiver prototype
 get_own key receiver prototype (Some (Data v w e c)) = Done (Value v)
 get_own key receiver prototype (Some (Accessor g s e c)) = get_by receiver g
 
+-- ECMA-262 ECMAScript Function Objects, [[Call]]
 abbrev pub called : {R S : Type 0} → v.Value R S → List (v.Value R S) → Slot R S → Decision R S
 called this arguments Plain = Fault
 called this arguments (Closure t s) = Run t s this arguments

@@ -1,5 +1,5 @@
--- Object records of a run. ECMA-262: Object Internal Methods and Internal Slots.
-use Rattle.std.specs.Prelude.{ℕ, Bool, true, false, List, [], Option, None, get_or, map}
+-- Object records of a run.
+use Rattle.std.specs.Prelude.{ℕ, Bool, true, List, [], Option, None, get_or, map}
 use Rattle.std.specs.Option.{option_map}
 use Rattle.lava_base.specs.declared.marks.Class.TheVariants as class
 use Rattle.lava_base.specs.declared.marks.Marks.{Marks}
@@ -15,6 +15,7 @@ pub data Slot (R S : Type 0) : Type 0 where
   Plain : Slot R S
   Closure : Template → (scope : ℕ) → Slot R S
 
+-- ECMA-262 Object Internal Methods and Internal Slots
 pub record Object (R S : Type 0) : Type 0 where
   pub prototype : Option R
   pub extensible : Bool

@@ -6,6 +6,7 @@ use Rattle.lava_cli.specs.Terms.{Template}
 use Rattle.lava_cli.specs.Objects.{Object, CommonPart}
 
 -- a scope: the scope in which it stands, and its slots, of which those without a value are not initialised
+-- ECMA-262 Declarative Environment Records
 pub record Scope (R S : Type 0) : Type 0 where
   pub outer : ℕ
   pub slots : List (Option (Value R S))

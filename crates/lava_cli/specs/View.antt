@@ -1,5 +1,5 @@
 -- A party's view: the foreign objects and made symbols that came to it have the numbers of their coming.
-use Rattle.std.specs.Prelude.{◌≡◌, ◌≢◌, ℕ, Bool, true, false, not, ◌&&◌, ◌||◌, List, [], ◌∷◌, length, map, if◌then◌else◌, ⊤}
+use Rattle.std.specs.Prelude.{◌≡◌, ◌≢◌, ℕ, Bool, false, not, ◌&&◌, ◌||◌, List, [], ◌∷◌, length, map, if◌then◌else◌, ⊤}
 use mathlib.Core.Equiv.{◌≃◌}
 use Rattle.lava_base.specs.Ids.{same_ref, same_made_symbol}
 use Rattle.lava_base.specs.declared.ids.MadeSymbol.{MadeSymbol}

@@ -57,7 +57,8 @@ fn after_let(
 ) -> Result<bool, OutOfMemory>
     ensures { IfOk result (λ goes_on. (env : Environment) (lines : List (List Constant)) →
         let statement = statement_form.Let name.now value.now in
-        Says names.old env → Goes_on goes_on names.new lines (after_statement env lines statement)) }
+        let after = after_statement env lines statement in
+        Says names.old env → Goes_on goes_on names.new lines after) }
 {
     match expression_value(alloc, names, value)? {
         Some(constant) => declare(alloc, names, name, Binding::Value(constant)),
@@ -75,7 +76,8 @@ fn after_function(
 ) -> Result<bool, OutOfMemory>
     ensures { IfOk result (λ goes_on. (env : Environment) (lines : List (List Constant)) →
         let statement = statement_form.Function name.now parameters.now operand.now in
-        Says names.old env → Goes_on goes_on names.new lines (after_statement env lines statement)) }
+        let after = after_statement env lines statement in
+        Says names.old env → Goes_on goes_on names.new lines after) }
 {
     let Some(answer) = answer_in(names, parameters, operand)? else {
         return Ok(false);

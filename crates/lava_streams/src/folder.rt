@@ -44,7 +44,8 @@ pub trait Folder {
     fn list(&mut self, alloc: Global, dir: &str) -> Result<Listing, ReadFault>
         ensures tells { (stand self.new).told ≡ (stand self.old).told }
         ensures counts { Counts (stand self.old).count (stand self.new).count result }
-        ensures gives { ForTold (stand self.old).told (λ files. IfOk result (λ r. r ≡ listing_of files dir.now)) };
+        ensures gives { let told = (stand self.old).told in
+            ForTold told (λ files. IfOk result (λ r. r ≡ listing_of files dir.now)) };
 
     /// The bytes of a file that has at most `limit` of them.
     fn read(&mut self, alloc: Global, path: &str, limit: u32) -> Result<FileRead, ReadFault>

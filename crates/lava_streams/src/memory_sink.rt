@@ -35,7 +35,8 @@ impl Model for MemorySink {
 impl MemorySink {
     /// An empty sink with room for `room` bytes. It takes all the memory that the sink ever needs for them.
     pub fn with_room(alloc: Global, room: u32) -> Result<MemorySink, OutOfMemory>
-        ensures { IfOk result (λ sink. sink ≡ record { bytes = []; room = room; failing = no_failures }) }
+        ensures { IfOk result (λ sink.
+            sink ≡ record { bytes = []; room = room; failing = no_failures }) }
     {
         Ok(MemorySink {
             bytes: Vec::with_capacity(alloc, room as usize)?,

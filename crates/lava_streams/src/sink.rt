@@ -21,6 +21,7 @@ pub trait Sink {
         ensures counts { CountsFailed (stand self.old).count (stand self.new).count result }
         ensures ok { let now = (stand self.new).told in
             ForTold (stand self.old).told (λ held. OnOk result (now ≡ Some (held ++ piece.now))) }
-        ensures err { let now = (stand self.new).told in
-            ForTold (stand self.old).told (λ held. OnErr result (AppendsPrefix held piece.now now)) };
+        ensures err { let told = (stand self.old).told in
+            let now = (stand self.new).told in
+            ForTold told (λ held. OnErr result (AppendsPrefix held piece.now now)) };
 }

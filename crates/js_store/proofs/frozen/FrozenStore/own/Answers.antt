@@ -1,5 +1,5 @@
 -- A frozen object is read as it is.
-use Rattle.std.proofs.Common.{sym, ap, subst, ◌∙◌}
+use Rattle.std.proofs.Common.{sym, ap, ◌∙◌}
 use Rattle.js_store.proofs.Common_laws.{seen}
 use Rattle.lava_base.specs.Ids.{same_made_symbol}
 use Rattle.js_store.specs.Objects.{ordinary_get_own_property}

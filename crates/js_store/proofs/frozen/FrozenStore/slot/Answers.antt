@@ -1,5 +1,5 @@
 -- A frozen object is read as it is.
-use Rattle.std.proofs.Common.{sym, ap, subst, ◌∙◌}
+use Rattle.std.proofs.Common.{sym, ap, ◌∙◌}
 use Rattle.js_store.proofs.Common_laws.{seen}
 use Rattle.js_store.proofs.frozen.FrozenStore.slot.Goals as goal
 
