@@ -18,7 +18,7 @@ use lava_base::memory::OutOfMemory;
 use std::alloc::Global;
 
 /// Runs the body of a function of a source (ECMA-262, "ECMAScript Function Objects", [[Call]]), or does what a function of the machine does.
-pub(crate) fn call_by(
+pub fn call_by(
     alloc: Global,
     party: u32,
     slot: &Slot,
@@ -44,7 +44,7 @@ pub(crate) fn call_by(
 }
 
 /// Runs the body of a constructor of a source with a new target (ECMA-262, "ECMAScript Function Objects", [[Construct]]).
-pub(crate) fn construct_by(
+pub fn construct_by(
     alloc: Global,
     slot: &Slot,
     constructor: bool,

@@ -55,8 +55,8 @@ pub fn decide<S: Store>(
     }
 }
 
-/// What an object decides of an ask, one row a method.
-fn decide_at<S: Store>(
+/// What the object of a target decides of an ask, as `decide`: one row a method.
+pub fn decide_at<S: Store>(
     alloc: Global,
     store: &mut S,
     common: &FrozenStore,

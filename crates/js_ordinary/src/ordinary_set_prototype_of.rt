@@ -16,7 +16,7 @@ use js_store::store::Store;
 use lava_base::ids::{ObjId, Ref};
 
 /// Puts another prototype in place, if the object is extensible and no cycle would be made (ECMA-262, OrdinarySetPrototypeOf).
-pub(crate) fn ordinary_set_prototype_of<S: Store>(
+pub fn ordinary_set_prototype_of<S: Store>(
     store: &mut S,
     common: &FrozenStore,
     target: Target,
