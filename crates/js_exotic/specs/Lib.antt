@@ -1,0 +1,4 @@
+pub mod BoundFunctions
+pub mod Decided
+pub mod SetImmutablePrototype
+pub mod Targets

@@ -1,0 +1,7 @@
+pub mod Chains_laws
+pub mod Changes_laws
+pub mod Invariants_laws
+pub mod Length_laws
+pub mod Moves
+pub mod Renamed
+pub mod Upward_laws

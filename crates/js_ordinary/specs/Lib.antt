@@ -1,0 +1,15 @@
+pub mod Calls
+pub mod Decided
+pub mod HeldFunctions
+pub mod Laws
+pub mod Maps
+pub mod OrdinaryDefineOwnProperty
+pub mod OrdinaryDelete
+pub mod OrdinaryGet
+pub mod OrdinaryHasProperty
+pub mod OrdinarySet
+pub mod OrdinarySetPrototypeOf
+pub mod Origins
+pub mod Primitives
+pub mod Targets
+pub mod Verdicts
