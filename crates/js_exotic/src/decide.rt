@@ -14,6 +14,7 @@ use js_desc::fault::FaultText;
 use js_ordinary::decide::decide_at;
 use js_ordinary::next::Next;
 use js_ordinary::target::{Target, find_target, marks, slot};
+use js_store::foreign::Foreign;
 use js_store::frozen::FrozenStore;
 use js_store::store::Store;
 use lava_base::ids::Ref;
@@ -27,6 +28,7 @@ pub fn decide<S: Store>(
     alloc: Global,
     store: &mut S,
     common: &FrozenStore,
+    _foreign: &Foreign,
     me: Ref,
     ask: &Ask,
 ) -> Result<Decision<Next>, OutOfMemory>

@@ -27,6 +27,7 @@ use js_desc::decision::Decision;
 use js_desc::descriptor::Descriptor;
 use js_desc::fault::FaultText;
 use js_desc::reply::Reply;
+use js_store::foreign::Foreign;
 use js_store::frozen::FrozenStore;
 use js_store::store::Store;
 use lava_base::ids::Ref;
@@ -35,11 +36,12 @@ use std::alloc::Global;
 
 /// What the object `me` decides of an ask: an answer, or the next ask with what waits for its answer, or a body that runs. Of the party's objects `me` alone may change, and no object is made; after want of memory none has changed.
 ///
-/// `me` is an object of the store or of the common part; where there is no such object, the decision is the fault `not an object`. An ask that no object answers is the fault `wrong kind`.
+/// `me` is an object of the store or of the common part; where there is no such object, the decision is the fault `not an object`. An ask that no object answers is the fault `wrong kind`. No decision of an ordinary object looks at the marks of foreign references.
 pub fn decide<S: Store>(
     alloc: Global,
     store: &mut S,
     common: &FrozenStore,
+    _foreign: &Foreign,
     me: Ref,
     ask: &Ask,
 ) -> Result<Decision<Next>, OutOfMemory>
@@ -145,8 +147,16 @@ fn tell_property(property: Option<&Descriptor>) -> Result<Decision<Next>, OutOfM
 }
 
 /// How a decision that waits goes on with the answer to its ask. A throw goes on as it is. An answer of another kind than the ask has does not come; it would be the fault `wrong kind`.
-pub fn resume(alloc: Global, next: Next, reply: Reply) -> Result<Decision<Next>, OutOfMemory>
-    ensures { IfOk result (λ d. d ≡ resumed common_ref next reply) }
+pub fn resume<S: Store>(
+    alloc: Global,
+    _store: &mut S,
+    _common: &FrozenStore,
+    _foreign: &Foreign,
+    next: Next,
+    reply: Reply,
+) -> Result<Decision<Next>, OutOfMemory>
+    ensures goes_on { IfOk result (λ d. d ≡ resumed common_ref next reply) }
+    ensures store { _store.new ≡ _store.old }
 {
     match next {
         Next::Answer => Ok(Decision::Done(reply)),
