@@ -407,6 +407,51 @@ def store_cases():
     yield 'foreign 2:0 function; 2:0 plain; 2:0 marks; 3:0 marks', 'Function true true Object false false'
 
 
+# What objects of party 7 answer, step by step of ECMA-262's algorithms. A made object answers nothing; an ask that goes to another party is shown with its receiver, or with `this` and the arguments.
+# Cells write properties: V is the value 1, an accessor has F (1:0) and G (1:1) or neither (a), the setter alone (b), the getter alone (d); then 4 for writable, 2 for enumerable, 1 for configurable.
+CHAIN = 'make plain; make plain; make plain; 7:1 SetPrototypeOf 7:0; 7:2 SetPrototypeOf 7:1'
+DECISIONS = [
+    # OrdinaryGet and OrdinaryHasProperty go up; a getter gets the receiver.
+    (CHAIN + "; 7:0 DefineOwnProperty 'x V0; 7:2 Get 'x #7:2; 7:2 HasProperty 'x; 7:2 Get 'y #7:2; 7:2 HasProperty 'y", 'true true true 1 true undefined false'),
+    (CHAIN + "; 7:0 DefineOwnProperty 'x e3; 7:2 Get 'x #7:2", 'true true true 1:0 Call 7:2'),
+    (CHAIN + "; 7:0 DefineOwnProperty 'x e3; 7:2 Get 'x 5", 'true true true 1:0 Call 5'),
+    (CHAIN + "; 7:0 DefineOwnProperty 'x b3; 7:2 Get 'x #7:2", 'true true true undefined'),
+    # OrdinarySet: a writable property above is set on the receiver with all attributes true, one that is not writable stops it.
+    (CHAIN + "; 7:0 DefineOwnProperty 'x V4; 7:2 Set 'x 2 #7:2; 7:2 GetOwnProperty 'x; 7:0 GetOwnProperty 'x; 7:2 Delete 'x", 'true true true true 2 1 true'),
+    (CHAIN + "; 7:0 DefineOwnProperty 'x V0; 7:2 Set 'x 2 #7:2; 7:2 GetOwnProperty 'x", 'true true true false none'),
+    (CHAIN + "; 7:0 DefineOwnProperty 'x e3; 7:2 Set 'x 2 #7:2", 'true true true 1:1 Call 7:2 2'),
+    (CHAIN + "; 7:0 DefineOwnProperty 'x d3; 7:2 Set 'x 2 #7:2; 7:2 GetOwnProperty 'x", 'true true true false none'),
+    ("make plain; 7:0 DefineOwnProperty 'x V4; 7:0 Set 'x 2 #7:0; 7:0 Get 'x 5; 7:0 Delete 'x; 7:0 Set 'x 3 5", 'true true 2 false false'),
+    # The receiver is another object: its own property decides.
+    ("make plain; make plain; 7:1 DefineOwnProperty 'x V3; 7:0 Set 'x 2 #7:1; 7:0 Set 'y 2 #7:1; 7:1 OwnPropertyKeys; 7:0 OwnPropertyKeys", "true false true 'x 'y"),
+    ("make plain; make plain; 7:1 DefineOwnProperty 'x e3; 7:0 Set 'x 2 #7:1; 7:1 PreventExtensions; 7:0 Set 'y 2 #7:1", 'true false true false'),
+    # OrdinaryDelete and OrdinaryPreventExtensions.
+    ("make plain; 7:0 Delete 'x; 7:0 DefineOwnProperty 'x V0; 7:0 Delete 'x; 7:0 DefineOwnProperty 'y V1; 7:0 PreventExtensions; 7:0 Delete 'y; 7:0 DefineOwnProperty 'y V1; 7:0 IsExtensible; 7:0 OwnPropertyKeys", "true true false true true true false false 'x"),
+    ("make plain; 7:0 DefineOwnProperty 'b V7; 7:0 DefineOwnProperty '1 V7; 7:0 DefineOwnProperty @iterator V7; 7:0 DefineOwnProperty 'a V7; 7:0 OwnPropertyKeys", "true true true true 1 'b 'a @iterator"),
+    # OrdinarySetPrototypeOf: no cycle, which a proxy, a common and a foreign object end the look for.
+    (CHAIN + '; 7:0 SetPrototypeOf 7:2; 7:0 SetPrototypeOf 7:0; 7:0 SetPrototypeOf 9:0; 7:0 SetPrototypeOf c0; 7:0 GetPrototypeOf', 'true true false false true true c0'),
+    ('make plain; make proxy; 7:0 SetPrototypeOf 7:1; 7:0 PreventExtensions; 7:0 SetPrototypeOf 7:1; 7:0 SetPrototypeOf null', 'true true true false'),
+    # A global has an immutable prototype.
+    ("make global; make plain; 7:0 SetPrototypeOf 7:1; 7:0 SetPrototypeOf null; 7:0 Set 'x 2 #7:0; 7:0 Get 'x #7:0", 'false true true 2'),
+    # Functions: a body runs with `this` and the arguments; a bound function has its own `this` and its own arguments first, and its target is its own new target.
+    ('make closure; make plain; 7:0 Call #7:1 8; 7:0 Construct 7:0 8; 7:1 Call 5 8; 7:1 Construct 7:1 8', 'run 3 7:1 8 run 3 undefined 8 not a function not a constructor'),
+    ('make closure; make bound; 7:1 Call #7:1 8; 7:1 Construct 7:1 8', 'run 3 5 6 8 run 3 undefined 6 8'),
+    # The setter that stands over a locked prototype: never on it or on a primitive; a property is set where the receiver has it, and else made.
+    ("make plain; make repair; make plain; 7:1 Call #7:0 4; 7:1 Call 5 4; 7:1 Call #7:2 4; 7:2 GetOwnProperty 'x; 7:1 Call #7:2 8; 7:2 GetOwnProperty 'x", 'cannot set cannot set undefined 4 undefined 8'),
+    ("make plain; make repair; make plain; make plain; 7:2 PreventExtensions; 7:1 Call #7:2 4; 7:3 DefineOwnProperty 'x V0; 7:1 Call #7:3 4", 'true cannot define true cannot set'),
+    # Objects of the common part don't change; one of another party is asked where it is a prototype, and decides nothing here.
+    ("c0 Get 'x 5; c0 Set 'x 2 #c0; c0 DefineOwnProperty 'x V0; c0 Delete 'x; c0 PreventExtensions; c0 IsExtensible; c0 SetPrototypeOf null; c0 SetPrototypeOf c1; c0 OwnPropertyKeys", 'undefined false false true true false true false'),
+    ("make plain; 7:0 SetPrototypeOf 9:4; 7:0 Get 'x 5; 7:0 Set 'x 2 #7:0; 7:0 HasProperty 'x", 'true 9:4 Get 5 9:4 Set 7:0 9:4 HasProperty'),
+    ("make plain; 7:1 IsExtensible; 9:4 IsExtensible; c222 IsExtensible; 7:0 Turn", 'not an object not an object not an object wrong kind'),
+]
+
+
+def decision_cases():
+    """What objects decide."""
+    for steps, answers in DECISIONS:
+        yield 'decide ' + steps, answers
+
+
 def cases():
     """Each line of the input, with what has to come of it."""
     yield from text_cases()
@@ -415,6 +460,7 @@ def cases():
     yield from rows_of('keys', NAMES, lambda there, given: there == given)
     yield from copy_cases()
     yield from store_cases()
+    yield from decision_cases()
     for cell, extensible in ROWS:
         yield from definition_lines(cell, extensible)
 

@@ -5,6 +5,7 @@
 mod asks;
 mod cells;
 mod commons;
+mod decisions;
 mod definitions;
 mod fault;
 mod foreigners;
@@ -65,6 +66,7 @@ fn push_answer(alloc: Global, out: &mut String, kind: &str, rest: &str) -> Resul
         "store" => stores::steps::<FlatStore>(alloc, out, rest),
         "bare" => commons::bare(alloc, out, rest),
         "freeze" => commons::freeze(alloc, out),
+        "decide" => decisions::steps(alloc, out, rest),
         "foreign" => foreigners::steps(alloc, out, rest),
         _ => Err(Fault::Line),
     }
