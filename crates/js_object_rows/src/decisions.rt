@@ -14,6 +14,7 @@ use js_exotic::decide::decide;
 use js_ordinary::decide::resume;
 use js_ordinary::next::Next;
 use js_store::flat::FlatStore;
+use js_store::foreign::Foreign;
 use js_store::frozen::{FrozenStore, bare_common};
 use js_store::slot::{Held, Slot};
 use js_store::store::{PLAIN_MARKS, Store};
@@ -221,7 +222,8 @@ fn decided(
     target: Ref,
     ask: &Ask,
 ) -> Result<Decision<Next>, Fault> {
-    Ok(decide(alloc, store, common, target, ask)?)
+    let foreign = Foreign::new(alloc);
+    Ok(decide(alloc, store, common, &foreign, target, ask)?)
 }
 
 /// Asks an object, follows what it asks in turn, and appends what comes of it.
@@ -254,7 +256,7 @@ fn after(
     decision: Decision<Next>,
 ) -> Result<Option<Decision<Next>>, Fault> {
     match decision {
-        Decision::Done(reply) => answered(alloc, out, waiting, reply),
+        Decision::Done(reply) => answered(alloc, out, store, common, waiting, reply),
         Decision::Fault(text) => ended(push_fault(out, &text)),
         Decision::Ask {
             target: Some(target),
@@ -284,11 +286,17 @@ fn ended(appended: Result<(), Fault>) -> Result<Option<Decision<Next>>, Fault> {
 fn answered(
     alloc: Global,
     out: &mut String,
+    store: &mut FlatStore,
+    common: &FrozenStore,
     waiting: &mut Vec<Next>,
     reply: Reply,
 ) -> Result<Option<Decision<Next>>, Fault> {
     match waiting.pop() {
-        Some(next) => Ok(Some(resume(alloc, next, reply)?)),
+        Some(next) => {
+            let foreign = Foreign::new(alloc);
+            let decision = resume(alloc, store, common, &foreign, next, reply)?;
+            Ok(Some(decision))
+        }
         None => ended(push_reply(alloc, out, &reply)),
     }
 }
