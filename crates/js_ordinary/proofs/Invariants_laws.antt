@@ -25,7 +25,7 @@ use Rattle.js_ordinary.specs.OrdinarySetPrototypeOf.{set_prototype_if}
 use Rattle.js_ordinary.specs.Verdicts.{Verdict, own_property, flag, unchanged}
 use Rattle.js_ordinary.proofs.Changes_laws.{both}
 
-on_test : (b : Bool) (X : Type 0) → (b ≡ true → X) → (b ≡ false → X) → X
+pub on_test : (b : Bool) (X : Type 0) → (b ≡ true → X) → (b ≡ false → X) → X
 on_test true X f g = f refl
 on_test false X f g = g refl
 

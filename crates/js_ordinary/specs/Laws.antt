@@ -19,6 +19,7 @@ use Rattle.js_desc.specs.declared.reply.Reply.{Reply}
 use Rattle.js_store.specs.Frozen.{CommonObject}
 use Rattle.js_store.specs.Maps.{map_object}
 use Rattle.js_store.specs.Objects.{Object, object_at}
+use Rattle.js_ordinary.specs.Chains.{ChainsEnd}
 use Rattle.js_ordinary.specs.Decided.{decided, resumed, verdict}
 use Rattle.js_ordinary.specs.Maps.{map_next, map_ordinary_decision}
 use Rattle.js_ordinary.specs.OrdinaryGet.{ordinary_get}
@@ -74,6 +75,13 @@ abbrev pub Others_stay : Type 0 → Type 0 → Type 0
 Others_stay R S =
     (names : Naming R S) (objects : List (Object R S)) (common : List CommonObject) (me : R) (x : asks.Ask R S)
     → OthersStay (names.origin me) objects (decided names objects common me x).1
+
+-- the way up from each object ends, whatever is asked: no cycle of prototypes is made
+-- ECMA-262 OrdinarySetPrototypeOf, step 7
+abbrev pub Ways_up_keep_ending : Type 0 → Type 0 → Type 0
+Ways_up_keep_ending R S =
+    (names : Naming R S) (objects : List (Object R S)) (common : List CommonObject) (me : R) (x : asks.Ask R S)
+    → ChainsEnd names objects → ChainsEnd names (decided names objects common me x).1
 
 -- GET AND SET
 

@@ -124,7 +124,8 @@ fn prevent_extensions<S: Store>(
     requires { IsSeen (S.objects store.old) common.now target }
     ensures decision { let names = naming_of (S.owner store.old).0 in
         let objects = S.objects store.old in
-        (result, S.objects store.new) ≡ decided_seen names objects common.now target PreventExtensions }
+        let decision = decided_seen names objects common.now target PreventExtensions in
+        (result, S.objects store.new) ≡ decision }
     ensures party { S.owner store.new ≡ S.owner store.old }
 {
     if let Target::Own(id) = target {

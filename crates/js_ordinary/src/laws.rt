@@ -1,6 +1,6 @@
 // Laws of the definitions.
 
-ghost use Rattle.js_ordinary.specs.Laws.{Closed_objects_gain_nothing, Closed_objects_stay_closed, Fixed_properties_are_not_set, Fixed_properties_stay, Get_leads_up, Getters_get_the_receiver, Others_stay, Prototypes_are_asked, References_do_not_matter, Resuming_does_not_look, Set_leads_up, Setters_get_the_receiver};
+ghost use Rattle.js_ordinary.specs.Laws.{Closed_objects_gain_nothing, Closed_objects_stay_closed, Fixed_properties_are_not_set, Fixed_properties_stay, Get_leads_up, Getters_get_the_receiver, Others_stay, Prototypes_are_asked, References_do_not_matter, Resuming_does_not_look, Set_leads_up, Setters_get_the_receiver, Ways_up_keep_ending};
 
 /// What an object decides does not depend on what references and made symbols are, as long as each object is from where it was and the same ones are the same; and so it goes on.
 #[tactic(none)]
@@ -42,4 +42,10 @@ pub fn invariants_hold<R, S>()
     ensures fixed { Fixed_properties_stay R S }
     ensures closed { Closed_objects_gain_nothing R S }
     ensures still { Closed_objects_stay_closed R S }
+{}
+
+/// The way up from each object along prototypes ends, whatever is asked: no cycle is made.
+#[tactic(none)]
+pub fn ways_up_keep_ending<R, S>()
+    ensures { Ways_up_keep_ending R S }
 {}
