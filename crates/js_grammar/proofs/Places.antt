@@ -1,14 +1,15 @@
--- Every form, category and kind stands at its place in the table.
+-- Every production, nonterminal and terminal stands at its place in the table.
 use Rattle.std.proofs.Common.{zero, suc, ◌≡◌, ℕ, ◌+◌, Bool, true, false, ◌&&◌, List, [], ◌∷◌, Option, Some, None, refl}
-use Rattle.js_grammar.specs.declared.kinds.Kind.{Kind}
-use Rattle.js_grammar.specs.declared.kinds.Kind.TheVariants as kind
-use Rattle.js_grammar.specs.declared.kinds.Category.{Category}
-use Rattle.js_grammar.specs.declared.kinds.Category.TheVariants as category
-use Rattle.js_grammar.specs.declared.kinds.Form.{Form}
-use Rattle.js_grammar.specs.declared.kinds.Form.TheVariants as form
-use Rattle.js_grammar.specs.declared.parts.Part.{Part}
-use Rattle.js_grammar.specs.declared.parts.Row.{Row}
-use Rattle.js_grammar.specs.declared.table.TheConstants.{RULES, CATEGORIES, HEADS}
+use Rattle.js_grammar.specs.declared.symbols.Terminal.{Terminal}
+use Rattle.js_grammar.specs.declared.symbols.Terminal.TheVariants as terminal
+use Rattle.js_grammar.specs.declared.symbols.Nonterminal.{Nonterminal}
+use Rattle.js_grammar.specs.declared.symbols.Nonterminal.TheVariants as nonterminal
+use Rattle.js_grammar.specs.declared.symbols.Production.{Production}
+use Rattle.js_grammar.specs.declared.symbols.Production.TheVariants as production
+use Rattle.js_grammar.specs.declared.constituents.Constituent.{Constituent}
+use Rattle.js_grammar.specs.declared.constituents.NonterminalRow.{NonterminalRow}
+use Rattle.js_grammar.specs.declared.table.TheConstants.{RULES, NONTERMINALS}
+use Rattle.js_grammar.specs.declared.heads.TheConstants.{HEADS}
 use Rattle.js_grammar.specs.Table.{place_of, index_of, number_of}
 
 abbrev pub at : {A : Type 0} → ℕ → List A → Option A
@@ -16,38 +17,38 @@ at n [] = None
 at zero (x ∷ xs) = Some x
 at (suc n) (x ∷ xs) = at n xs
 
-abbrev forms_in : List (Form × record { now : List Part }) → List Form
-forms_in [] = []
-forms_in (x ∷ xs) = x.0 ∷ forms_in xs
+abbrev productions_in : List (Production × ℕ × record { now : List Constituent }) → List Production
+productions_in [] = []
+productions_in (x ∷ xs) = x.0 ∷ productions_in xs
 
-abbrev categories_in : List Row → List Category
-categories_in [] = []
-categories_in (x ∷ xs) = x.category ∷ categories_in xs
+abbrev nonterminals_in : List NonterminalRow → List Nonterminal
+nonterminals_in [] = []
+nonterminals_in (x ∷ xs) = x.nonterminal ∷ nonterminals_in xs
 
-abbrev kinds_in : List (Kind × record { now : List Form } × record { now : List Form }) → List Kind
-kinds_in [] = []
-kinds_in (x ∷ xs) = x.0 ∷ kinds_in xs
+abbrev terminals_in : List (Terminal × record { now : List Production } × record { now : List Production }) → List Terminal
+terminals_in [] = []
+terminals_in (x ∷ xs) = x.0 ∷ terminals_in xs
 
-unfoldable pub forms : List Form
-forms = forms_in RULES
+unfoldable pub productions : List Production
+productions = productions_in RULES
 
-unfoldable pub categories : List Category
-categories = categories_in CATEGORIES
+unfoldable pub nonterminals : List Nonterminal
+nonterminals = nonterminals_in NONTERMINALS
 
-unfoldable pub kinds : List Kind
-kinds = kinds_in HEADS
+unfoldable pub terminals : List Terminal
+terminals = terminals_in HEADS
 
-pub form_at : (f : Form) → at (place_of f) forms ≡ Some f
-unfolding forms
-form_at form.NewDot = refl
-form_at _ = refl
+pub production_at : (f : Production) → at (place_of f) productions ≡ Some f
+unfolding productions
+production_at production.NewMemberName = refl
+production_at _ = refl
 
-pub category_at : (c : Category) → at (index_of c) categories ≡ Some c
-unfolding categories
-category_at category.CallBase = refl
-category_at _ = refl
+pub nonterminal_at : (c : Nonterminal) → at (index_of c) nonterminals ≡ Some c
+unfolding nonterminals
+nonterminal_at nonterminal.Callee = refl
+nonterminal_at _ = refl
 
-pub kind_at : (k : Kind) → at (number_of k) kinds ≡ Some k
-unfolding kinds
-kind_at kind.Get = refl
-kind_at _ = refl
+pub terminal_at : (k : Terminal) → at (number_of k) terminals ≡ Some k
+unfolding terminals
+terminal_at terminal.Get = refl
+terminal_at _ = refl

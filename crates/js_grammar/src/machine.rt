@@ -1,121 +1,120 @@
-// The reader: a stack of open forms, and what stands.
-ghost use Rattle.std.specs.Prelude.{◌≡◌, ◌∷◌, Option as Optional, Some, IfOk, List as Listed};
-ghost use Rattle.js_grammar.specs.Grammar.{follow};
-ghost use Rattle.js_grammar.specs.Table.{rule_of, forms_of};
-ghost use Rattle.js_grammar.specs.Flat.{Flat, begun_flat, opened_flat, onward_flat, wrapped_flat, put_flat, fed_flat};
-ghost use Rattle.js_grammar.specs.Moves.{shapes_of, rest_of, latest, Comes_to, Opens};
+// The reader: a partial tree that takes one token after the other.
+ghost use Rattle.std.specs.Prelude.{◌≡◌, ◌∷◌, IfOk, reverse};
+ghost use Rattle.js_grammar.specs.Flat.{fed_in};
+ghost use Rattle.js_grammar.specs.Laws.{from_flat};
+ghost use Rattle.js_grammar.specs.Moves.{shape_in, latest, begun_at, opened_at, onward_at, wrapped_at, put_at, fed_at, rest_of, Comes_to, Opens, Takes};
+ghost use Rattle.js_grammar.specs.Table.{forms_of};
+ghost use Rattle.js_grammar.specs.Would.{would};
 
-use crate::events::Event;
-use crate::kinds::{Category, Form};
-use crate::marks::{Mark, bare_mark, fits, with_leaf, with_node};
-use crate::parts::{Part, Token, Turn};
-use crate::rules::{Opening, ends, rule, stands, start, wrap};
-use std::alloc::AllocError;
+use crate::constituents::{Constituent, Repetition};
+use crate::event::Event;
+use crate::lexeme::Lexeme;
+use crate::open::{OpenProduction, Remainder, ahead, follow};
+use crate::prospect::is_taken;
+use crate::rules::{Opening, ends_list, is_among, openings, operator, rule};
+use crate::summary::{Summary, empty_summary, fits, with_leaf, with_node};
+use crate::symbols::{Nonterminal, Production};
+use std::alloc::{AllocError, Global};
+use std::marker::Model;
 
-/// The parts of a form that are to come: the next one, and those behind it.
-#[derive(Clone, Copy, Drop)]
-pub struct Coming {
-    pub next: Option<Part>,
-    pub later: &'static [Part],
+/// The partial tree of the tokens that were taken: its open productions, and what stands, in the order of the text.
+#[derive(Drop)]
+pub struct PartialTree {
+    stack: Vec<OpenProduction>,
+    events: Vec<Event>,
 }
 
-/// The parts as they stand in a rule.
-pub fn ahead(parts: &'static [Part]) -> Coming
-    ensures { rest_of result ≡ parts.now }
-{
-    match parts {
-        [] => Coming {
-            next: None,
-            later: &[],
-        },
-        [next, later @ ..] => Coming {
-            next: Some(*next),
-            later,
-        },
+impl Model for PartialTree {
+    ghost use Rattle.js_grammar.specs.Flat.{Flat};
+    ghost use Rattle.js_grammar.specs.Moves.{flat_in};
+
+    ghost Value = { Flat };
+
+    ghost view = { λ x. flat_in x.stack.items x.events.items };
+}
+
+impl PartialTree {
+    /// The partial tree of no tokens.
+    #[tactic(auto, using(crate::proofs::Reversed::reverse_push))]
+    pub fn new(alloc: Global) -> Result<PartialTree, AllocError>
+        ensures { IfOk result (λ tree. tree ≡ from_flat) }
+    {
+        let mut stack = Vec::new(alloc);
+        stack.push(OpenProduction {
+            production: Production::Source,
+            summary: empty_summary(),
+            rest: Remainder {
+                next: Some(Constituent::Part(Nonterminal::Module)),
+                later: &[],
+            },
+        })?;
+        Ok(PartialTree {
+            stack,
+            events: Vec::new(alloc),
+        })
+    }
+
+    /// Whether the token would be taken.
+    pub fn would_take(&self, lexeme: Lexeme) -> bool
+        ensures { result ≡ would self.now.items lexeme }
+    {
+        is_taken(&self.stack, lexeme)
+    }
+
+    /// Takes a token, or refuses it. Where it is refused, or memory runs out, it is left open what is left.
+    pub fn take(&mut self, lexeme: Lexeme) -> Result<bool, AllocError>
+        ensures { IfOk result (Takes (fed_in self.old lexeme) self.new) }
+    {
+        take_next(&mut self.stack, &mut self.events, lexeme)
+    }
+
+    /// What stands, in the order of the text, each production behind its parts. What is open has no event yet.
+    pub fn events(&self) -> &[Event]
+        ensures { reverse result.now ≡ self.now.out }
+    {
+        &self.events
     }
 }
 
-/// The parts that are to come after an optional part that stands.
-pub fn follow(over: bool, category: Category, turn: Turn, later: &'static [Part]) -> Coming
-    ensures { rest_of result ≡ follow over category turn later.now }
-{
-    match turn {
-        Turn::Once => {
-            if over {
-                match later {
-                    [] => ahead(later),
-                    [_, behind @ ..] => ahead(behind),
-                }
-            } else {
-                ahead(later)
-            }
-        }
-        Turn::Again => {
-            if over {
-                ahead(later)
-            } else {
-                Coming {
-                    next: Some(Part::Optional(category, turn)),
-                    later,
-                }
-            }
-        }
-        Turn::Listed(symbol) => {
-            if over {
-                ahead(later)
-            } else {
-                Coming {
-                    next: Some(Part::Further(category, symbol)),
-                    later,
-                }
-            }
-        }
-    }
-}
-
-/// An open form: what is to be known of its parts that stand, and those to come.
+/// How far a move has come.
 #[derive(Clone, Copy, Drop)]
-pub struct Item {
-    pub form: Form,
-    pub mark: Mark,
-    pub rest: Coming,
-}
-
-#[derive(Clone, Copy, Drop)]
-pub enum Next {
+pub enum Progress {
+    /// The token is taken.
     Taken,
+    /// It is refused.
     Refused,
-    Ended(Form, Mark),
+    /// A whole tree stands before it.
+    Ended(Production, Summary),
 }
 
 /// What stands grows by an event.
 #[tactic(auto, using(crate::proofs::Reversed::reverse_push))]
-fn note(out: &mut Vec<Event>, event: Event) -> Result<(), AllocError>
-    ensures { IfOk result (λ _. latest out.new.items ≡ event ∷ latest out.old.items) }
+fn note(events: &mut Vec<Event>, event: Event) -> Result<(), AllocError>
+    ensures { IfOk result (λ _. latest events.new.items ≡ event ∷ latest events.old.items) }
 {
-    out.push(event)?;
+    events.push(event)?;
     Ok(())
 }
 
-/// The last form takes the token as its first part.
+/// A production takes the token as its first constituent.
 #[tactic(auto, using(crate::proofs::Reversed::reverse_push))]
-fn begun(
-    items: &mut Vec<Item>,
-    out: &mut Vec<Event>,
-    form: Form,
-    token: Token,
+fn begin(
+    stack: &mut Vec<OpenProduction>,
+    events: &mut Vec<Event>,
+    production: Production,
+    lexeme: Lexeme,
 ) -> Result<bool, AllocError>
-    ensures { IfOk result (λ yes. Opens (begun_flat form (rule_of form) (shapes_of items.old.items) (latest out.old.items) token) items.new.items out.new.items yes) }
+    ensures { IfOk result (Opens (begun_at stack.old.items events.old.items production lexeme) stack.new.items events.new.items) }
 {
-    match rule(form) {
-        [Part::Word(symbol), later @ ..] => {
-            if !stands(*symbol, token.kind) {
+    match rule(production) {
+        [Constituent::Token(set), later @ ..] => {
+            if !is_among(lexeme.terminal, *set) {
                 return Ok(false);
             }
-            note(out, Event::Leaf(token))?;
-            items.push(Item {
-                form,
-                mark: with_leaf(bare_mark(), token),
+            note(events, Event::Leaf(lexeme))?;
+            stack.push(OpenProduction {
+                production,
+                summary: with_leaf(empty_summary(), lexeme),
                 rest: ahead(later),
             })?;
             Ok(true)
@@ -124,128 +123,128 @@ fn begun(
     }
 }
 
-/// Opens forms, the outermost first.
+/// Opens productions, the outermost first.
 #[tactic(auto, using(crate::proofs::Reversed::reverse_push))]
-fn open(
-    items: &mut Vec<Item>,
-    out: &mut Vec<Event>,
+fn open_each(
+    stack: &mut Vec<OpenProduction>,
+    events: &mut Vec<Event>,
     opening: Opening,
-    token: Token,
+    lexeme: Lexeme,
 ) -> Result<bool, AllocError>
-    ensures { IfOk result (λ yes. Opens (opened_flat (forms_of opening) (shapes_of items.old.items) (latest out.old.items) token) items.new.items out.new.items yes) }
+    ensures { IfOk result (Opens (opened_at stack.old.items events.old.items (forms_of opening) lexeme) stack.new.items events.new.items) }
 {
     match opening {
         Opening::Nothing => Ok(false),
-        Opening::One(form) => begun(items, out, form, token),
-        Opening::Both(form, inner) => {
-            items.push(Item {
-                form,
-                mark: bare_mark(),
-                rest: ahead(rule(form)),
+        Opening::One(production) => begin(stack, events, production, lexeme),
+        Opening::Both(production, inner) => {
+            stack.push(OpenProduction {
+                production,
+                summary: empty_summary(),
+                rest: ahead(rule(production)),
             })?;
-            begun(items, out, inner, token)
+            begin(stack, events, inner, lexeme)
         }
     }
 }
 
-/// A form with its parts so far, before a token.
+/// A production with its parts so far, before a token.
 #[tactic(auto, using(crate::proofs::Reversed::reverse_push))]
-fn go_on(
-    items: &mut Vec<Item>,
-    out: &mut Vec<Event>,
-    form: Form,
-    mark: Mark,
-    to_come: Coming,
-    token: Token,
-) -> Result<Next, AllocError>
-    ensures { IfOk result (λ n. Comes_to items.old.items items.new.items out.new.items (λ k. onward_flat k (shapes_of items.old.items) (latest out.old.items) form mark (rest_of to_come) token) n) }
+fn advance(
+    stack: &mut Vec<OpenProduction>,
+    events: &mut Vec<Event>,
+    production: Production,
+    summary: Summary,
+    to_come: Remainder,
+    lexeme: Lexeme,
+) -> Result<Progress, AllocError>
+    ensures { IfOk result (Comes_to stack.old.items stack.new.items events.new.items (onward_at stack.old.items events.old.items production summary (rest_of to_come) lexeme)) }
 {
     let later = to_come.later;
     match to_come.next {
         None => {
-            note(out, Event::Node(form))?;
-            Ok(Next::Ended(form, mark))
+            note(events, Event::Node(production))?;
+            Ok(Progress::Ended(production, summary))
         }
-        Some(Part::Word(symbol)) => {
-            if !stands(symbol, token.kind) {
-                return Ok(Next::Refused);
+        Some(Constituent::Token(set)) => {
+            if !is_among(lexeme.terminal, set) {
+                return Ok(Progress::Refused);
             }
-            note(out, Event::Leaf(token))?;
-            items.push(Item {
-                form,
-                mark: with_leaf(mark, token),
+            note(events, Event::Leaf(lexeme))?;
+            stack.push(OpenProduction {
+                production,
+                summary: with_leaf(summary, lexeme),
                 rest: ahead(later),
             })?;
-            Ok(Next::Taken)
+            Ok(Progress::Taken)
         }
-        Some(Part::Sub(category)) => {
-            items.push(Item {
-                form,
-                mark,
+        Some(Constituent::Part(nonterminal)) => {
+            stack.push(OpenProduction {
+                production,
+                summary,
                 rest: to_come,
             })?;
-            let yes = open(
-                items,
-                out,
-                start(category, token.kind, token.after_line),
-                token,
+            let taken = open_each(
+                stack,
+                events,
+                openings(nonterminal, lexeme.terminal, lexeme.after_line),
+                lexeme,
             )?;
-            Ok(if yes { Next::Taken } else { Next::Refused })
+            Ok(if taken { Progress::Taken } else { Progress::Refused })
         }
-        Some(Part::Optional(category, _)) => {
-            let opening = start(category, token.kind, token.after_line);
-            if matches!(opening, Opening::Nothing) {
-                note(out, Event::Gone)?;
-                return go_on(items, out, form, mark, ahead(later), token);
+        Some(Constituent::Optional(nonterminal, _)) => {
+            let opened = openings(nonterminal, lexeme.terminal, lexeme.after_line);
+            if matches!(opened, Opening::Nothing) {
+                note(events, Event::Absent)?;
+                return advance(stack, events, production, summary, ahead(later), lexeme);
             }
-            items.push(Item {
-                form,
-                mark,
+            stack.push(OpenProduction {
+                production,
+                summary,
                 rest: to_come,
             })?;
-            let yes = open(items, out, opening, token)?;
-            Ok(if yes { Next::Taken } else { Next::Refused })
+            let taken = open_each(stack, events, opened, lexeme)?;
+            Ok(if taken { Progress::Taken } else { Progress::Refused })
         }
-        Some(Part::Further(category, symbol)) => {
-            if !stands(symbol, token.kind) {
-                note(out, Event::Gone)?;
-                return go_on(items, out, form, mark, ahead(later), token);
+        Some(Constituent::Further(nonterminal, set)) => {
+            if !is_among(lexeme.terminal, set) {
+                note(events, Event::Absent)?;
+                return advance(stack, events, production, summary, ahead(later), lexeme);
             }
-            note(out, Event::Leaf(token))?;
-            items.push(Item {
-                form,
-                mark: with_leaf(mark, token),
-                rest: Coming {
-                    next: Some(Part::Optional(category, Turn::Listed(symbol))),
+            note(events, Event::Leaf(lexeme))?;
+            stack.push(OpenProduction {
+                production,
+                summary: with_leaf(summary, lexeme),
+                rest: Remainder {
+                    next: Some(Constituent::Optional(nonterminal, Repetition::Listed(set))),
                     later,
                 },
             })?;
-            Ok(Next::Taken)
+            Ok(Progress::Taken)
         }
     }
 }
 
-/// A tree becomes the first part of a form, whose second part is the token.
+/// A tree becomes the first part of a production, whose second constituent is the token.
 #[tactic(auto, using(crate::proofs::Reversed::reverse_push))]
-fn wrap_in(
-    items: &mut Vec<Item>,
-    out: &mut Vec<Event>,
-    outer: Form,
-    form: Form,
-    mark: Mark,
-    token: Token,
+fn wrap(
+    stack: &mut Vec<OpenProduction>,
+    events: &mut Vec<Event>,
+    outer: Production,
+    production: Production,
+    summary: Summary,
+    lexeme: Lexeme,
 ) -> Result<bool, AllocError>
-    ensures { IfOk result (λ yes. Opens (wrapped_flat outer (rule_of outer) (shapes_of items.old.items) (latest out.old.items) form mark token) items.new.items out.new.items yes) }
+    ensures { IfOk result (Opens (wrapped_at stack.old.items events.old.items outer production summary lexeme) stack.new.items events.new.items) }
 {
     match rule(outer) {
-        [Part::Sub(category), Part::Word(symbol), later @ ..] => {
-            if !fits(*category, form, mark) || !stands(*symbol, token.kind) {
+        [Constituent::Part(nonterminal), Constituent::Token(set), later @ ..] => {
+            if !fits(*nonterminal, production, summary) || !is_among(lexeme.terminal, *set) {
                 return Ok(false);
             }
-            note(out, Event::Leaf(token))?;
-            items.push(Item {
-                form: outer,
-                mark: with_leaf(with_node(bare_mark(), form, mark), token),
+            note(events, Event::Leaf(lexeme))?;
+            stack.push(OpenProduction {
+                production: outer,
+                summary: with_leaf(with_node(empty_summary(), production, summary), lexeme),
                 rest: ahead(later),
             })?;
             Ok(true)
@@ -254,87 +253,87 @@ fn wrap_in(
     }
 }
 
-/// A whole tree stands where an open form wants a part.
+/// A whole tree stands where an open production wants a part.
 #[tactic(auto, using(crate::proofs::Reversed::reverse_push))]
-fn put_in(
-    items: &mut Vec<Item>,
-    out: &mut Vec<Event>,
-    top: Item,
-    inner: Form,
-    parts: Mark,
-    token: Token,
-) -> Result<Next, AllocError>
-    ensures { IfOk result (λ n. Comes_to items.old.items items.new.items out.new.items (λ k. put_flat k (shapes_of items.old.items) (latest out.old.items) top.form top.mark (rest_of top.rest) inner parts token) n) }
+fn place(
+    stack: &mut Vec<OpenProduction>,
+    events: &mut Vec<Event>,
+    top: OpenProduction,
+    inner: Production,
+    parts: Summary,
+    lexeme: Lexeme,
+) -> Result<Progress, AllocError>
+    ensures { IfOk result (Comes_to stack.old.items stack.new.items events.new.items (put_at stack.old.items events.old.items (shape_in top) inner parts lexeme)) }
 {
-    let Item {
-        form,
-        mark,
+    let OpenProduction {
+        production,
+        summary,
         rest: to_come,
     } = top;
     let later = to_come.later;
     match to_come.next {
-        Some(Part::Sub(category)) => match wrap(category, inner, token.kind) {
+        Some(Constituent::Part(nonterminal)) => match operator(nonterminal, inner, lexeme.terminal) {
             Some(outer) => {
-                items.push(top)?;
-                let yes = wrap_in(items, out, outer, inner, parts, token)?;
-                Ok(if yes { Next::Taken } else { Next::Refused })
+                stack.push(top)?;
+                let taken = wrap(stack, events, outer, inner, parts, lexeme)?;
+                Ok(if taken { Progress::Taken } else { Progress::Refused })
             }
             None => {
-                if !fits(category, inner, parts) {
-                    return Ok(Next::Refused);
+                if !fits(nonterminal, inner, parts) {
+                    return Ok(Progress::Refused);
                 }
-                go_on(
-                    items,
-                    out,
-                    form,
-                    with_node(mark, inner, parts),
+                advance(
+                    stack,
+                    events,
+                    production,
+                    with_node(summary, inner, parts),
                     ahead(later),
-                    token,
+                    lexeme,
                 )
             }
         },
-        Some(Part::Optional(category, turn)) => match wrap(category, inner, token.kind) {
+        Some(Constituent::Optional(nonterminal, repetition)) => match operator(nonterminal, inner, lexeme.terminal) {
             Some(outer) => {
-                items.push(top)?;
-                let yes = wrap_in(items, out, outer, inner, parts, token)?;
-                Ok(if yes { Next::Taken } else { Next::Refused })
+                stack.push(top)?;
+                let taken = wrap(stack, events, outer, inner, parts, lexeme)?;
+                Ok(if taken { Progress::Taken } else { Progress::Refused })
             }
             None => {
-                if !fits(category, inner, parts) {
-                    return Ok(Next::Refused);
+                if !fits(nonterminal, inner, parts) {
+                    return Ok(Progress::Refused);
                 }
-                go_on(
-                    items,
-                    out,
-                    form,
-                    with_node(mark, inner, parts),
-                    follow(ends(inner), category, turn, later),
-                    token,
+                advance(
+                    stack,
+                    events,
+                    production,
+                    with_node(summary, inner, parts),
+                    follow(ends_list(inner), nonterminal, repetition, later),
+                    lexeme,
                 )
             }
         },
-        _ => Ok(Next::Refused),
+        _ => Ok(Progress::Refused),
     }
 }
 
 /// Takes a token, or refuses it.
 #[tactic(auto, using(crate::proofs::Reversed::reverse_push))]
-pub fn take(items: &mut Vec<Item>, out: &mut Vec<Event>, token: Token) -> Result<bool, AllocError>
-    ensures { IfOk result (λ yes. Opens (fed_flat (shapes_of items.old.items) (latest out.old.items) token) items.new.items out.new.items yes) }
+fn take_next(stack: &mut Vec<OpenProduction>, events: &mut Vec<Event>, lexeme: Lexeme) -> Result<bool, AllocError>
+    ensures { IfOk result (Opens (fed_at stack.old.items events.old.items lexeme) stack.new.items events.new.items) }
 {
-    let Some(top) = items.pop() else {
+    let Some(top) = stack.pop() else {
         return Ok(false);
     };
-    let mut next = go_on(items, out, top.form, top.mark, top.rest, token)?;
+    let mut progress = advance(stack, events, top.production, top.summary, top.rest, lexeme)?;
     loop {
-        match next {
-            Next::Taken => return Ok(true),
-            Next::Refused => return Ok(false),
-            Next::Ended(inner, parts) => {
-                let Some(top) = items.pop() else {
+        match progress {
+            Progress::Taken => return Ok(true),
+            Progress::Refused => return Ok(false),
+            Progress::Ended(inner, parts) => {
+                let Some(top) = stack.pop() else {
                     return Ok(false);
                 };
-                next = put_in(items, out, top, inner, parts, token)?;
+                progress = place(stack, events, top, inner, parts, lexeme)?;
             }
         }
     }

@@ -1,208 +1,212 @@
-// What the table says of forms, categories and kinds.
+// What the table says of productions, nonterminals and terminals.
 ghost use Rattle.std.specs.Prelude.{◌≡◌};
 ghost use Rattle.js_grammar.specs.Table.{rule_of, ends_of, stands_of, members_of, may_members, has_members, may_of, has_of, guards, guard_at_start, guard_of, heads_of, operators_at, firsts_of, pick, wrap_of, first_in, inner_of, opened_by, start_of, forms_of};
 
-use crate::kinds::{Category, Form, Kind};
-use crate::parts::{Guard, Members, Part, Symbol};
-use crate::table::{CATEGORIES, HEADS, RULES};
+use crate::constituents::{Constituent, Lookahead, Productions, Terminals};
+use crate::heads::HEADS;
+use crate::symbols::{Nonterminal, Production, Terminal};
+use crate::table::{LAST, NONTERMINALS, RULES};
 
-/// The parts of a form.
+/// The parts of a production.
 #[tactic(auto, unfolding(crate::specs::Table::rule_of))]
-pub fn rule(form: Form) -> &'static [Part]
-    ensures { result.now ≡ rule_of form }
+pub fn rule(production: Production) -> &'static [Constituent]
+    ensures { result.now ≡ rule_of production }
 {
-    RULES[form as usize].1
+    RULES[production as usize].2
 }
 
-/// Whether a list is over after the form.
+/// Whether a list is over after the production.
 #[tactic(auto, unfolding(crate::specs::Table::ends_of))]
-pub fn ends(form: Form) -> bool
-    ensures { result ≡ ends_of form }
+pub fn ends_list(production: Production) -> bool
+    ensures { result ≡ ends_of production }
 {
-    matches!(
-        form,
-        Form::GroupRest | Form::RestElement | Form::BindRest | Form::CommaRest
-    )
+    is_member(LAST, production)
 }
 
-/// Whether a kind is what a symbol stands for.
+/// Whether a terminal is what a set stands for.
 #[tactic(auto, unfolding(crate::specs::Table::stands_of))]
-pub fn stands(symbol: Symbol, kind: Kind) -> bool
-    ensures { result ≡ stands_of symbol kind }
+pub fn is_among(terminal: Terminal, set: Terminals) -> bool
+    ensures { result ≡ stands_of set terminal }
 {
-    let kind = kind as u8;
-    match symbol {
-        Symbol::Is(one) => one as u8 == kind,
-        Symbol::OneOf(from, to) => from as u8 <= kind && kind <= to as u8,
-        Symbol::AnyOf(a, b, c, d) => a as u8 <= kind && kind <= b as u8
-            || c as u8 <= kind && kind <= d as u8,
+    let terminal = terminal as u8;
+    match set {
+        Terminals::Is(one) => one as u8 == terminal,
+        Terminals::Between(from, to) => from as u8 <= terminal && terminal <= to as u8,
+        Terminals::Either(a, b, c, d) => a as u8 <= terminal && terminal <= b as u8
+            || c as u8 <= terminal && terminal <= d as u8,
     }
 }
 
-/// Whether a form is among these.
+/// Whether a production is among these.
 #[tactic(auto, unfolding(crate::specs::Table::members_of))]
-fn member(forms: Members, form: Form) -> bool
-    ensures { result ≡ members_of forms form }
+fn is_member(productions: Productions, production: Production) -> bool
+    ensures { result ≡ members_of productions production }
 {
-    let form = form as u8;
-    match forms {
-        Members::Run(from, to) => from as u8 <= form && form <= to as u8,
-        Members::Runs(a, b, c, d) => a as u8 <= form && form <= b as u8
-            || c as u8 <= form && form <= d as u8,
+    let production = production as u8;
+    match productions {
+        Productions::Run(from, to) => from as u8 <= production && production <= to as u8,
+        Productions::Runs(a, b, c, d) => a as u8 <= production && production <= b as u8
+            || c as u8 <= production && production <= d as u8,
     }
 }
 
-/// The forms that a partial tree of a category may have.
+/// The productions that a partial tree of a nonterminal may have.
 #[tactic(auto, unfolding(crate::specs::Table::may_members))]
-fn may_members(category: Category) -> Members
-    ensures { result ≡ may_members category }
+fn may_members(nonterminal: Nonterminal) -> Productions
+    ensures { result ≡ may_members nonterminal }
 {
-    CATEGORIES[category as usize].may
+    NONTERMINALS[nonterminal as usize].may
 }
 
-/// The forms of a category.
+/// The productions of a nonterminal.
 #[tactic(auto, unfolding(crate::specs::Table::has_members))]
-fn has_members(category: Category) -> Members
-    ensures { result ≡ has_members category }
+fn has_members(nonterminal: Nonterminal) -> Productions
+    ensures { result ≡ has_members nonterminal }
 {
-    CATEGORIES[category as usize].has
+    NONTERMINALS[nonterminal as usize].has
 }
 
-/// How a category may begin.
+/// How a nonterminal may begin.
 #[tactic(auto, unfolding(crate::specs::Table::guard_at_start))]
-pub fn guard_at_start(category: Category) -> Guard
-    ensures { result ≡ guard_at_start category }
+pub fn guard_at_start(nonterminal: Nonterminal) -> Lookahead
+    ensures { result ≡ guard_at_start nonterminal }
 {
-    CATEGORIES[category as usize].guard
+    NONTERMINALS[nonterminal as usize].lookahead
 }
 
-/// Whether a partial tree of a category may be of a form.
-pub fn may(category: Category, form: Form) -> bool
-    ensures { result ≡ may_of category form }
+/// Whether a partial tree of a nonterminal may be of a production.
+pub fn may_be(nonterminal: Nonterminal, production: Production) -> bool
+    ensures { result ≡ may_of nonterminal production }
 {
-    member(may_members(category), form)
+    is_member(may_members(nonterminal), production)
 }
 
-/// Whether a category has a form.
-pub fn has(category: Category, form: Form) -> bool
-    ensures { result ≡ has_of category form }
+/// Whether a nonterminal has a production.
+pub fn has_production(nonterminal: Nonterminal, production: Production) -> bool
+    ensures { result ≡ has_of nonterminal production }
 {
-    member(has_members(category), form)
+    is_member(has_members(nonterminal), production)
 }
 
-/// Whether a guard lets a token pass.
+/// Whether a guard lets a lexeme pass.
 #[tactic(auto, unfolding(crate::specs::Table::guards))]
-fn passes(guard: Guard, kind: Kind, after_line: bool) -> bool
-    ensures { result ≡ guards guard kind after_line }
+fn may_begin(guard: Lookahead, terminal: Terminal, after_line: bool) -> bool
+    ensures { result ≡ guards guard terminal after_line }
 {
     match guard {
-        Guard::Any => true,
-        Guard::NotBrace => !matches!(kind, Kind::Lbrace),
-        Guard::NotDeclaration => !matches!(
-            kind,
-            Kind::Lbrace | Kind::Function | Kind::Class | Kind::NameColon
+        Lookahead::Any => true,
+        Lookahead::NotBrace => !matches!(terminal, Terminal::LeftBrace),
+        Lookahead::NotDeclaration => !matches!(
+            terminal,
+            Terminal::LeftBrace
+                | Terminal::Function
+                | Terminal::Class
+                | Terminal::OfColon
+                | Terminal::NameColon
+                | Terminal::ProtoColon
+                | Terminal::TargetColon
         ),
-        Guard::SameLine => !after_line,
+        Lookahead::SameLine => !after_line,
     }
 }
 
-/// Whether a tree of a category may begin with a token.
-pub fn guard(category: Category, kind: Kind, after_line: bool) -> bool
-    ensures { result ≡ guard_of category kind after_line }
+/// Whether a tree of a nonterminal may begin with a lexeme.
+pub fn guard(nonterminal: Nonterminal, terminal: Terminal, after_line: bool) -> bool
+    ensures { result ≡ guard_of nonterminal terminal after_line }
 {
-    passes(guard_at_start(category), kind, after_line)
+    may_begin(guard_at_start(nonterminal), terminal, after_line)
 }
 
-/// The form of a category that begins by a part.
+/// The production of a nonterminal that begins by a part.
 #[tactic(auto, unfolding(crate::specs::Table::inner_of))]
-fn inner(category: Category) -> Option<Form>
-    ensures { result ≡ inner_of category }
+fn through(nonterminal: Nonterminal) -> Option<Production>
+    ensures { result ≡ inner_of nonterminal }
 {
-    CATEGORIES[category as usize].through
+    NONTERMINALS[nonterminal as usize].through
 }
 
-/// The forms that begin by a kind.
+/// The productions that begin by a terminal.
 #[tactic(auto, unfolding(crate::specs::Table::heads_of))]
-fn heads(kind: Kind) -> &'static [Form]
-    ensures { result.now ≡ heads_of kind }
+fn heads(terminal: Terminal) -> &'static [Production]
+    ensures { result.now ≡ heads_of terminal }
 {
-    HEADS[kind as usize].1
+    HEADS[terminal as usize].1
 }
 
-/// The forms that go on by a kind behind their first part.
+/// The productions that go on by a terminal behind their first part.
 #[tactic(auto, unfolding(crate::specs::Table::operators_at))]
-fn operators(kind: Kind) -> &'static [Form]
-    ensures { result.now ≡ operators_at kind }
+fn operators(terminal: Terminal) -> &'static [Production]
+    ensures { result.now ≡ operators_at terminal }
 {
-    HEADS[kind as usize].2
+    HEADS[terminal as usize].2
 }
 
-/// The first of these forms that a category may be.
-fn first_in(category: Category, forms: &[Form]) -> Option<Form>
-    ensures { result ≡ first_in category forms.now }
+/// The first of these productions that a nonterminal may be.
+fn first_in(nonterminal: Nonterminal, productions: &[Production]) -> Option<Production>
+    ensures { result ≡ first_in nonterminal productions.now }
 {
-    match forms {
+    match productions {
         [] => None,
-        [form, rest @ ..] => {
-            if may(category, *form) {
-                Some(*form)
+        [production, rest @ ..] => {
+            if may_be(nonterminal, *production) {
+                Some(*production)
             } else {
-                first_in(category, rest)
+                first_in(nonterminal, rest)
             }
         }
     }
 }
 
-/// Whether the first part of a form may be of another.
-fn leads(form: Form, inner: Form) -> bool
-    ensures { result ≡ firsts_of (rule_of form) inner }
+/// Whether the first part of a production may be of another.
+fn leads_with(production: Production, inner: Production) -> bool
+    ensures { result ≡ firsts_of (rule_of production) inner }
 {
-    match rule(form) {
-        [Part::Sub(category), ..] => has(*category, inner),
+    match rule(production) {
+        [Constituent::Part(nonterminal), ..] => has_production(*nonterminal, inner),
         _ => false,
     }
 }
 
-fn pick(category: Category, form: Form, operators: &[Form]) -> Option<Form>
-    ensures { result ≡ pick category form operators.now }
+fn pick_operator(nonterminal: Nonterminal, production: Production, operators: &[Production]) -> Option<Production>
+    ensures { result ≡ pick nonterminal production operators.now }
 {
     match operators {
         [] => None,
         [operator, rest @ ..] => {
-            if may(category, *operator) && leads(*operator, form) {
+            if may_be(nonterminal, *operator) && leads_with(*operator, production) {
                 Some(*operator)
             } else {
-                pick(category, form, rest)
+                pick_operator(nonterminal, production, rest)
             }
         }
     }
 }
 
-/// The form that a tree goes on as where a category is wanted, before a token.
+/// The production that a tree goes on as where a nonterminal is wanted, before a lexeme.
 #[tactic(auto, unfolding(crate::specs::Table::wrap_of))]
-pub fn wrap(category: Category, form: Form, kind: Kind) -> Option<Form>
-    ensures { result ≡ wrap_of category form kind }
+pub fn operator(nonterminal: Nonterminal, production: Production, terminal: Terminal) -> Option<Production>
+    ensures { result ≡ wrap_of nonterminal production terminal }
 {
-    pick(category, form, operators(kind))
+    pick_operator(nonterminal, production, operators(terminal))
 }
 
-/// The forms that a token opens, the outermost first.
+/// The productions that a lexeme opens, the outermost first.
 #[derive(Clone, Copy, Drop)]
 pub enum Opening {
     Nothing,
-    One(Form),
-    Both(Form, Form),
+    One(Production),
+    Both(Production, Production),
 }
 
-/// What a token opens as the first part of a form.
-fn opened_by(form: Form, kind: Kind, after_line: bool) -> Opening
-    ensures { forms_of result ≡ opened_by form (rule_of form) kind after_line }
+/// What a lexeme opens as the first part of a production.
+fn opened_by(production: Production, terminal: Terminal, after_line: bool) -> Opening
+    ensures { forms_of result ≡ opened_by production (rule_of production) terminal after_line }
 {
-    match rule(form) {
-        [Part::Sub(category), ..] => {
-            if guard(*category, kind, after_line) {
-                match first_in(*category, heads(kind)) {
-                    Some(inner) => Opening::Both(form, inner),
+    match rule(production) {
+        [Constituent::Part(nonterminal), ..] => {
+            if guard(*nonterminal, terminal, after_line) {
+                match first_in(*nonterminal, heads(terminal)) {
+                    Some(inner) => Opening::Both(production, inner),
                     None => Opening::Nothing,
                 }
             } else {
@@ -213,18 +217,18 @@ fn opened_by(form: Form, kind: Kind, after_line: bool) -> Opening
     }
 }
 
-/// The forms that a token opens where a category is wanted.
+/// The productions that a lexeme opens where a nonterminal is wanted.
 #[tactic(auto, unfolding(crate::specs::Table::start_of, crate::specs::Table::opens_of))]
-pub fn start(category: Category, kind: Kind, after_line: bool) -> Opening
-    ensures { forms_of result ≡ start_of category kind after_line }
+pub fn openings(nonterminal: Nonterminal, terminal: Terminal, after_line: bool) -> Opening
+    ensures { forms_of result ≡ start_of nonterminal terminal after_line }
 {
-    if !guard(category, kind, after_line) {
+    if !guard(nonterminal, terminal, after_line) {
         return Opening::Nothing;
     }
-    match first_in(category, heads(kind)) {
-        Some(form) => Opening::One(form),
-        None => match inner(category) {
-            Some(form) => opened_by(form, kind, after_line),
+    match first_in(nonterminal, heads(terminal)) {
+        Some(production) => Opening::One(production),
+        None => match through(nonterminal) {
+            Some(production) => opened_by(production, terminal, after_line),
             None => Opening::Nothing,
         },
     }
