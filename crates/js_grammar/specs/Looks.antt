@@ -1,0 +1,11 @@
+-- What a look comes to.
+use Rattle.std.specs.Prelude.{◌≡◌, Bool, true, false}
+use Rattle.js_grammar.specs.declared.symbols.Production.{Production}
+use Rattle.js_grammar.specs.declared.summary.Summary.{Summary}
+use Rattle.js_grammar.specs.declared.prospect.Prospect as l
+use Rattle.js_grammar.specs.declared.prospect.Prospect.TheVariants as look
+
+abbrev pub Looks_so : ((Production → Summary → Bool) → Bool) → l.Prospect → Type 0
+Looks_so go look.Yes = (k : Production → Summary → Bool) → go k ≡ true
+Looks_so go look.No = (k : Production → Summary → Bool) → go k ≡ false
+Looks_so go (look.Ended f m) = (k : Production → Summary → Bool) → go k ≡ k f m

@@ -1,0 +1,38 @@
+// Laws of the grammar, of its levels and of its semicolons.
+ghost use Rattle.js_grammar.specs.Laws.{Good, Exact, Read, Stands_whole, Kept, Kept_back, Low, Low_enough, Flatly, Looks_ahead, Begun, Refused, Inserted_read, Read_inserted, One_tree};
+
+/// The reader takes exactly the tokens that have a partial tree, and a module stands whole exactly where the tokens have a tree.
+pub fn exactly()
+    ensures good { Good }
+    ensures exact { Exact }
+    ensures read { Read }
+    ensures whole { Stands_whole }
+{}
+
+/// A token whose terminal hangs on the next one, as `get` before a property name, has a partial tree exactly where it has one without regard to
+/// that: so which token is the first impossible one does not hang on what comes behind it.
+pub fn prefixes()
+    ensures kept { Kept }
+    ensures back { Kept_back }
+{}
+
+/// What stands and what is open is at most n levels deep exactly where the tokens have a partial tree of at most n levels.
+pub fn levels()
+    ensures low { Low }
+    ensures enough { Low_enough }
+{}
+
+/// The program's partial tree, without trees and with one list of events, does what the reader of trees does, and the look ahead tells it.
+pub fn flatly()
+    ensures same { Flatly }
+    ensures ahead { Looks_ahead }
+{}
+
+/// With semicolons inserted the reader takes exactly the tokens that have a partial tree, and reads exactly those that have a tree: one at most.
+pub fn semicolons()
+    ensures begun { Begun }
+    ensures refused { Refused }
+    ensures read { Inserted_read }
+    ensures whole { Read_inserted }
+    ensures one { One_tree }
+{}

@@ -1,0 +1,340 @@
+// The reader: a partial tree that takes one token after the other.
+ghost use Rattle.std.specs.Prelude.{◌≡◌, ◌∷◌, IfOk, reverse};
+ghost use Rattle.js_grammar.specs.Flat.{fed_in};
+ghost use Rattle.js_grammar.specs.Laws.{from_flat};
+ghost use Rattle.js_grammar.specs.Moves.{shape_in, latest, begun_at, opened_at, onward_at, wrapped_at, put_at, fed_at, rest_of, Comes_to, Opens, Takes};
+ghost use Rattle.js_grammar.specs.Table.{forms_of};
+ghost use Rattle.js_grammar.specs.Would.{would};
+
+use crate::constituents::{Constituent, Repetition};
+use crate::event::Event;
+use crate::lexeme::Lexeme;
+use crate::open::{OpenProduction, Remainder, ahead, follow};
+use crate::prospect::is_taken;
+use crate::rules::{Opening, ends_list, is_among, openings, operator, rule};
+use crate::summary::{Summary, empty_summary, fits, with_leaf, with_node};
+use crate::symbols::{Nonterminal, Production};
+use std::alloc::{AllocError, Global};
+use std::marker::Model;
+
+/// The partial tree of the tokens that were taken: its open productions, and what stands, in the order of the text.
+#[derive(Drop)]
+pub struct PartialTree {
+    stack: Vec<OpenProduction>,
+    events: Vec<Event>,
+}
+
+impl Model for PartialTree {
+    ghost use Rattle.js_grammar.specs.Flat.{Flat};
+    ghost use Rattle.js_grammar.specs.Moves.{flat_in};
+
+    ghost Value = { Flat };
+
+    ghost view = { λ x. flat_in x.stack.items x.events.items };
+}
+
+impl PartialTree {
+    /// The partial tree of no tokens.
+    #[tactic(auto, using(crate::proofs::Reversed::reverse_push))]
+    pub fn new(alloc: Global) -> Result<PartialTree, AllocError>
+        ensures { IfOk result (λ tree. tree ≡ from_flat) }
+    {
+        let mut stack = Vec::new(alloc);
+        stack.push(OpenProduction {
+            production: Production::Source,
+            summary: empty_summary(),
+            rest: Remainder {
+                next: Some(Constituent::Part(Nonterminal::Module)),
+                later: &[],
+            },
+        })?;
+        Ok(PartialTree {
+            stack,
+            events: Vec::new(alloc),
+        })
+    }
+
+    /// Whether the token would be taken.
+    pub fn would_take(&self, lexeme: Lexeme) -> bool
+        ensures { result ≡ would self.now.items lexeme }
+    {
+        is_taken(&self.stack, lexeme)
+    }
+
+    /// Takes a token, or refuses it. Where it is refused, or memory runs out, it is left open what is left.
+    pub fn take(&mut self, lexeme: Lexeme) -> Result<bool, AllocError>
+        ensures { IfOk result (Takes (fed_in self.old lexeme) self.new) }
+    {
+        take_next(&mut self.stack, &mut self.events, lexeme)
+    }
+
+    /// What stands, in the order of the text, each production behind its parts. What is open has no event yet.
+    pub fn events(&self) -> &[Event]
+        ensures { reverse result.now ≡ self.now.out }
+    {
+        &self.events
+    }
+}
+
+/// How far a move has come.
+#[derive(Clone, Copy, Drop)]
+pub enum Progress {
+    /// The token is taken.
+    Taken,
+    /// It is refused.
+    Refused,
+    /// A whole tree stands before it.
+    Ended(Production, Summary),
+}
+
+/// What stands grows by an event.
+#[tactic(auto, using(crate::proofs::Reversed::reverse_push))]
+fn note(events: &mut Vec<Event>, event: Event) -> Result<(), AllocError>
+    ensures { IfOk result (λ _. latest events.new.items ≡ event ∷ latest events.old.items) }
+{
+    events.push(event)?;
+    Ok(())
+}
+
+/// A production takes the token as its first constituent.
+#[tactic(auto, using(crate::proofs::Reversed::reverse_push))]
+fn begin(
+    stack: &mut Vec<OpenProduction>,
+    events: &mut Vec<Event>,
+    production: Production,
+    lexeme: Lexeme,
+) -> Result<bool, AllocError>
+    ensures { IfOk result (Opens (begun_at stack.old.items events.old.items production lexeme) stack.new.items events.new.items) }
+{
+    match rule(production) {
+        [Constituent::Token(set), later @ ..] => {
+            if !is_among(lexeme.terminal, *set) {
+                return Ok(false);
+            }
+            note(events, Event::Leaf(lexeme))?;
+            stack.push(OpenProduction {
+                production,
+                summary: with_leaf(empty_summary(), lexeme),
+                rest: ahead(later),
+            })?;
+            Ok(true)
+        }
+        _ => Ok(false),
+    }
+}
+
+/// Opens productions, the outermost first.
+#[tactic(auto, using(crate::proofs::Reversed::reverse_push))]
+fn open_each(
+    stack: &mut Vec<OpenProduction>,
+    events: &mut Vec<Event>,
+    opening: Opening,
+    lexeme: Lexeme,
+) -> Result<bool, AllocError>
+    ensures { IfOk result (Opens (opened_at stack.old.items events.old.items (forms_of opening) lexeme) stack.new.items events.new.items) }
+{
+    match opening {
+        Opening::Nothing => Ok(false),
+        Opening::One(production) => begin(stack, events, production, lexeme),
+        Opening::Both(production, inner) => {
+            stack.push(OpenProduction {
+                production,
+                summary: empty_summary(),
+                rest: ahead(rule(production)),
+            })?;
+            begin(stack, events, inner, lexeme)
+        }
+    }
+}
+
+/// A production with its parts so far, before a token.
+#[tactic(auto, using(crate::proofs::Reversed::reverse_push))]
+fn advance(
+    stack: &mut Vec<OpenProduction>,
+    events: &mut Vec<Event>,
+    production: Production,
+    summary: Summary,
+    to_come: Remainder,
+    lexeme: Lexeme,
+) -> Result<Progress, AllocError>
+    ensures { IfOk result (Comes_to stack.old.items stack.new.items events.new.items (onward_at stack.old.items events.old.items production summary (rest_of to_come) lexeme)) }
+{
+    let later = to_come.later;
+    match to_come.next {
+        None => {
+            note(events, Event::Node(production))?;
+            Ok(Progress::Ended(production, summary))
+        }
+        Some(Constituent::Token(set)) => {
+            if !is_among(lexeme.terminal, set) {
+                return Ok(Progress::Refused);
+            }
+            note(events, Event::Leaf(lexeme))?;
+            stack.push(OpenProduction {
+                production,
+                summary: with_leaf(summary, lexeme),
+                rest: ahead(later),
+            })?;
+            Ok(Progress::Taken)
+        }
+        Some(Constituent::Part(nonterminal)) => {
+            stack.push(OpenProduction {
+                production,
+                summary,
+                rest: to_come,
+            })?;
+            let taken = open_each(
+                stack,
+                events,
+                openings(nonterminal, lexeme.terminal, lexeme.after_line),
+                lexeme,
+            )?;
+            Ok(if taken { Progress::Taken } else { Progress::Refused })
+        }
+        Some(Constituent::Optional(nonterminal, _)) => {
+            let opened = openings(nonterminal, lexeme.terminal, lexeme.after_line);
+            if matches!(opened, Opening::Nothing) {
+                note(events, Event::Absent)?;
+                return advance(stack, events, production, summary, ahead(later), lexeme);
+            }
+            stack.push(OpenProduction {
+                production,
+                summary,
+                rest: to_come,
+            })?;
+            let taken = open_each(stack, events, opened, lexeme)?;
+            Ok(if taken { Progress::Taken } else { Progress::Refused })
+        }
+        Some(Constituent::Further(nonterminal, set)) => {
+            if !is_among(lexeme.terminal, set) {
+                note(events, Event::Absent)?;
+                return advance(stack, events, production, summary, ahead(later), lexeme);
+            }
+            note(events, Event::Leaf(lexeme))?;
+            stack.push(OpenProduction {
+                production,
+                summary: with_leaf(summary, lexeme),
+                rest: Remainder {
+                    next: Some(Constituent::Optional(nonterminal, Repetition::Listed(set))),
+                    later,
+                },
+            })?;
+            Ok(Progress::Taken)
+        }
+    }
+}
+
+/// A tree becomes the first part of a production, whose second constituent is the token.
+#[tactic(auto, using(crate::proofs::Reversed::reverse_push))]
+fn wrap(
+    stack: &mut Vec<OpenProduction>,
+    events: &mut Vec<Event>,
+    outer: Production,
+    production: Production,
+    summary: Summary,
+    lexeme: Lexeme,
+) -> Result<bool, AllocError>
+    ensures { IfOk result (Opens (wrapped_at stack.old.items events.old.items outer production summary lexeme) stack.new.items events.new.items) }
+{
+    match rule(outer) {
+        [Constituent::Part(nonterminal), Constituent::Token(set), later @ ..] => {
+            if !fits(*nonterminal, production, summary) || !is_among(lexeme.terminal, *set) {
+                return Ok(false);
+            }
+            note(events, Event::Leaf(lexeme))?;
+            stack.push(OpenProduction {
+                production: outer,
+                summary: with_leaf(with_node(empty_summary(), production, summary), lexeme),
+                rest: ahead(later),
+            })?;
+            Ok(true)
+        }
+        _ => Ok(false),
+    }
+}
+
+/// A whole tree stands where an open production wants a part.
+#[tactic(auto, using(crate::proofs::Reversed::reverse_push))]
+fn place(
+    stack: &mut Vec<OpenProduction>,
+    events: &mut Vec<Event>,
+    top: OpenProduction,
+    inner: Production,
+    parts: Summary,
+    lexeme: Lexeme,
+) -> Result<Progress, AllocError>
+    ensures { IfOk result (Comes_to stack.old.items stack.new.items events.new.items (put_at stack.old.items events.old.items (shape_in top) inner parts lexeme)) }
+{
+    let OpenProduction {
+        production,
+        summary,
+        rest: to_come,
+    } = top;
+    let later = to_come.later;
+    match to_come.next {
+        Some(Constituent::Part(nonterminal)) => match operator(nonterminal, inner, lexeme.terminal) {
+            Some(outer) => {
+                stack.push(top)?;
+                let taken = wrap(stack, events, outer, inner, parts, lexeme)?;
+                Ok(if taken { Progress::Taken } else { Progress::Refused })
+            }
+            None => {
+                if !fits(nonterminal, inner, parts) {
+                    return Ok(Progress::Refused);
+                }
+                advance(
+                    stack,
+                    events,
+                    production,
+                    with_node(summary, inner, parts),
+                    ahead(later),
+                    lexeme,
+                )
+            }
+        },
+        Some(Constituent::Optional(nonterminal, repetition)) => match operator(nonterminal, inner, lexeme.terminal) {
+            Some(outer) => {
+                stack.push(top)?;
+                let taken = wrap(stack, events, outer, inner, parts, lexeme)?;
+                Ok(if taken { Progress::Taken } else { Progress::Refused })
+            }
+            None => {
+                if !fits(nonterminal, inner, parts) {
+                    return Ok(Progress::Refused);
+                }
+                advance(
+                    stack,
+                    events,
+                    production,
+                    with_node(summary, inner, parts),
+                    follow(ends_list(inner), nonterminal, repetition, later),
+                    lexeme,
+                )
+            }
+        },
+        _ => Ok(Progress::Refused),
+    }
+}
+
+/// Takes a token, or refuses it.
+#[tactic(auto, using(crate::proofs::Reversed::reverse_push))]
+fn take_next(stack: &mut Vec<OpenProduction>, events: &mut Vec<Event>, lexeme: Lexeme) -> Result<bool, AllocError>
+    ensures { IfOk result (Opens (fed_at stack.old.items events.old.items lexeme) stack.new.items events.new.items) }
+{
+    let Some(top) = stack.pop() else {
+        return Ok(false);
+    };
+    let mut progress = advance(stack, events, top.production, top.summary, top.rest, lexeme)?;
+    loop {
+        match progress {
+            Progress::Taken => return Ok(true),
+            Progress::Refused => return Ok(false),
+            Progress::Ended(inner, parts) => {
+                let Some(top) = stack.pop() else {
+                    return Ok(false);
+                };
+                progress = place(stack, events, top, inner, parts, lexeme)?;
+            }
+        }
+    }
+}
