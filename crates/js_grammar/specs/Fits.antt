@@ -1,10 +1,9 @@
 -- What a tree has to be beside being built by the rules: the refinements of the cover grammars, and the whole grammar.
-use Rattle.std.specs.Prelude.{◌≡◌, ℕ, ◌+◌, Bool, true, false, not, ◌&&◌, ◌||◌, nat_eq, cond, List, [], ◌∷◌, ◌++◌, Option, Some, None}
+use Rattle.std.specs.Prelude.{Bool, true, false, not, ◌&&◌, ◌||◌, Option, Some, None}
 use Rattle.js_grammar.specs.declared.lexeme.Lexeme.{Lexeme}
 use Rattle.js_grammar.specs.declared.symbols.Terminal.{Terminal}
 use Rattle.js_grammar.specs.declared.symbols.Terminal.TheVariants as terminal
 use Rattle.js_grammar.specs.declared.summary.Summary.{Summary}
-use Rattle.js_grammar.specs.declared.constituents.Terminals.{Terminals}
 use Rattle.js_grammar.specs.declared.symbols.Nonterminal.{Nonterminal}
 use Rattle.js_grammar.specs.declared.symbols.Nonterminal.TheVariants as nonterminal
 use Rattle.js_grammar.specs.declared.symbols.Production.{Production}

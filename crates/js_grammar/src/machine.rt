@@ -189,7 +189,11 @@ fn advance(
                 openings(nonterminal, lexeme.terminal, lexeme.after_line),
                 lexeme,
             )?;
-            Ok(if taken { Progress::Taken } else { Progress::Refused })
+            Ok(if taken {
+                Progress::Taken
+            } else {
+                Progress::Refused
+            })
         }
         Some(Constituent::Optional(nonterminal, _)) => {
             let opened = openings(nonterminal, lexeme.terminal, lexeme.after_line);
@@ -203,7 +207,11 @@ fn advance(
                 rest: to_come,
             })?;
             let taken = open_each(stack, events, opened, lexeme)?;
-            Ok(if taken { Progress::Taken } else { Progress::Refused })
+            Ok(if taken {
+                Progress::Taken
+            } else {
+                Progress::Refused
+            })
         }
         Some(Constituent::Further(nonterminal, set)) => {
             if !is_among(lexeme.terminal, set) {
@@ -237,7 +245,11 @@ fn wrap(
     ensures { IfOk result (Opens (wrapped_at stack.old.items events.old.items outer production summary lexeme) stack.new.items events.new.items) }
 {
     match rule(outer) {
-        [Constituent::Part(nonterminal), Constituent::Token(set), later @ ..] => {
+        [
+            Constituent::Part(nonterminal),
+            Constituent::Token(set),
+            later @ ..,
+        ] => {
             if !fits(*nonterminal, production, summary) || !is_among(lexeme.terminal, *set) {
                 return Ok(false);
             }
@@ -272,11 +284,19 @@ fn place(
     } = top;
     let later = to_come.later;
     match to_come.next {
-        Some(Constituent::Part(nonterminal)) => match operator(nonterminal, inner, lexeme.terminal) {
+        Some(Constituent::Part(nonterminal)) => match operator(
+            nonterminal,
+            inner,
+            lexeme.terminal,
+        ) {
             Some(outer) => {
                 stack.push(top)?;
                 let taken = wrap(stack, events, outer, inner, parts, lexeme)?;
-                Ok(if taken { Progress::Taken } else { Progress::Refused })
+                Ok(if taken {
+                    Progress::Taken
+                } else {
+                    Progress::Refused
+                })
             }
             None => {
                 if !fits(nonterminal, inner, parts) {
@@ -292,11 +312,19 @@ fn place(
                 )
             }
         },
-        Some(Constituent::Optional(nonterminal, repetition)) => match operator(nonterminal, inner, lexeme.terminal) {
+        Some(Constituent::Optional(nonterminal, repetition)) => match operator(
+            nonterminal,
+            inner,
+            lexeme.terminal,
+        ) {
             Some(outer) => {
                 stack.push(top)?;
                 let taken = wrap(stack, events, outer, inner, parts, lexeme)?;
-                Ok(if taken { Progress::Taken } else { Progress::Refused })
+                Ok(if taken {
+                    Progress::Taken
+                } else {
+                    Progress::Refused
+                })
             }
             None => {
                 if !fits(nonterminal, inner, parts) {
@@ -318,7 +346,11 @@ fn place(
 
 /// Takes a token, or refuses it.
 #[tactic(auto, using(crate::proofs::Reversed::reverse_push))]
-fn take_next(stack: &mut Vec<OpenProduction>, events: &mut Vec<Event>, lexeme: Lexeme) -> Result<bool, AllocError>
+fn take_next(
+    stack: &mut Vec<OpenProduction>,
+    events: &mut Vec<Event>,
+    lexeme: Lexeme,
+) -> Result<bool, AllocError>
     ensures { IfOk result (Opens (fed_at stack.old.items events.old.items lexeme) stack.new.items events.new.items) }
 {
     let Some(top) = stack.pop() else {

@@ -44,8 +44,7 @@ static LISTS: [(usize, &'static [Terminal]); 24] = lists! {
 fn taken(alloc: Global, terminals: &[Terminal]) -> Result<Option<usize>, AllocError> {
     let mut tree = PartialTree::new(alloc)?;
     tree.take(lexeme(Terminal::Start))?;
-    let mut count = 0;
-    for terminal in terminals {
+    for (count, terminal) in terminals.iter().enumerate() {
         let expected = tree.would_take(lexeme(*terminal));
         if tree.take(lexeme(*terminal))? != expected {
             return Ok(None);
@@ -53,9 +52,8 @@ fn taken(alloc: Global, terminals: &[Terminal]) -> Result<Option<usize>, AllocEr
         if !expected {
             return Ok(Some(count));
         }
-        count += 1;
     }
-    Ok(Some(count))
+    Ok(Some(terminals.len()))
 }
 
 fn lexeme(terminal: Terminal) -> Lexeme {

@@ -1,4 +1,3 @@
-use Rattle.std.proofs.Common.{length}
 use Rattle.js_grammar.specs.Moves.{fed_at, Stage, turns_left}
 use Rattle.js_grammar.proofs.machine.take_next.Given as goal
 
