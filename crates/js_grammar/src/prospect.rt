@@ -3,7 +3,7 @@ ghost use Rattle.std.specs.Prelude.{◌≡◌, ◌∷◌, []};
 ghost use Rattle.js_grammar.specs.Table.{rule_of, forms_of};
 ghost use Rattle.js_grammar.specs.Would.{opened_would, onward_would, wrapped_would, put_would, complete_would, would};
 ghost use Rattle.js_grammar.specs.Moves.{shapes_of, rest_of};
-ghost use Rattle.js_grammar.specs.Looks.{Looks_so};
+ghost use Rattle.js_grammar.specs.Looks.{Looks_so, put_looks};
 
 use crate::constituents::Constituent;
 use crate::lexeme::Lexeme;
@@ -103,7 +103,7 @@ fn would_wrap(outer: Production, inner: Production, parts: Summary, lexeme: Lexe
 }
 
 fn would_place(top: OpenProduction, inner: Production, parts: Summary, lexeme: Lexeme) -> Prospect
-    ensures { Looks_so (λ k. put_would k top.production top.summary (rest_of top.rest) inner parts lexeme) result }
+    ensures { Looks_so (put_looks top inner parts lexeme) result }
 {
     let later = top.rest.later;
     match top.rest.next {

@@ -1,6 +1,6 @@
 // What is to be known of the parts of a production.
 ghost use Rattle.std.specs.Prelude.{◌≡◌, ◌&&◌, ◌||◌, not};
-ghost use Rattle.js_grammar.specs.Fits.{is_cover, is_initialized_name, is_parenthesized, is_cover_comma, is_cover_rest, is_property, is_literal, is_identifier, is_inner, is_free, is_spread_element, is_spread_property, is_assignment, is_comma_element, is_super, is_super_call, is_new, is_if, ends_with_statement, is_binding_pattern, is_initializer, is_for_binding, is_for_declaration, is_closing_parenthesis, is_comma, is_async_of, is_proto, first_some, if_first, is_async_first, is_proto_first, ends_well, is_plain, is_proper, is_super_property, super_part, is_value_or_pattern, is_target, is_bindable, rest_pattern, rest_binding, part_pattern, part_binding, empty_summary, with_leaf, with_node, is_lone_declaration, refined_by};
+ghost use Rattle.js_grammar.specs.Fits.{is_cover, is_initialized_name, is_parenthesized, is_cover_comma, is_cover_rest, is_property, is_literal, is_identifier, is_inner, is_free, is_spread_element, is_spread_property, is_assignment, is_comma_element, is_super, is_super_call, is_new, is_if, ends_with_statement, is_binding_pattern, is_initializer, is_for_binding, is_for_declaration, is_closing_parenthesis, is_comma, is_async_of, is_proto, first_some, if_first, is_async_first, is_proto_first, ends_well, is_plain, is_proper, is_super_property, super_part, is_value_or_pattern, is_target, is_bindable, rest_pattern, rest_binding, part_pattern, part_binding, ends_pattern, is_closed, empty_summary, with_leaf, with_node, is_lone_declaration, refined_by};
 ghost use Rattle.js_grammar.specs.Guarded.{is_guarded};
 ghost use Rattle.js_grammar.specs.Flat.{led_by, fit_by};
 
@@ -516,8 +516,8 @@ fn proper_with(summary: Summary, production: Production, parts: Summary) -> bool
     summary.proper && is_proper(production, parts)
 }
 
-fn closed_node(production: Production, parts: Summary) -> bool
-    ensures { result ≡ (not (ends_with_statement production) || (not (is_if production) && parts.closed)) }
+fn is_closed(production: Production, parts: Summary) -> bool
+    ensures { result ≡ is_closed production parts }
 {
     !ends_with_statement(production) || !is_if(production) && parts.closed
 }
@@ -535,7 +535,7 @@ fn binding_with(summary: Summary, production: Production, parts: Summary) -> boo
 }
 
 fn ended_with(summary: Summary, production: Production, parts: Summary) -> bool
-    ensures { result ≡ (summary.ended || (is_spread_element production || (is_spread_property production || (is_comma_element production && parts.ended)))) }
+    ensures { result ≡ (summary.ended || ends_pattern production parts) }
 {
     summary.ended
         || is_spread_element(production)
@@ -574,7 +574,7 @@ pub fn with_node(summary: Summary, production: Production, parts: Summary) -> Su
     Summary {
         proper: proper_with(summary, production, parts),
         valued: !is_cover_rest(production),
-        closed: closed_node(production, parts),
+        closed: is_closed(production, parts),
         called_new: !is_new(production),
         pattern: pattern_with(summary, production, parts),
         binding: binding_with(summary, production, parts),
