@@ -1,17 +1,16 @@
 -- In a grammar whose table meets some tests, each valid tree is calm.
-use Rattle.std.proofs.Common.{◌≡◌, ℕ, ◌+◌, Bool, true, false, not, ◌&&◌, ◌||◌, cond, List, [], ◌∷◌, ◌++◌, Option, Some, None, refl, sym, ap, subst, ◌∙◌, arith}
+use Rattle.std.proofs.Common.{◌≡◌, Bool, true, false, not, ◌&&◌, ◌||◌, cond, List, [], ◌∷◌, Option, Some, None, refl, sym, subst}
 use Rattle.js_grammar.specs.declared.lexeme.Lexeme.{Lexeme}
-use Rattle.js_grammar.specs.declared.constituents.Terminals.{Terminals}
 use Rattle.js_grammar.specs.declared.symbols.Nonterminal.{Nonterminal}
 use Rattle.js_grammar.specs.declared.constituents.Constituent.{Constituent}
 use Rattle.js_grammar.specs.declared.constituents.Repetition.{Repetition}
 use Rattle.js_grammar.specs.declared.constituents.Repetition.TheVariants.{Once, Many, Listed}
 use Rattle.js_grammar.specs.declared.constituents.Constituent.TheVariants.{Token, Part, Optional, Further}
 use Rattle.js_grammar.specs.declared.symbols.Production.{Production}
-use Rattle.js_grammar.specs.Grammar.{Tree, Leaf, Node, Absent, Row, Nil, Then, Grammar, is, fit, led, follow, behind, after, only_if, over, left, takes, spell, spells, Partial, Open, Within, begins, IsPart, Stands, IsPartial}
+use Rattle.js_grammar.specs.Grammar.{Tree, Leaf, Node, Absent, Row, Nil, Then, is, led, follow, behind, over, left, takes, spell, spells, Partial, Open, Within, begins, IsPart, Stands, IsPartial}
 use Rattle.js_grammar.specs.Machine.{Table}
 use Rattle.js_grammar.proofs.Sound.{only_some, after_is, and_true}
-use Rattle.js_grammar.proofs.Follows.{is_none, is_nil, is_empty, Asks, clear, not_started, quiet, quiet_row, before, calm, calm_row, calm_partial, word_stands}
+use Rattle.js_grammar.proofs.Follows.{is_nil, is_empty, clear, not_started, quiet_row, before, calm_row, calm_partial}
 
 abbrev pub implies : Bool → Bool → Bool
 implies true b = b

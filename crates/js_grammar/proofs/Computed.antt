@@ -1,10 +1,10 @@
 -- What the tests need of the table: operators, lists that end, and which tokens go on with what, computed from the rules.
-use Rattle.std.proofs.Common.{zero, suc, ◌≡◌, ℕ, ◌+◌, Bool, true, false, not, ◌&&◌, ◌||◌, nat_eq, cond, ◌/◌, ◌%◌, ◌^◌, List, [], ◌∷◌, Option, Some, None, refl}
+use Rattle.std.proofs.Common.{zero, suc, ℕ, Bool, true, false, not, ◌&&◌, ◌||◌, nat_eq, ◌/◌, ◌%◌, ◌^◌, List, [], ◌∷◌}
 use Rattle.js_grammar.specs.declared.lexeme.Lexeme.{Lexeme}
 use Rattle.js_grammar.specs.declared.symbols.Terminal.{Terminal}
 use Rattle.js_grammar.specs.declared.symbols.Nonterminal.{Nonterminal}
 use Rattle.js_grammar.specs.declared.constituents.Constituent.{Constituent}
-use Rattle.js_grammar.specs.declared.constituents.Constituent.TheVariants.{Token, Part, Optional, Further}
+use Rattle.js_grammar.specs.declared.constituents.Constituent.TheVariants.{Token, Part}
 use Rattle.js_grammar.specs.declared.symbols.Production.{Production}
 use Rattle.js_grammar.specs.declared.symbols.Production.TheVariants as production
 use Rattle.js_grammar.specs.Table

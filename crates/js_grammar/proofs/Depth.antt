@@ -1,13 +1,13 @@
 -- What stands is at most n levels deep exactly where the tokens have a partial tree that is.
-use Rattle.std.proofs.Common.{◌≡◌, ℕ, ◌+◌, ◌≤◌, Bool, true, false, ◌&&◌, List, [], ◌∷◌, ◌++◌, Option, Some, None, refl, sym, ap, subst, ◌∙◌, arith}
+use Rattle.std.proofs.Common.{◌≡◌, ℕ, ◌+◌, ◌≤◌, ◌&&◌, List, [], ◌∷◌, ◌++◌, Option, Some, None, refl, sym, subst, ◌∙◌, arith}
 use Rattle.js_grammar.specs.declared.lexeme.Lexeme.{Lexeme}
 use Rattle.js_grammar.specs.declared.symbols.Nonterminal.TheVariants as nonterminal
 use Rattle.js_grammar.specs.declared.symbols.Production.{Production}
 use Rattle.js_grammar.specs.declared.symbols.Production.TheVariants as production
 use Rattle.js_grammar.specs.declared.constituents.Constituent.{Constituent}
-use Rattle.js_grammar.specs.Grammar.{Tree, Leaf, Node, Absent, Row, Nil, Then, is, led, left, over, spell, spells, Partial, Open, Within, begins, IsPart, Stands, IsPartial, HasPartial}
-use Rattle.js_grammar.specs.Levels.{LowPartial, level, Shallow}
-use Rattle.js_grammar.specs.Machine.{Item, State, item, feeds}
+use Rattle.js_grammar.specs.Grammar.{Leaf, Node, Absent, Row, Nil, Then, is, led, left, over, spells, Partial, Open, Within, begins, IsPart, Stands, IsPartial}
+use Rattle.js_grammar.specs.Levels.{LowPartial, level}
+use Rattle.js_grammar.specs.Machine.{State}
 use Rattle.js_grammar.specs.Table
 use Rattle.js_grammar.specs.Table.{levels_of, lead_levels_of}
 use Rattle.js_grammar.specs.Fits.{fits_of, grammar, table}

@@ -1,23 +1,22 @@
 -- Each test of the table is a rule at each entry.
-use Rattle.std.proofs.Common.{◌≡◌, ℕ, ◌+◌, Bool, true, false, not, ◌&&◌, ◌||◌, cond, nat_eq, List, [], ◌∷◌, ◌++◌, Option, Some, None, refl, sym, ap, subst, ◌∙◌}
+use Rattle.std.proofs.Common.{◌≡◌, Bool, true, false, not, ◌&&◌, cond, List, [], ◌∷◌, Option, Some, None, refl, ap, ◌∙◌}
 use Rattle.js_grammar.specs.declared.lexeme.Lexeme.{Lexeme}
 use Rattle.js_grammar.specs.declared.symbols.Terminal.{Terminal}
-use Rattle.js_grammar.specs.declared.constituents.Terminals.{Terminals}
 use Rattle.js_grammar.specs.declared.symbols.Nonterminal.{Nonterminal}
 use Rattle.js_grammar.specs.declared.constituents.Constituent.{Constituent}
 use Rattle.js_grammar.specs.declared.constituents.Constituent.TheVariants.{Token, Part, Optional, Further}
 use Rattle.js_grammar.specs.declared.symbols.Production.{Production}
 use Rattle.js_grammar.specs.declared.symbols.Production.TheVariants as production
-use Rattle.js_grammar.specs.Grammar.{Tree, Leaf, Node, Absent, Row, Nil, Then, left}
+use Rattle.js_grammar.specs.Grammar.{Row, Nil}
 use Rattle.js_grammar.specs.Machine.{State, item}
-use Rattle.js_grammar.specs.Table.{rule_of, ends_of, place_of, start_of, opens_of, guard_of, stands_of, may_of, has_of, wrap_of, pick, chosen, operators_at, firsts_of, first_in, heads_of, inner_of, opens_with}
-use Rattle.js_grammar.specs.Fits.{fits_of, refined, grammar, table}
+use Rattle.js_grammar.specs.Table.{rule_of, ends_of, start_of, opens_of, guard_of, stands_of, may_of, has_of, wrap_of, pick, chosen, operators_at, firsts_of, first_in, heads_of, opens_with}
+use Rattle.js_grammar.specs.Fits.{fits_of, refined, table}
 use Rattle.js_grammar.proofs.Sound.{and_true, Below, Opens, Asked}
-use Rattle.js_grammar.proofs.Follows.{is_none, is_empty, Way, by_word, by_operator, by_part}
-use Rattle.js_grammar.proofs.Calm.{implies, implied, both, settles, edge, tight, Firsts}
+use Rattle.js_grammar.proofs.Follows.{Way, by_word, by_operator, by_part}
+use Rattle.js_grammar.proofs.Calm.{implies, implied, settles, edge}
 use Rattle.js_grammar.proofs.Places.{productions, terminals}
 use Rattle.js_grammar.proofs.Computed.{operator_of, harmless_of, edge_of, closes_of, lexeme, unwrapped}
-use Rattle.js_grammar.proofs.Tame.{all, each_production, each_nonterminal, each_terminal, same_production, same_productions, same_productions_is, asks, linked, opens_right, opens_all, leads_test, is_some_form, wraps_test, word_test, starts_so, part_test, way_test, ways_all, has_all, harmless_all, edges_all, harmless, edge_all, inside_all, is_special, firsts_test, first_all, closes_all}
+use Rattle.js_grammar.proofs.Tame.{all, each_production, each_nonterminal, each_terminal, same_production, same_productions_is, asks, linked, opens_right, opens_all, leads_test, is_some_form, wraps_test, starts_so, part_test, way_test, ways_all, has_all, harmless_all, edges_all, harmless, edge_all, inside_all, closes_all}
 
 abbrev Opening : State → List Production → Lexeme → Type 0
 Opening s fs t = Opens table production.Source s fs t

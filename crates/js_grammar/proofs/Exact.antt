@@ -1,23 +1,23 @@
 -- The reader is exact: what it takes has a partial tree, and all tokens of a partial tree are taken.
-use Rattle.std.proofs.Common.{◌≡◌, ℕ, Bool, true, false, not, ◌&&◌, cond, nat_eq, List, [], ◌∷◌, ◌++◌, Option, Some, None, refl, sym, ap, subst, ◌∙◌}
+use Rattle.std.proofs.Common.{◌≡◌, ℕ, Bool, true, false, ◌&&◌, nat_eq, List, [], ◌∷◌, ◌++◌, Option, Some, None, refl, sym, ap, ◌∙◌}
 use Rattle.js_grammar.specs.declared.lexeme.Lexeme.{Lexeme}
 use Rattle.js_grammar.specs.declared.symbols.Nonterminal.{Nonterminal}
 use Rattle.js_grammar.specs.declared.symbols.Nonterminal.TheVariants as nonterminal
 use Rattle.js_grammar.specs.declared.constituents.Constituent.{Constituent}
-use Rattle.js_grammar.specs.declared.constituents.Constituent.TheVariants.{Token, Part, Optional, Further}
+use Rattle.js_grammar.specs.declared.constituents.Constituent.TheVariants.{Part}
 use Rattle.js_grammar.specs.declared.symbols.Production.{Production}
 use Rattle.js_grammar.specs.declared.symbols.Production.TheVariants as production
-use Rattle.js_grammar.specs.Grammar.{Tree, Leaf, Node, Absent, Row, Nil, Then, is, led, left, over, takes, only_if, spell, spells, Partial, Open, Within, begins, IsPart, Stands, IsPartial, IsSpelled, HasPartial}
+use Rattle.js_grammar.specs.Grammar.{Tree, Leaf, Node, Absent, Row, Nil, Then, is, led, left, over, takes, only_if, spells, Partial, Open, Within, begins, IsPart, Stands, IsPartial, HasPartial}
 use Rattle.js_grammar.specs.Levels.{LowPartial, level, Shallow}
-use Rattle.js_grammar.specs.Machine.{Item, State, item, feed, feeds}
+use Rattle.js_grammar.specs.Machine.{State, item, feeds}
 use Rattle.js_grammar.specs.Table
 use Rattle.js_grammar.specs.Table.{rule_of, may_of, has_of, place_of, start_of, guard_of, levels_of, lead_levels_of}
 use Rattle.js_grammar.specs.Fits.{fits_of, grammar, table}
 use Rattle.js_grammar.specs.Laws.{from}
-use Rattle.js_grammar.proofs.Sound.{and_true, after_is, Below, Opens, Fine, held, feeds_comes, holds_partial}
+use Rattle.js_grammar.proofs.Sound.{and_true, after_is, Fine, held, feeds_comes, holds_partial}
 use Rattle.js_grammar.proofs.Follows.{is_empty, starts_row, no_nil, partial_starts, leads_partial, reads_partial, reads_closed, MayStart, Starts}
 use Rattle.js_grammar.proofs.Calm.{implies, implied, calm_of, calm_partial_of}
-use Rattle.js_grammar.proofs.Places.{productions, terminals}
+use Rattle.js_grammar.proofs.Places.{productions}
 use Rattle.js_grammar.proofs.Computed.{operator_of, closes_of, tables}
 use Rattle.js_grammar.proofs.Tame.{all, each_production, same_production, harmless}
 use Rattle.js_grammar.proofs.Entries.{start_opens, wrap_may, fits_leads, way, harmless_wrap, harmless_edge, inside, ending}

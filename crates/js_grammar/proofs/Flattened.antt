@@ -1,22 +1,20 @@
 -- The reader over flat output does what the reader of trees does.
-use Rattle.std.proofs.Common.{◌≡◌, ℕ, ◌+◌, Bool, true, false, ◌&&◌, cond, List, [], ◌∷◌, ◌++◌, Option, Some, None, refl, sym, ap, subst, ◌∙◌, map}
+use Rattle.std.proofs.Common.{◌≡◌, Bool, true, false, ◌&&◌, List, [], ◌∷◌, Option, Some, None, refl, sym, ap, ◌∙◌, map}
 use Rattle.js_grammar.specs.declared.lexeme.Lexeme.{Lexeme}
 use Rattle.js_grammar.specs.declared.symbols.Nonterminal.{Nonterminal}
-use Rattle.js_grammar.specs.declared.constituents.Repetition.{Repetition}
-use Rattle.js_grammar.specs.declared.constituents.Repetition.TheVariants.{Listed}
 use Rattle.js_grammar.specs.declared.constituents.Constituent.{Constituent}
 use Rattle.js_grammar.specs.declared.constituents.Constituent.TheVariants.{Token, Part, Optional, Further}
 use Rattle.js_grammar.specs.declared.symbols.Production.{Production}
 use Rattle.js_grammar.specs.declared.summary.Summary.{Summary}
 use Rattle.js_grammar.specs.declared.event.Event.{Event}
 use Rattle.js_grammar.specs.declared.event.Event.TheVariants as event
-use Rattle.js_grammar.specs.Grammar.{Tree, Leaf, Node, Absent, Row, Nil, Then, spells, spell, led, fit, only_if, follow}
-use Rattle.js_grammar.specs.Machine.{Item, State, item, begun, opened, or_else, choose, onward, wrapped, joined, placed, turned, put, complete, feed}
-use Rattle.js_grammar.specs.Table.{rule_of, ends_of, stands_of, has_of, guard_of, start_of, wrap_of}
-use Rattle.js_grammar.specs.Fits.{grammar, table, fits_of, refined_by, empty_summary, with_leaf, with_node, summary_of, first_some}
+use Rattle.js_grammar.specs.Grammar.{Tree, Leaf, Node, Absent, Row, Nil, Then, spells, fit, only_if, follow}
+use Rattle.js_grammar.specs.Machine.{State, item, begun, opened, or_else, choose, onward, wrapped, joined, put, complete, feed}
+use Rattle.js_grammar.specs.Table.{rule_of, ends_of, stands_of, has_of, start_of, wrap_of}
+use Rattle.js_grammar.specs.Fits.{grammar, table, fits_of, refined_by, summary_of, first_some}
 use Rattle.js_grammar.specs.Guarded.{head_of}
 use Rattle.js_grammar.specs.Laws.{so}
-use Rattle.js_grammar.specs.Flat.{led_by, fit_by, Shape, shape, Flat, flat, chosen_of, or_opened, joined_to, begun_flat, opened_flat, onward_flat, wrapped_flat, turned_flat, put_flat, complete_flat, fed_flat, laid, laid_out, shape_of, flat_of}
+use Rattle.js_grammar.specs.Flat.{led_by, fit_by, Flat, chosen_of, or_opened, joined_to, begun_flat, opened_flat, onward_flat, wrapped_flat, put_flat, complete_flat, fed_flat, laid, laid_out, shape_of}
 use Rattle.js_grammar.proofs.Pushed.{head_append, led_head}
 
 so_only : (b : Bool) (o : Option State) → only_if b (so o) ≡ so (only_if b o)

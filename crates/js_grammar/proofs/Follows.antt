@@ -1,5 +1,5 @@
 -- A tree that a nonterminal has is read, whatever waits below, and before any lexeme that does not go on with its right edge.
-use Rattle.std.proofs.Common.{◌≡◌, ℕ, ◌+◌, ◌≤◌, Bool, true, false, not, ◌&&◌, cond, List, [], ◌∷◌, ◌++◌, Option, Some, None, refl, sym, ap, subst, ◌∙◌, append_assoc, arith}
+use Rattle.std.proofs.Common.{◌≡◌, ℕ, ◌+◌, ◌≤◌, Bool, true, false, not, ◌&&◌, cond, List, [], ◌∷◌, ◌++◌, Option, Some, None, refl, sym, ap, subst, ◌∙◌, arith}
 use Rattle.std.proofs.lemmas.List.{append-nil}
 use Rattle.js_grammar.specs.declared.lexeme.Lexeme.{Lexeme}
 use Rattle.js_grammar.specs.declared.constituents.Terminals.{Terminals}
@@ -9,8 +9,8 @@ use Rattle.js_grammar.specs.declared.constituents.Repetition.{Repetition}
 use Rattle.js_grammar.specs.declared.constituents.Repetition.TheVariants.{Listed}
 use Rattle.js_grammar.specs.declared.constituents.Constituent.TheVariants.{Token, Part, Optional, Further}
 use Rattle.js_grammar.specs.declared.symbols.Production.{Production}
-use Rattle.js_grammar.specs.Grammar.{Tree, Leaf, Node, Absent, Row, Nil, Then, Grammar, is, fit, led, follow, after, only_if, over, left, takes, spell, spells, Partial, Open, Within, begins, IsPart, Stands, IsPartial}
-use Rattle.js_grammar.specs.Machine.{Item, State, Table, item, begun, opened, or_else, choose, turned, onward, wrapped, joined, placed, put, complete, feed, feeds}
+use Rattle.js_grammar.specs.Grammar.{Tree, Leaf, Node, Absent, Row, Nil, Then, is, led, follow, over, left, takes, spell, spells, Partial, Open, Within, begins, IsPart, Stands, IsPartial}
+use Rattle.js_grammar.specs.Machine.{State, Table, item, opened, wrapped, placed, put, complete, feed, feeds}
 use Rattle.js_grammar.specs.Levels.{step, Low, Lows, LowPartial, level, Shallow}
 use Rattle.js_grammar.proofs.Sound.{only_some, after_is, and_true}
 

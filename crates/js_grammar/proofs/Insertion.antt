@@ -1,10 +1,10 @@
 -- The reader inserts a semicolon exactly where the definition does.
-use Rattle.std.proofs.Common.{◌≡◌, ℕ, Bool, true, false, List, [], ◌∷◌, ◌++◌, Option, Some, None, refl, sym, ap, subst, ◌∙◌, append_assoc}
+use Rattle.std.proofs.Common.{◌≡◌, Bool, true, false, List, [], ◌∷◌, ◌++◌, Option, Some, None, refl, sym, ap, ◌∙◌}
 use Rattle.js_grammar.specs.declared.lexeme.Lexeme.{Lexeme}
 use Rattle.js_grammar.specs.declared.symbols.Nonterminal.{Nonterminal}
-use Rattle.js_grammar.specs.Grammar.{Tree, Grammar, IsSpelled, HasPartial, after}
+use Rattle.js_grammar.specs.Grammar.{HasPartial, after}
 use Rattle.js_grammar.specs.Machine.{State, Table, feed, feeds}
-use Rattle.js_grammar.specs.Inserted.{Insertion, Nothing, Ending, DoEnding, Choice, plain, marked, IsOffending, IsLeft, Rightly, IsBegun, pair, when, or_else, step, steps}
+use Rattle.js_grammar.specs.Inserted.{Nothing, Ending, DoEnding, Choice, plain, marked, IsOffending, IsLeft, Rightly, IsBegun, pair, when, or_else, step, steps}
 use Rattle.js_grammar.proofs.Sound.{after_is}
 
 feeds_after : (T : Table) (a b : List Lexeme) (s q : State) → feeds T s a ≡ Some q → feeds T s (a ++ b) ≡ feeds T q b

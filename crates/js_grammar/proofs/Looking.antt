@@ -1,5 +1,5 @@
 -- The look ahead says what the reader does.
-use Rattle.std.proofs.Common.{◌≡◌, ℕ, Bool, true, false, ◌&&◌, ◌||◌, cond, List, [], ◌∷◌, Option, Some, None, refl, sym, ap, subst, ◌∙◌}
+use Rattle.std.proofs.Common.{◌≡◌, Bool, true, false, ◌&&◌, ◌||◌, List, [], ◌∷◌, Option, Some, None, refl}
 use Rattle.js_grammar.specs.declared.lexeme.Lexeme.{Lexeme}
 use Rattle.js_grammar.specs.declared.constituents.Constituent.{Constituent}
 use Rattle.js_grammar.specs.declared.constituents.Constituent.TheVariants.{Token, Part, Optional, Further}
@@ -10,7 +10,7 @@ use Rattle.js_grammar.specs.declared.event.Event.TheVariants as event
 use Rattle.js_grammar.specs.Grammar.{follow, only_if}
 use Rattle.js_grammar.specs.Table.{rule_of, ends_of, stands_of, start_of, wrap_of}
 use Rattle.js_grammar.specs.Fits.{with_node}
-use Rattle.js_grammar.specs.Flat.{fit_by, Shape, shape, Flat, flat, chosen_of, or_opened, joined_to, begun_flat, opened_flat, onward_flat, wrapped_flat, turned_flat, put_flat, complete_flat, fed_flat}
+use Rattle.js_grammar.specs.Flat.{fit_by, Shape, Flat, chosen_of, or_opened, joined_to, begun_flat, opened_flat, onward_flat, wrapped_flat, put_flat, complete_flat, fed_flat}
 use Rattle.js_grammar.specs.Laws.{is_some}
 use Rattle.js_grammar.specs.Would.{begun_would, opened_would, or_would, onward_would, wrapped_would, joined_would, put_would, complete_would, would}
 

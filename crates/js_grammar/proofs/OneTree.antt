@@ -1,6 +1,5 @@
 -- The tree of a module is read, and stands whole on top: so tokens have one tree at most, with semicolons inserted too.
-use Rattle.std.proofs.Common.{◌≡◌, ℕ, Bool, true, false, ◌&&◌, cond, nat_eq, List, [], ◌∷◌, ◌++◌, Option, Some, None, refl, sym, ap, subst, ◌∙◌}
-use Rattle.std.proofs.lemmas.List.{append-nil}
+use Rattle.std.proofs.Common.{◌≡◌, Bool, true, false, ◌&&◌, cond, nat_eq, List, [], ◌∷◌, Option, Some, None, refl, sym, ap, subst, ◌∙◌}
 use Rattle.js_grammar.specs.declared.lexeme.Lexeme.{Lexeme}
 use Rattle.js_grammar.specs.declared.symbols.Terminal.TheVariants as terminal
 use Rattle.js_grammar.specs.declared.symbols.Nonterminal.TheVariants as nonterminal
@@ -9,16 +8,16 @@ use Rattle.js_grammar.specs.declared.symbols.Production.TheVariants as productio
 use Rattle.js_grammar.specs.declared.constituents.Terminals.TheVariants.{Is}
 use Rattle.js_grammar.specs.declared.constituents.Repetition.TheVariants.{Many}
 use Rattle.js_grammar.specs.declared.constituents.Constituent.{Constituent}
-use Rattle.js_grammar.specs.declared.constituents.Constituent.TheVariants.{Token, Part, Optional}
-use Rattle.js_grammar.specs.Grammar.{Tree, Leaf, Node, Absent, Row, Nil, Then, is, led, left, over, takes, only_if, spell, spells, IsSpelled}
-use Rattle.js_grammar.specs.Machine.{State, item, feeds}
-use Rattle.js_grammar.specs.Inserted.{HasTree, steps, plain, marked}
+use Rattle.js_grammar.specs.declared.constituents.Constituent.TheVariants.{Token, Optional}
+use Rattle.js_grammar.specs.Grammar.{Tree, Leaf, Node, Absent, Row, Nil, Then, is, led, left, over, takes, spells, IsSpelled}
+use Rattle.js_grammar.specs.Machine.{State, feeds}
+use Rattle.js_grammar.specs.Inserted.{HasTree, steps, marked}
 use Rattle.js_grammar.specs.Table
 use Rattle.js_grammar.specs.Table.{rule_of, may_of, place_of, ends_of}
 use Rattle.js_grammar.specs.Fits
 use Rattle.js_grammar.specs.Fits.{fits_of, grammar, table, summary_of}
 use Rattle.js_grammar.specs.Laws.{from, semi, do_semi, rule_stands, whole_state}
-use Rattle.js_grammar.proofs.Sound.{and_true, after_is, only_some, held, Fine, feeds_comes}
+use Rattle.js_grammar.proofs.Sound.{and_true, after_is, only_some, feeds_comes}
 use Rattle.js_grammar.proofs.Calm.{implies, implied}
 use Rattle.js_grammar.proofs.Places.{productions}
 use Rattle.js_grammar.proofs.Computed.{tables}

@@ -1,5 +1,5 @@
 -- Every production, nonterminal and terminal stands at its place in the table.
-use Rattle.std.proofs.Common.{zero, suc, ◌≡◌, ℕ, ◌+◌, Bool, true, false, ◌&&◌, List, [], ◌∷◌, Option, Some, None, refl}
+use Rattle.std.proofs.Common.{zero, suc, ◌≡◌, ℕ, List, [], ◌∷◌, Option, Some, None, refl}
 use Rattle.js_grammar.specs.declared.symbols.Terminal.{Terminal}
 use Rattle.js_grammar.specs.declared.symbols.Terminal.TheVariants as terminal
 use Rattle.js_grammar.specs.declared.symbols.Nonterminal.{Nonterminal}

@@ -1,6 +1,6 @@
 -- A token whose terminal hangs on the next token stands wherever the plain one does: so the tokens up to and with it have a partial tree, or
 -- have none, whatever comes next.
-use Rattle.std.proofs.Common.{◌≡◌, ℕ, Bool, true, false, not, ◌&&◌, ◌||◌, cond, List, [], ◌∷◌, ◌++◌, Option, Some, None, refl, sym, ap, subst, ◌∙◌, map, ◌⊎◌, inl, inr}
+use Rattle.std.proofs.Common.{◌≡◌, ℕ, Bool, true, false, not, ◌&&◌, ◌||◌, List, [], ◌∷◌, ◌++◌, Option, Some, None, refl, sym, ap, subst, ◌∙◌, map, ◌⊎◌, inl, inr}
 use Rattle.js_grammar.specs.declared.lexeme.Lexeme.{Lexeme}
 use Rattle.js_grammar.specs.declared.symbols.Terminal.{Terminal}
 use Rattle.js_grammar.specs.declared.symbols.Nonterminal.{Nonterminal}
@@ -13,8 +13,8 @@ use Rattle.js_grammar.specs.declared.constituents.Repetition.TheVariants.{Once, 
 use Rattle.js_grammar.specs.declared.constituents.Constituent.{Constituent}
 use Rattle.js_grammar.specs.declared.constituents.Constituent.TheVariants.{Token, Part, Optional, Further}
 use Rattle.js_grammar.specs.declared.summary.Summary.{Summary}
-use Rattle.js_grammar.specs.Grammar.{Tree, Leaf, Node, Absent, Row, Nil, Then, is, left, takes, only_if, follow, behind, spells, after}
-use Rattle.js_grammar.specs.Machine.{Item, State, item, begun, opened, or_else, choose, onward, wrapped, joined, placed, turned, put, complete, feed, feeds}
+use Rattle.js_grammar.specs.Grammar.{Tree, Leaf, Node, Absent, Row, Nil, Then, is, left, takes, only_if, follow, behind, spells}
+use Rattle.js_grammar.specs.Machine.{Item, State, item, begun, opened, or_else, choose, onward, wrapped, joined, put, complete, feed, feeds}
 use Rattle.js_grammar.specs.Table
 use Rattle.js_grammar.specs.Table.{rule_of, ends_of, stands_of, start_of, wrap_of, pick, operators_at, plain_of}
 use Rattle.js_grammar.specs.Fits.{grammar, table, with_node}

@@ -1,9 +1,8 @@
 -- First tokens, and the order of what is open.
-use Rattle.std.proofs.Common.{◌≡◌, Bool, true, false, not, List, [], ◌∷◌, ◌++◌, Option, Some, None, refl, reverse, map, sym, ap, ◌∙◌}
+use Rattle.std.proofs.Common.{◌≡◌, Bool, true, false, not, List, [], ◌∷◌, ◌++◌, Option, Some, None, refl}
 use Rattle.js_grammar.specs.declared.lexeme.Lexeme.{Lexeme}
 use Rattle.js_grammar.specs.declared.symbols.Terminal.{Terminal}
 use Rattle.js_grammar.specs.declared.symbols.Nonterminal.{Nonterminal}
-use Rattle.js_grammar.specs.declared.symbols.Nonterminal.TheVariants as nonterminal
 use Rattle.js_grammar.specs.declared.constituents.Lookahead.{Lookahead}
 use Rattle.js_grammar.specs.declared.constituents.Lookahead.TheVariants.{Any, NotBrace, NotDeclaration, SameLine}
 use Rattle.js_grammar.specs.Table.{guard_of, guards, guard_at_start}

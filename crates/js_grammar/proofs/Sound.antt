@@ -1,5 +1,5 @@
 -- What the reader has taken in is what its open productions spell, and each of them is a beginning of its rule.
-use Rattle.std.proofs.Common.{◌≡◌, ℕ, ◌+◌, Bool, true, false, ◌&&◌, cond, List, [], ◌∷◌, ◌++◌, Option, Some, None, refl, sym, ap, subst, ◌∙◌, append_assoc, arith}
+use Rattle.std.proofs.Common.{◌≡◌, Bool, true, false, ◌&&◌, List, [], ◌∷◌, ◌++◌, Option, Some, None, refl, sym, ap, subst, ◌∙◌, append_assoc}
 use Rattle.std.proofs.lemmas.List.{append-nil}
 use Rattle.js_grammar.specs.declared.lexeme.Lexeme.{Lexeme}
 use Rattle.js_grammar.specs.declared.symbols.Nonterminal.{Nonterminal}
@@ -8,8 +8,8 @@ use Rattle.js_grammar.specs.declared.constituents.Repetition.TheVariants.{Listed
 use Rattle.js_grammar.specs.declared.constituents.Constituent.{Constituent}
 use Rattle.js_grammar.specs.declared.constituents.Constituent.TheVariants.{Token, Part, Optional, Further}
 use Rattle.js_grammar.specs.declared.symbols.Production.{Production}
-use Rattle.js_grammar.specs.Grammar.{Tree, Leaf, Node, Absent, Row, Nil, Then, Grammar, is, fit, led, after, only_if, follow, over, left, takes, spell, spells, Partial, Open, Within, begins, IsPart, Stands, IsPartial, HasPartial}
-use Rattle.js_grammar.specs.Machine.{Item, State, Table, item, begun, opened, or_else, choose, onward, wrapped, joined, placed, turned, put, complete, feed, feeds}
+use Rattle.js_grammar.specs.Grammar.{Tree, Leaf, Node, Absent, Row, Nil, Then, is, fit, led, after, only_if, follow, left, takes, spells, Partial, Open, Within, begins, IsPart, Stands, IsPartial, HasPartial}
+use Rattle.js_grammar.specs.Machine.{Item, State, Table, item, begun, opened, or_else, choose, onward, wrapped, joined, placed, put, complete, feed, feeds}
 
 pub only_some : {A : Type 0} (b : Bool) (x : Option A) (q : A) → only_if b x ≡ Some q → (b ≡ true) × (x ≡ Some q)
 only_some true x q h = (refl, h)

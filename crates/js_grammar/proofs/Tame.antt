@@ -1,23 +1,18 @@
 -- The table meets the tests of the theory.
-use Rattle.std.proofs.Common.{zero, suc, ◌≡◌, ℕ, ◌+◌, Bool, true, false, not, ◌&&◌, ◌||◌, cond, nat_eq, nat_le, List, [], ◌∷◌, ◌++◌, Option, Some, None, refl, sym, ap, subst, ◌∙◌, arith}
+use Rattle.std.proofs.Common.{zero, suc, ◌≡◌, ℕ, Bool, true, false, ◌&&◌, ◌||◌, nat_eq, List, [], ◌∷◌, Option, Some, None, refl, sym, ap, ◌∙◌, arith}
 use Rattle.std.proofs.lemmas.Bool.Decides.{nat_tests}
 use Rattle.js_grammar.specs.declared.lexeme.Lexeme.{Lexeme}
 use Rattle.js_grammar.specs.declared.symbols.Terminal.{Terminal}
 use Rattle.js_grammar.specs.declared.constituents.Terminals.{Terminals}
 use Rattle.js_grammar.specs.declared.symbols.Nonterminal.{Nonterminal}
-use Rattle.js_grammar.specs.declared.symbols.Nonterminal.TheVariants as nonterminal
-use Rattle.js_grammar.specs.declared.constituents.Repetition.{Repetition}
 use Rattle.js_grammar.specs.declared.constituents.Constituent.{Constituent}
-use Rattle.js_grammar.specs.declared.constituents.Constituent.TheVariants.{Token, Part, Optional, Further}
+use Rattle.js_grammar.specs.declared.constituents.Constituent.TheVariants.{Token, Part}
 use Rattle.js_grammar.specs.declared.symbols.Production.{Production}
 use Rattle.js_grammar.specs.declared.symbols.Production.TheVariants as production
-use Rattle.js_grammar.specs.Grammar.{Tree, Leaf, Node, Absent, Row, Nil, Then, left}
-use Rattle.js_grammar.specs.Machine.{State, item}
-use Rattle.js_grammar.specs.Table.{rule_of, place_of, index_of, number_of, start_of, opens_of, guard_of, ends_of, stands_of, may_of, has_of, wrap_of, pick, chosen, operators_at, first_in, heads_of}
-use Rattle.js_grammar.specs.Fits.{fits_of, refined, grammar, table}
-use Rattle.js_grammar.proofs.Sound.{and_true, Below, Opens}
-use Rattle.js_grammar.proofs.Follows.{is_none, is_empty, Way, by_word, by_operator, by_part}
-use Rattle.js_grammar.proofs.Calm.{implies, implied, both, settles, edge, Firsts}
+use Rattle.js_grammar.specs.Table.{rule_of, place_of, index_of, number_of, start_of, opens_of, guard_of, ends_of, stands_of, may_of, has_of, wrap_of, operators_at, first_in, heads_of}
+use Rattle.js_grammar.specs.Fits.{table}
+use Rattle.js_grammar.proofs.Sound.{and_true}
+use Rattle.js_grammar.proofs.Calm.{implies, settles, edge}
 use Rattle.js_grammar.proofs.Places.{at, productions, nonterminals, terminals, production_at, nonterminal_at, terminal_at}
 use Rattle.js_grammar.proofs.Masks
 use Rattle.js_grammar.proofs.Computed.{operator_of, harmless_of, edge_of, closes_of, tables, lexeme, unwrapped}

@@ -1,10 +1,9 @@
 -- What a tree has to be beside being built by the rules: the refinements of the cover grammars, and the whole grammar.
-use Rattle.std.specs.Prelude.{◌≡◌, ℕ, ◌+◌, Bool, true, false, not, ◌&&◌, ◌||◌, nat_eq, cond, List, [], ◌∷◌, ◌++◌, Option, Some, None}
+use Rattle.std.specs.Prelude.{Bool, true, false, not, ◌&&◌, ◌||◌, Option, Some, None}
 use Rattle.js_grammar.specs.declared.lexeme.Lexeme.{Lexeme}
 use Rattle.js_grammar.specs.declared.symbols.Terminal.{Terminal}
 use Rattle.js_grammar.specs.declared.symbols.Terminal.TheVariants as terminal
 use Rattle.js_grammar.specs.declared.summary.Summary.{Summary}
-use Rattle.js_grammar.specs.declared.constituents.Terminals.{Terminals}
 use Rattle.js_grammar.specs.declared.symbols.Nonterminal.{Nonterminal}
 use Rattle.js_grammar.specs.declared.symbols.Nonterminal.TheVariants as nonterminal
 use Rattle.js_grammar.specs.declared.symbols.Production.{Production}
@@ -255,6 +254,14 @@ part_pattern f x = is_free f || ((is_inner f && x.pattern) || (rest_pattern f x 
 abbrev pub part_binding : Production → Summary → Bool
 part_binding f x = is_free f || ((is_inner f && x.binding) || (rest_binding f x || ((is_assignment f && x.first_bindable) || is_bindable f x)))
 
+-- behind such a part no other may stand in a pattern
+abbrev pub ends_pattern : Production → Summary → Bool
+ends_pattern f x = is_spread_element f || (is_spread_property f || (is_comma_element f && x.ended))
+
+-- no `if` without `else` stands at the right edge of such a part
+abbrev pub is_closed : Production → Summary → Bool
+is_closed f x = not (ends_with_statement f) || (not (is_if f) && x.closed)
+
 abbrev pub empty_summary : Summary
 empty_summary = record { proper = true; valued = false; closed = true; called_new = false; pattern = true; binding = true; ended = false; target = false; bindable = false; literal = false; first_bindable = false; called = false; super_property = false; super_target = false; binding_pattern = false; initialized = false; lone = false; lacks = false; first = None }
 
@@ -262,7 +269,7 @@ abbrev pub with_leaf : Summary → Lexeme → Summary
 with_leaf m t = record { proper = m.proper; valued = m.valued && is_closing_parenthesis t.terminal; closed = true; called_new = false; pattern = m.pattern && not (m.ended && is_comma t.terminal); binding = m.binding && not (m.ended && is_comma t.terminal); ended = m.ended; target = m.target; bindable = m.bindable; literal = m.literal; first_bindable = m.first_bindable; called = m.called; super_property = m.super_property && is_closing_parenthesis t.terminal; super_target = m.super_target; binding_pattern = m.binding_pattern; initialized = m.initialized; lone = m.lone; lacks = m.lacks; first = first_some m.first (Some t) }
 
 abbrev pub with_node : Summary → Production → Summary → Summary
-with_node m f x = record { proper = m.proper && is_proper f x; valued = not (is_cover_rest f); closed = not (ends_with_statement f) || (not (is_if f) && x.closed); called_new = not (is_new f); pattern = m.pattern && (not m.ended && part_pattern f x); binding = m.binding && (not m.ended && part_binding f x); ended = m.ended || (is_spread_element f || (is_spread_property f || (is_comma_element f && x.ended))); target = is_target f x; bindable = is_bindable f x; literal = is_literal f; first_bindable = if_first m.first (is_bindable f x) m.first_bindable; called = is_super_call f; super_property = is_super_property f x; super_target = m.super_target || super_part f x; binding_pattern = is_binding_pattern f; initialized = m.initialized || is_initializer f; lone = is_for_binding f && not x.initialized; lacks = m.lacks || (is_for_binding f && x.binding_pattern); first = first_some m.first x.first }
+with_node m f x = record { proper = m.proper && is_proper f x; valued = not (is_cover_rest f); closed = is_closed f x; called_new = not (is_new f); pattern = m.pattern && (not m.ended && part_pattern f x); binding = m.binding && (not m.ended && part_binding f x); ended = m.ended || ends_pattern f x; target = is_target f x; bindable = is_bindable f x; literal = is_literal f; first_bindable = if_first m.first (is_bindable f x) m.first_bindable; called = is_super_call f; super_property = is_super_property f x; super_target = m.super_target || super_part f x; binding_pattern = is_binding_pattern f; initialized = m.initialized || is_initializer f; lone = is_for_binding f && not x.initialized; lacks = m.lacks || (is_for_binding f && x.binding_pattern); first = first_some m.first x.first }
 
 -- what is to be known of the parts of a production
 abbrev pub summary_of : Row → Summary

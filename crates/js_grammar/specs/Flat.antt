@@ -1,5 +1,5 @@
 -- The reader over flat output: of each open production its summary and the parts to come, and one list of what stands, the latest first, each production behind its parts.
-use Rattle.std.specs.Prelude.{◌≡◌, ℕ, ◌+◌, Bool, true, false, ◌&&◌, cond, List, [], ◌∷◌, ◌++◌, Option, Some, None, map}
+use Rattle.std.specs.Prelude.{Bool, true, false, ◌&&◌, List, [], ◌∷◌, Option, Some, None, map}
 use Rattle.js_grammar.specs.declared.lexeme.Lexeme.{Lexeme}
 use Rattle.js_grammar.specs.declared.symbols.Nonterminal.{Nonterminal}
 use Rattle.js_grammar.specs.declared.constituents.Repetition.TheVariants.{Listed}
@@ -9,8 +9,8 @@ use Rattle.js_grammar.specs.declared.symbols.Production.{Production}
 use Rattle.js_grammar.specs.declared.summary.Summary.{Summary}
 use Rattle.js_grammar.specs.declared.event.Event.{Event}
 use Rattle.js_grammar.specs.declared.event.Event.TheVariants as event
-use Rattle.js_grammar.specs.Grammar.{Tree, Leaf, Node, Absent, Row, Nil, Then, only_if, follow}
-use Rattle.js_grammar.specs.Machine.{Item, State, or_else}
+use Rattle.js_grammar.specs.Grammar.{Leaf, Node, Absent, Row, Nil, Then, only_if, follow}
+use Rattle.js_grammar.specs.Machine.{Item, State}
 use Rattle.js_grammar.specs.Table.{rule_of, ends_of, stands_of, has_of, guard_of, start_of, wrap_of}
 use Rattle.js_grammar.specs.Fits.{refined_by, empty_summary, with_leaf, with_node, summary_of}
 

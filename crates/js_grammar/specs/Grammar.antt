@@ -1,5 +1,5 @@
 -- Trees, what tokens they spell, and which of them are in a grammar that is given as a table.
-use Rattle.std.specs.Prelude.{◌≡◌, ℕ, ◌+◌, Bool, true, false, ◌&&◌, cond, List, [], ◌∷◌, ◌++◌, Option, Some, None}
+use Rattle.std.specs.Prelude.{◌≡◌, Bool, true, false, ◌&&◌, cond, List, [], ◌∷◌, ◌++◌, Option, Some, None}
 use Rattle.js_grammar.specs.declared.lexeme.Lexeme.{Lexeme}
 use Rattle.js_grammar.specs.declared.constituents.Terminals.{Terminals}
 use Rattle.js_grammar.specs.declared.symbols.Nonterminal.{Nonterminal}

@@ -1,5 +1,5 @@
 -- Which nonterminals ask for some first tokens, and the first lexeme of a list.
-use Rattle.std.specs.Prelude.{◌≡◌, Bool, true, false, not, List, [], ◌∷◌, ◌++◌, Option, Some, None}
+use Rattle.std.specs.Prelude.{Bool, true, false, not, List, [], ◌∷◌, Option, Some, None}
 use Rattle.js_grammar.specs.declared.lexeme.Lexeme.{Lexeme}
 use Rattle.js_grammar.specs.declared.symbols.Nonterminal.{Nonterminal}
 use Rattle.js_grammar.specs.declared.constituents.Lookahead.{Lookahead}

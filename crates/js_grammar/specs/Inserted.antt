@@ -1,9 +1,9 @@
 -- Semicolons that are inserted, exactly where a rule stands at an offending lexeme.
-use Rattle.std.specs.Prelude.{◌≡◌, ℕ, Bool, true, false, List, [], ◌∷◌, ◌++◌, Option, Some, None}
+use Rattle.std.specs.Prelude.{◌≡◌, Bool, true, false, List, [], ◌∷◌, ◌++◌, Option, Some, None}
 use Rattle.js_grammar.specs.declared.lexeme.Lexeme.{Lexeme}
 use Rattle.js_grammar.specs.declared.symbols.Nonterminal.{Nonterminal}
 use Rattle.js_grammar.specs.Grammar.{Tree, Grammar, IsSpelled, HasPartial, after}
-use Rattle.js_grammar.specs.Machine.{State, Table, feed, feeds}
+use Rattle.js_grammar.specs.Machine.{State, Table, feed}
 
 -- what is inserted before a lexeme: nothing, a semicolon, or one that only a do-while takes
 pub data Insertion : Type 0 where

@@ -1,8 +1,8 @@
 -- How deep trees, partial trees and what is open stand: within n levels, the first of them at a given level.
-use Rattle.std.specs.Prelude.{◌≡◌, ℕ, ◌+◌, ◌≤◌, Bool, true, false, List, [], ◌∷◌, ◌++◌}
+use Rattle.std.specs.Prelude.{ℕ, ◌+◌, ◌≤◌, [], ◌∷◌}
 use Rattle.js_grammar.specs.declared.symbols.Production.{Production}
 use Rattle.js_grammar.specs.Grammar.{Tree, Leaf, Node, Absent, Row, Nil, Then, Partial, Open, Within}
-use Rattle.js_grammar.specs.Machine.{Item, State}
+use Rattle.js_grammar.specs.Machine.{State}
 
 -- a production counts so many levels, and its first part stands so many levels below what the production stands in; the other parts stand below the production
 module _ (cost first : Production → ℕ) where

@@ -1,14 +1,12 @@
 -- The reader: open productions, and the tree that stands to their right.
-use Rattle.std.specs.Prelude.{◌≡◌, ℕ, ◌+◌, Bool, true, false, ◌&&◌, cond, List, [], ◌∷◌, ◌++◌, Option, Some, None}
+use Rattle.std.specs.Prelude.{Bool, true, false, List, [], ◌∷◌, Option, Some, None}
 use Rattle.js_grammar.specs.declared.lexeme.Lexeme.{Lexeme}
-use Rattle.js_grammar.specs.declared.constituents.Terminals.{Terminals}
 use Rattle.js_grammar.specs.declared.symbols.Nonterminal.{Nonterminal}
-use Rattle.js_grammar.specs.declared.constituents.Repetition.{Repetition}
 use Rattle.js_grammar.specs.declared.constituents.Repetition.TheVariants.{Listed}
 use Rattle.js_grammar.specs.declared.constituents.Constituent.{Constituent}
 use Rattle.js_grammar.specs.declared.constituents.Constituent.TheVariants.{Token, Part, Optional, Further}
 use Rattle.js_grammar.specs.declared.symbols.Production.{Production}
-use Rattle.js_grammar.specs.Grammar.{Tree, Leaf, Node, Absent, Row, Nil, Then, Grammar, is, fit, after, only_if, follow}
+use Rattle.js_grammar.specs.Grammar.{Tree, Leaf, Node, Absent, Row, Nil, Then, Grammar, fit, after, only_if, follow}
 
 -- an open production: its parts that stand, and those to come
 pub record Item : Type 0 where

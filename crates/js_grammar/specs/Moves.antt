@@ -1,5 +1,5 @@
 -- What the program's partial tree stands for, and what its moves come to.
-use Rattle.std.specs.Prelude.{◌≡◌, ℕ, Bool, true, false, List, [], ◌∷◌, ◌++◌, Option, Some, None, reverse, map, ◌+◌, length}
+use Rattle.std.specs.Prelude.{◌≡◌, ℕ, Bool, true, false, List, [], ◌∷◌, Option, Some, None, reverse, map, ◌+◌, length}
 use Rattle.js_grammar.specs.declared.lexeme.Lexeme.{Lexeme}
 use Rattle.js_grammar.specs.declared.constituents.Constituent.{Constituent}
 use Rattle.js_grammar.specs.declared.symbols.Production.{Production}
@@ -9,7 +9,9 @@ use Rattle.js_grammar.specs.declared.open.OpenProduction.{OpenProduction}
 use Rattle.js_grammar.specs.declared.open.Remainder.{Remainder}
 use Rattle.js_grammar.specs.declared.machine.Progress.{Progress}
 use Rattle.js_grammar.specs.declared.machine.Progress.TheVariants as progress
-use Rattle.js_grammar.specs.Table.{rule_of}
+use Rattle.std.specs.Global.{Vec}
+use Rattle.js_grammar.specs.declared.rules.Opening.{Opening}
+use Rattle.js_grammar.specs.Table.{rule_of, forms_of}
 use Rattle.js_grammar.specs.Flat.{Shape, shape, Flat, flat, begun_flat, opened_flat, onward_flat, wrapped_flat, put_flat, complete_flat, fed_flat}
 
 abbrev pub constituents_of : Option Constituent → List Constituent → List Constituent
@@ -37,39 +39,43 @@ flat_in xs es = flat (shapes_of xs) (latest es)
 abbrev pub Ending : Type 0
 Ending = Production → Summary → List Event → Option Flat
 
+-- a move of the definition that may come to a whole tree
+abbrev pub Move : Type 0
+Move = List Shape → List Event → Ending → Option Flat
+
 -- the moves of the definition, at the program's lists
-abbrev pub begun_at : List OpenProduction → List Event → Production → Lexeme → Option Flat
-begun_at xs es f t = begun_flat f (rule_of f) (shapes_of xs) (latest es) t
+abbrev pub begun_at : Vec OpenProduction → Vec Event → Production → Lexeme → Option Flat
+begun_at xs es f t = begun_flat f (rule_of f) (shapes_of xs.items) (latest es.items) t
 
-abbrev pub opened_at : List OpenProduction → List Event → List Production → Lexeme → Option Flat
-opened_at xs es fs t = opened_flat fs (shapes_of xs) (latest es) t
+abbrev pub opened_at : Vec OpenProduction → Vec Event → Opening → Lexeme → Option Flat
+opened_at xs es o t = opened_flat (forms_of o) (shapes_of xs.items) (latest es.items) t
 
-abbrev pub onward_at : List OpenProduction → List Event → Production → Summary → List Constituent → Lexeme → Ending → Option Flat
-onward_at xs es f m ps t k = onward_flat k (shapes_of xs) (latest es) f m ps t
+abbrev pub wrapped_at : Vec OpenProduction → Vec Event → Production → Production → Summary → Lexeme → Option Flat
+wrapped_at xs es f h x t = wrapped_flat f (rule_of f) (shapes_of xs.items) (latest es.items) h x t
 
-abbrev pub wrapped_at : List OpenProduction → List Event → Production → Production → Summary → Lexeme → Option Flat
-wrapped_at xs es f h x t = wrapped_flat f (rule_of f) (shapes_of xs) (latest es) h x t
+abbrev pub fed_at : Vec OpenProduction → Vec Event → Lexeme → Option Flat
+fed_at xs es t = fed_flat (shapes_of xs.items) (latest es.items) t
 
-abbrev pub put_at : List OpenProduction → List Event → Shape → Production → Summary → Lexeme → Ending → Option Flat
-put_at xs es i h x t k = put_flat k (shapes_of xs) (latest es) i.production i.summary i.rest h x t
+abbrev pub onward_at : OpenProduction → Lexeme → Move
+onward_at i t s o k = onward_flat k s o i.production i.summary (rest_of i.rest) t
 
-abbrev pub fed_at : List OpenProduction → List Event → Lexeme → Option Flat
-fed_at xs es t = fed_flat (shapes_of xs) (latest es) t
+abbrev pub put_at : OpenProduction → Production → Summary → Lexeme → Move
+put_at i h x t s o k = put_flat k s o i.production i.summary (rest_of i.rest) h x t
 
--- what one move comes to, whatever follows a whole tree: the token is taken, or refused, or a whole tree stands before it
-abbrev pub Comes_to : List OpenProduction → List OpenProduction → List Event → (Ending → Option Flat) → Progress → Type 0
-Comes_to old new out go progress.Taken = (k : Ending) → go k ≡ Some (flat_in new out)
-Comes_to old new out go progress.Refused = (k : Ending) → go k ≡ None
-Comes_to old new out go (progress.Ended f m) = ((k : Ending) → go k ≡ k f m (latest out)) × (new ≡ old)
+-- what a move comes to, whatever follows a whole tree: the token is taken, or refused, or a whole tree stands before it
+abbrev pub Comes : Vec OpenProduction → Vec Event → Move → Vec OpenProduction → Vec Event → Progress → Type 0
+Comes xs es go ys out progress.Taken = (k : Ending) → go (shapes_of xs.items) (latest es.items) k ≡ Some (flat_in ys.items out.items)
+Comes xs es go ys out progress.Refused = (k : Ending) → go (shapes_of xs.items) (latest es.items) k ≡ None
+Comes xs es go ys out (progress.Ended f m) = ((k : Ending) → go (shapes_of xs.items) (latest es.items) k ≡ k f m (latest out.items)) × (ys.items ≡ xs.items)
 
 -- the token is taken, or refused
 abbrev pub Takes : Option Flat → Flat → Bool → Type 0
 Takes o new true = o ≡ Some new
 Takes o new false = o ≡ None
 
-abbrev pub Opens : Option Flat → List OpenProduction → List Event → Bool → Type 0
-Opens o new out true = o ≡ Some (flat_in new out)
-Opens o new out false = o ≡ None
+abbrev pub Opens : Option Flat → Vec OpenProduction → Vec Event → Bool → Type 0
+Opens o xs es true = o ≡ Some (flat_in xs.items es.items)
+Opens o xs es false = o ≡ None
 
 -- where a reader stands that has begun on a token
 abbrev pub Stage : Option Flat → List OpenProduction → List Event → Lexeme → Progress → Type 0

@@ -1,5 +1,5 @@
 -- What the table says, read from the data of the program.
-use Rattle.std.specs.Prelude.{zero, suc, ◌≡◌, ℕ, ◌+◌, Bool, true, false, not, ◌&&◌, ◌||◌, nat_eq, nat_le, cond, List, [], ◌∷◌, ◌++◌, Option, Some, None}
+use Rattle.std.specs.Prelude.{zero, suc, ℕ, Bool, true, false, not, ◌&&◌, ◌||◌, nat_eq, nat_le, cond, List, [], ◌∷◌, Option, Some, None}
 use denote.Enum.Declared.{tag_of}
 use Rattle.js_grammar.specs.contracts.symbols.Production.{the_type as the_productions}
 use Rattle.js_grammar.specs.contracts.symbols.Nonterminal.{the_type as the_nonterminals}
@@ -7,13 +7,12 @@ use Rattle.js_grammar.specs.contracts.symbols.Terminal.{the_type as the_terminal
 use Rattle.js_grammar.specs.declared.symbols.Terminal.{Terminal}
 use Rattle.js_grammar.specs.declared.symbols.Terminal.TheVariants as terminal
 use Rattle.js_grammar.specs.declared.symbols.Nonterminal.{Nonterminal}
-use Rattle.js_grammar.specs.declared.symbols.Nonterminal.TheVariants as nonterminal
 use Rattle.js_grammar.specs.declared.symbols.Production.{Production}
 use Rattle.js_grammar.specs.declared.symbols.Production.TheVariants as production
 use Rattle.js_grammar.specs.declared.constituents.Terminals.{Terminals}
 use Rattle.js_grammar.specs.declared.constituents.Terminals.TheVariants.{Is, Between, Either}
 use Rattle.js_grammar.specs.declared.constituents.Constituent.{Constituent}
-use Rattle.js_grammar.specs.declared.constituents.Constituent.TheVariants.{Token, Part, Optional, Further}
+use Rattle.js_grammar.specs.declared.constituents.Constituent.TheVariants.{Part}
 use Rattle.js_grammar.specs.declared.constituents.Productions.{Productions}
 use Rattle.js_grammar.specs.declared.constituents.Productions.TheVariants.{Run, Runs}
 use Rattle.js_grammar.specs.declared.constituents.Lookahead.{Lookahead}

@@ -1,6 +1,6 @@
 // What stands, in the order of the text, each production behind its parts.
-use crate::symbols::Production;
 use crate::lexeme::Lexeme;
+use crate::symbols::Production;
 
 #[derive(Clone, Copy, Drop)]
 pub enum Event {

@@ -2,8 +2,7 @@
 ghost use Rattle.std.specs.Prelude.{◌≡◌, ◌∷◌, IfOk, reverse};
 ghost use Rattle.js_grammar.specs.Flat.{fed_in};
 ghost use Rattle.js_grammar.specs.Laws.{from_flat};
-ghost use Rattle.js_grammar.specs.Moves.{shape_in, latest, begun_at, opened_at, onward_at, wrapped_at, put_at, fed_at, rest_of, Comes_to, Opens, Takes};
-ghost use Rattle.js_grammar.specs.Table.{forms_of};
+ghost use Rattle.js_grammar.specs.Moves.{latest, begun_at, opened_at, onward_at, wrapped_at, put_at, fed_at, Comes, Opens, Takes};
 ghost use Rattle.js_grammar.specs.Would.{would};
 
 use crate::constituents::{Constituent, Repetition};
@@ -89,10 +88,10 @@ pub enum Progress {
 
 /// What stands grows by an event.
 #[tactic(auto, using(crate::proofs::Reversed::reverse_push))]
-fn note(events: &mut Vec<Event>, event: Event) -> Result<(), AllocError>
-    ensures { IfOk result (λ _. latest events.new.items ≡ event ∷ latest events.old.items) }
+fn note(out: &mut Vec<Event>, event: Event) -> Result<(), AllocError>
+    ensures { IfOk result (λ _. latest out.new.items ≡ event ∷ latest out.old.items) }
 {
-    events.push(event)?;
+    out.push(event)?;
     Ok(())
 }
 
@@ -100,18 +99,18 @@ fn note(events: &mut Vec<Event>, event: Event) -> Result<(), AllocError>
 #[tactic(auto, using(crate::proofs::Reversed::reverse_push))]
 fn begin(
     stack: &mut Vec<OpenProduction>,
-    events: &mut Vec<Event>,
+    out: &mut Vec<Event>,
     production: Production,
     lexeme: Lexeme,
 ) -> Result<bool, AllocError>
-    ensures { IfOk result (Opens (begun_at stack.old.items events.old.items production lexeme) stack.new.items events.new.items) }
+    ensures { IfOk result (Opens (begun_at stack.old out.old production lexeme) stack.new out.new) }
 {
     match rule(production) {
         [Constituent::Token(set), later @ ..] => {
             if !is_among(lexeme.terminal, *set) {
                 return Ok(false);
             }
-            note(events, Event::Leaf(lexeme))?;
+            note(out, Event::Leaf(lexeme))?;
             stack.push(OpenProduction {
                 production,
                 summary: with_leaf(empty_summary(), lexeme),
@@ -127,22 +126,22 @@ fn begin(
 #[tactic(auto, using(crate::proofs::Reversed::reverse_push))]
 fn open_each(
     stack: &mut Vec<OpenProduction>,
-    events: &mut Vec<Event>,
+    out: &mut Vec<Event>,
     opening: Opening,
     lexeme: Lexeme,
 ) -> Result<bool, AllocError>
-    ensures { IfOk result (Opens (opened_at stack.old.items events.old.items (forms_of opening) lexeme) stack.new.items events.new.items) }
+    ensures { IfOk result (Opens (opened_at stack.old out.old opening lexeme) stack.new out.new) }
 {
     match opening {
         Opening::Nothing => Ok(false),
-        Opening::One(production) => begin(stack, events, production, lexeme),
+        Opening::One(production) => begin(stack, out, production, lexeme),
         Opening::Both(production, inner) => {
             stack.push(OpenProduction {
                 production,
                 summary: empty_summary(),
                 rest: ahead(rule(production)),
             })?;
-            begin(stack, events, inner, lexeme)
+            begin(stack, out, inner, lexeme)
         }
     }
 }
@@ -151,25 +150,28 @@ fn open_each(
 #[tactic(auto, using(crate::proofs::Reversed::reverse_push))]
 fn advance(
     stack: &mut Vec<OpenProduction>,
-    events: &mut Vec<Event>,
-    production: Production,
-    summary: Summary,
-    to_come: Remainder,
+    out: &mut Vec<Event>,
+    top: OpenProduction,
     lexeme: Lexeme,
 ) -> Result<Progress, AllocError>
-    ensures { IfOk result (Comes_to stack.old.items stack.new.items events.new.items (onward_at stack.old.items events.old.items production summary (rest_of to_come) lexeme)) }
+    ensures { IfOk result (Comes stack.old out.old (onward_at top lexeme) stack.new out.new) }
 {
-    let later = to_come.later;
-    match to_come.next {
+    let OpenProduction {
+        production,
+        summary,
+        rest,
+    } = top;
+    let later = rest.later;
+    match rest.next {
         None => {
-            note(events, Event::Node(production))?;
+            note(out, Event::Node(production))?;
             Ok(Progress::Ended(production, summary))
         }
         Some(Constituent::Token(set)) => {
             if !is_among(lexeme.terminal, set) {
                 return Ok(Progress::Refused);
             }
-            note(events, Event::Leaf(lexeme))?;
+            note(out, Event::Leaf(lexeme))?;
             stack.push(OpenProduction {
                 production,
                 summary: with_leaf(summary, lexeme),
@@ -178,39 +180,57 @@ fn advance(
             Ok(Progress::Taken)
         }
         Some(Constituent::Part(nonterminal)) => {
-            stack.push(OpenProduction {
-                production,
-                summary,
-                rest: to_come,
-            })?;
+            stack.push(top)?;
             let taken = open_each(
                 stack,
-                events,
+                out,
                 openings(nonterminal, lexeme.terminal, lexeme.after_line),
                 lexeme,
             )?;
-            Ok(if taken { Progress::Taken } else { Progress::Refused })
+            Ok(if taken {
+                Progress::Taken
+            } else {
+                Progress::Refused
+            })
         }
         Some(Constituent::Optional(nonterminal, _)) => {
             let opened = openings(nonterminal, lexeme.terminal, lexeme.after_line);
             if matches!(opened, Opening::Nothing) {
-                note(events, Event::Absent)?;
-                return advance(stack, events, production, summary, ahead(later), lexeme);
+                note(out, Event::Absent)?;
+                return advance(
+                    stack,
+                    out,
+                    OpenProduction {
+                        production,
+                        summary,
+                        rest: ahead(later),
+                    },
+                    lexeme,
+                );
             }
-            stack.push(OpenProduction {
-                production,
-                summary,
-                rest: to_come,
-            })?;
-            let taken = open_each(stack, events, opened, lexeme)?;
-            Ok(if taken { Progress::Taken } else { Progress::Refused })
+            stack.push(top)?;
+            let taken = open_each(stack, out, opened, lexeme)?;
+            Ok(if taken {
+                Progress::Taken
+            } else {
+                Progress::Refused
+            })
         }
         Some(Constituent::Further(nonterminal, set)) => {
             if !is_among(lexeme.terminal, set) {
-                note(events, Event::Absent)?;
-                return advance(stack, events, production, summary, ahead(later), lexeme);
+                note(out, Event::Absent)?;
+                return advance(
+                    stack,
+                    out,
+                    OpenProduction {
+                        production,
+                        summary,
+                        rest: ahead(later),
+                    },
+                    lexeme,
+                );
             }
-            note(events, Event::Leaf(lexeme))?;
+            note(out, Event::Leaf(lexeme))?;
             stack.push(OpenProduction {
                 production,
                 summary: with_leaf(summary, lexeme),
@@ -228,23 +248,27 @@ fn advance(
 #[tactic(auto, using(crate::proofs::Reversed::reverse_push))]
 fn wrap(
     stack: &mut Vec<OpenProduction>,
-    events: &mut Vec<Event>,
+    out: &mut Vec<Event>,
     outer: Production,
-    production: Production,
-    summary: Summary,
+    inner: Production,
+    parts: Summary,
     lexeme: Lexeme,
 ) -> Result<bool, AllocError>
-    ensures { IfOk result (Opens (wrapped_at stack.old.items events.old.items outer production summary lexeme) stack.new.items events.new.items) }
+    ensures { IfOk result (Opens (wrapped_at stack.old out.old outer inner parts lexeme) stack.new out.new) }
 {
     match rule(outer) {
-        [Constituent::Part(nonterminal), Constituent::Token(set), later @ ..] => {
-            if !fits(*nonterminal, production, summary) || !is_among(lexeme.terminal, *set) {
+        [
+            Constituent::Part(nonterminal),
+            Constituent::Token(set),
+            later @ ..,
+        ] => {
+            if !fits(*nonterminal, inner, parts) || !is_among(lexeme.terminal, *set) {
                 return Ok(false);
             }
-            note(events, Event::Leaf(lexeme))?;
+            note(out, Event::Leaf(lexeme))?;
             stack.push(OpenProduction {
                 production: outer,
-                summary: with_leaf(with_node(empty_summary(), production, summary), lexeme),
+                summary: with_leaf(with_node(empty_summary(), inner, parts), lexeme),
                 rest: ahead(later),
             })?;
             Ok(true)
@@ -257,13 +281,13 @@ fn wrap(
 #[tactic(auto, using(crate::proofs::Reversed::reverse_push))]
 fn place(
     stack: &mut Vec<OpenProduction>,
-    events: &mut Vec<Event>,
+    out: &mut Vec<Event>,
     top: OpenProduction,
     inner: Production,
     parts: Summary,
     lexeme: Lexeme,
 ) -> Result<Progress, AllocError>
-    ensures { IfOk result (Comes_to stack.old.items stack.new.items events.new.items (put_at stack.old.items events.old.items (shape_in top) inner parts lexeme)) }
+    ensures { IfOk result (Comes stack.old out.old (put_at top inner parts lexeme) stack.new out.new) }
 {
     let OpenProduction {
         production,
@@ -272,11 +296,19 @@ fn place(
     } = top;
     let later = to_come.later;
     match to_come.next {
-        Some(Constituent::Part(nonterminal)) => match operator(nonterminal, inner, lexeme.terminal) {
+        Some(Constituent::Part(nonterminal)) => match operator(
+            nonterminal,
+            inner,
+            lexeme.terminal,
+        ) {
             Some(outer) => {
                 stack.push(top)?;
-                let taken = wrap(stack, events, outer, inner, parts, lexeme)?;
-                Ok(if taken { Progress::Taken } else { Progress::Refused })
+                let taken = wrap(stack, out, outer, inner, parts, lexeme)?;
+                Ok(if taken {
+                    Progress::Taken
+                } else {
+                    Progress::Refused
+                })
             }
             None => {
                 if !fits(nonterminal, inner, parts) {
@@ -284,19 +316,29 @@ fn place(
                 }
                 advance(
                     stack,
-                    events,
-                    production,
-                    with_node(summary, inner, parts),
-                    ahead(later),
+                    out,
+                    OpenProduction {
+                        production,
+                        summary: with_node(summary, inner, parts),
+                        rest: ahead(later),
+                    },
                     lexeme,
                 )
             }
         },
-        Some(Constituent::Optional(nonterminal, repetition)) => match operator(nonterminal, inner, lexeme.terminal) {
+        Some(Constituent::Optional(nonterminal, repetition)) => match operator(
+            nonterminal,
+            inner,
+            lexeme.terminal,
+        ) {
             Some(outer) => {
                 stack.push(top)?;
-                let taken = wrap(stack, events, outer, inner, parts, lexeme)?;
-                Ok(if taken { Progress::Taken } else { Progress::Refused })
+                let taken = wrap(stack, out, outer, inner, parts, lexeme)?;
+                Ok(if taken {
+                    Progress::Taken
+                } else {
+                    Progress::Refused
+                })
             }
             None => {
                 if !fits(nonterminal, inner, parts) {
@@ -304,10 +346,12 @@ fn place(
                 }
                 advance(
                     stack,
-                    events,
-                    production,
-                    with_node(summary, inner, parts),
-                    follow(ends_list(inner), nonterminal, repetition, later),
+                    out,
+                    OpenProduction {
+                        production,
+                        summary: with_node(summary, inner, parts),
+                        rest: follow(ends_list(inner), nonterminal, repetition, later),
+                    },
                     lexeme,
                 )
             }
@@ -318,13 +362,17 @@ fn place(
 
 /// Takes a token, or refuses it.
 #[tactic(auto, using(crate::proofs::Reversed::reverse_push))]
-fn take_next(stack: &mut Vec<OpenProduction>, events: &mut Vec<Event>, lexeme: Lexeme) -> Result<bool, AllocError>
-    ensures { IfOk result (Opens (fed_at stack.old.items events.old.items lexeme) stack.new.items events.new.items) }
+fn take_next(
+    stack: &mut Vec<OpenProduction>,
+    out: &mut Vec<Event>,
+    lexeme: Lexeme,
+) -> Result<bool, AllocError>
+    ensures { IfOk result (Opens (fed_at stack.old out.old lexeme) stack.new out.new) }
 {
     let Some(top) = stack.pop() else {
         return Ok(false);
     };
-    let mut progress = advance(stack, events, top.production, top.summary, top.rest, lexeme)?;
+    let mut progress = advance(stack, out, top, lexeme)?;
     loop {
         match progress {
             Progress::Taken => return Ok(true),
@@ -333,7 +381,7 @@ fn take_next(stack: &mut Vec<OpenProduction>, events: &mut Vec<Event>, lexeme: L
                 let Some(top) = stack.pop() else {
                     return Ok(false);
                 };
-                progress = place(stack, events, top, inner, parts, lexeme)?;
+                progress = place(stack, out, top, inner, parts, lexeme)?;
             }
         }
     }

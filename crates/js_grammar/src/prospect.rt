@@ -3,14 +3,14 @@ ghost use Rattle.std.specs.Prelude.{◌≡◌, ◌∷◌, []};
 ghost use Rattle.js_grammar.specs.Table.{rule_of, forms_of};
 ghost use Rattle.js_grammar.specs.Would.{opened_would, onward_would, wrapped_would, put_would, complete_would, would};
 ghost use Rattle.js_grammar.specs.Moves.{shapes_of, rest_of};
-ghost use Rattle.js_grammar.specs.Looks.{Looks_so};
+ghost use Rattle.js_grammar.specs.Looks.{Looks_so, put_looks};
 
-use crate::symbols::{Nonterminal, Production};
-use crate::open::{OpenProduction, Remainder, ahead, follow};
-use crate::summary::{Summary, fits, with_node};
 use crate::constituents::Constituent;
 use crate::lexeme::Lexeme;
+use crate::open::{OpenProduction, Remainder, ahead, follow};
 use crate::rules::{Opening, ends_list, is_among, openings, operator, rule};
+use crate::summary::{Summary, fits, with_node};
+use crate::symbols::{Nonterminal, Production};
 
 #[derive(Clone, Copy, Drop)]
 pub enum Prospect {
@@ -39,7 +39,12 @@ fn would_open(opening: Opening, lexeme: Lexeme) -> bool
     }
 }
 
-fn would_advance(production: Production, summary: Summary, to_come: Remainder, lexeme: Lexeme) -> Prospect
+fn would_advance(
+    production: Production,
+    summary: Summary,
+    to_come: Remainder,
+    lexeme: Lexeme,
+) -> Prospect
     ensures { Looks_so (λ k. onward_would k production summary (rest_of to_come) lexeme) result }
 {
     let later = to_come.later;
@@ -53,7 +58,10 @@ fn would_advance(production: Production, summary: Summary, to_come: Remainder, l
             }
         },
         Some(Constituent::Part(nonterminal)) => {
-            if would_open(openings(nonterminal, lexeme.terminal, lexeme.after_line), lexeme) {
+            if would_open(
+                openings(nonterminal, lexeme.terminal, lexeme.after_line),
+                lexeme,
+            ) {
                 Prospect::Yes
             } else {
                 Prospect::No
@@ -85,18 +93,25 @@ fn would_wrap(outer: Production, inner: Production, parts: Summary, lexeme: Lexe
     ensures { result ≡ wrapped_would (rule_of outer) inner parts lexeme }
 {
     match rule(outer) {
-        [Constituent::Part(nonterminal), Constituent::Token(set), ..] => fits(*nonterminal, inner, parts)
-            && is_among(lexeme.terminal, *set),
+        [Constituent::Part(nonterminal), Constituent::Token(set), ..] => fits(
+            *nonterminal,
+            inner,
+            parts,
+        ) && is_among(lexeme.terminal, *set),
         _ => false,
     }
 }
 
 fn would_place(top: OpenProduction, inner: Production, parts: Summary, lexeme: Lexeme) -> Prospect
-    ensures { Looks_so (λ k. put_would k top.production top.summary (rest_of top.rest) inner parts lexeme) result }
+    ensures { Looks_so (put_looks top inner parts lexeme) result }
 {
     let later = top.rest.later;
     match top.rest.next {
-        Some(Constituent::Part(nonterminal)) => match operator(nonterminal, inner, lexeme.terminal) {
+        Some(Constituent::Part(nonterminal)) => match operator(
+            nonterminal,
+            inner,
+            lexeme.terminal,
+        ) {
             Some(outer) => {
                 if would_wrap(outer, inner, parts, lexeme) {
                     Prospect::Yes
@@ -116,7 +131,11 @@ fn would_place(top: OpenProduction, inner: Production, parts: Summary, lexeme: L
                 )
             }
         },
-        Some(Constituent::Optional(nonterminal, turn)) => match operator(nonterminal, inner, lexeme.terminal) {
+        Some(Constituent::Optional(nonterminal, turn)) => match operator(
+            nonterminal,
+            inner,
+            lexeme.terminal,
+        ) {
             Some(outer) => {
                 if would_wrap(outer, inner, parts, lexeme) {
                     Prospect::Yes
@@ -141,7 +160,12 @@ fn would_place(top: OpenProduction, inner: Production, parts: Summary, lexeme: L
 }
 
 #[tactic(auto, using(crate::proofs::Reversed::reverse_push))]
-fn would_complete(items: &[OpenProduction], inner: Production, parts: Summary, lexeme: Lexeme) -> bool
+fn would_complete(
+    items: &[OpenProduction],
+    inner: Production,
+    parts: Summary,
+    lexeme: Lexeme,
+) -> bool
     ensures { result ≡ complete_would (shapes_of items.now) inner parts lexeme }
 {
     match items {
@@ -149,7 +173,9 @@ fn would_complete(items: &[OpenProduction], inner: Production, parts: Summary, l
         [below @ .., top] => match would_place(*top, inner, parts, lexeme) {
             Prospect::Yes => true,
             Prospect::No => false,
-            Prospect::Ended(production, summary) => would_complete(below, production, summary, lexeme),
+            Prospect::Ended(production, summary) => would_complete(
+                below, production, summary, lexeme,
+            ),
         },
     }
 }
@@ -164,7 +190,9 @@ pub fn is_taken(items: &[OpenProduction], lexeme: Lexeme) -> bool
         [below @ .., top] => match would_advance(top.production, top.summary, top.rest, lexeme) {
             Prospect::Yes => true,
             Prospect::No => false,
-            Prospect::Ended(production, summary) => would_complete(below, production, summary, lexeme),
+            Prospect::Ended(production, summary) => would_complete(
+                below, production, summary, lexeme,
+            ),
         },
     }
 }

@@ -167,7 +167,11 @@ fn leads_with(production: Production, inner: Production) -> bool
     }
 }
 
-fn pick_operator(nonterminal: Nonterminal, production: Production, operators: &[Production]) -> Option<Production>
+fn pick_operator(
+    nonterminal: Nonterminal,
+    production: Production,
+    operators: &[Production],
+) -> Option<Production>
     ensures { result ≡ pick nonterminal production operators.now }
 {
     match operators {
@@ -184,7 +188,11 @@ fn pick_operator(nonterminal: Nonterminal, production: Production, operators: &[
 
 /// The production that a tree goes on as where a nonterminal is wanted, before a lexeme.
 #[tactic(auto, unfolding(crate::specs::Table::wrap_of))]
-pub fn operator(nonterminal: Nonterminal, production: Production, terminal: Terminal) -> Option<Production>
+pub fn operator(
+    nonterminal: Nonterminal,
+    production: Production,
+    terminal: Terminal,
+) -> Option<Production>
     ensures { result ≡ wrap_of nonterminal production terminal }
 {
     pick_operator(nonterminal, production, operators(terminal))

@@ -1,6 +1,6 @@
 // What is to be known of the parts of a production.
 ghost use Rattle.std.specs.Prelude.{◌≡◌, ◌&&◌, ◌||◌, not};
-ghost use Rattle.js_grammar.specs.Fits.{is_cover, is_initialized_name, is_parenthesized, is_cover_comma, is_cover_rest, is_property, is_literal, is_identifier, is_inner, is_free, is_spread_element, is_spread_property, is_assignment, is_comma_element, is_super, is_super_call, is_new, is_if, ends_with_statement, is_binding_pattern, is_initializer, is_for_binding, is_for_declaration, is_closing_parenthesis, is_comma, is_async_of, is_proto, first_some, if_first, is_async_first, is_proto_first, ends_well, is_plain, is_proper, is_super_property, super_part, is_value_or_pattern, is_target, is_bindable, rest_pattern, rest_binding, part_pattern, part_binding, empty_summary, with_leaf, with_node, is_lone_declaration, refined_by};
+ghost use Rattle.js_grammar.specs.Fits.{is_cover, is_initialized_name, is_parenthesized, is_cover_comma, is_cover_rest, is_property, is_literal, is_identifier, is_inner, is_free, is_spread_element, is_spread_property, is_assignment, is_comma_element, is_super, is_super_call, is_new, is_if, ends_with_statement, is_binding_pattern, is_initializer, is_for_binding, is_for_declaration, is_closing_parenthesis, is_comma, is_async_of, is_proto, first_some, if_first, is_async_first, is_proto_first, ends_well, is_plain, is_proper, is_super_property, super_part, is_value_or_pattern, is_target, is_bindable, rest_pattern, rest_binding, part_pattern, part_binding, ends_pattern, is_closed, empty_summary, with_leaf, with_node, is_lone_declaration, refined_by};
 ghost use Rattle.js_grammar.specs.Guarded.{is_guarded};
 ghost use Rattle.js_grammar.specs.Flat.{led_by, fit_by};
 
@@ -57,7 +57,20 @@ pub struct Summary {
 fn is_cover(production: Production) -> bool
     ensures { result ≡ is_cover production }
 {
-    matches!(production, Production::ArrayLiteral | Production::CommaElement | Production::SpreadElement | Production::SpreadProperty | Production::ObjectLiteral | Production::NamedProperty | Production::KeyedProperty | Production::PropertyValue | Production::CoverInitializedName | Production::CoverParenthesized | Production::CoverComma)
+    matches!(
+        production,
+        Production::ArrayLiteral
+            | Production::CommaElement
+            | Production::SpreadElement
+            | Production::SpreadProperty
+            | Production::ObjectLiteral
+            | Production::NamedProperty
+            | Production::KeyedProperty
+            | Production::PropertyValue
+            | Production::CoverInitializedName
+            | Production::CoverParenthesized
+            | Production::CoverComma
+    )
 }
 
 /// A name with an initializer, which only a pattern has.
@@ -97,7 +110,10 @@ fn is_cover_rest(production: Production) -> bool
 fn is_property(production: Production) -> bool
     ensures { result ≡ is_property production }
 {
-    matches!(production, Production::NamedProperty | Production::KeyedProperty)
+    matches!(
+        production,
+        Production::NamedProperty | Production::KeyedProperty
+    )
 }
 
 /// An array or object literal.
@@ -105,7 +121,10 @@ fn is_property(production: Production) -> bool
 fn is_literal(production: Production) -> bool
     ensures { result ≡ is_literal production }
 {
-    matches!(production, Production::ArrayLiteral | Production::ObjectLiteral)
+    matches!(
+        production,
+        Production::ArrayLiteral | Production::ObjectLiteral
+    )
 }
 
 /// A name.
@@ -121,7 +140,14 @@ fn is_identifier(production: Production) -> bool
 fn is_inner(production: Production) -> bool
     ensures { result ≡ is_inner production }
 {
-    matches!(production, Production::CommaElement | Production::NamedProperty | Production::KeyedProperty | Production::PropertyValue | Production::CoverComma)
+    matches!(
+        production,
+        Production::CommaElement
+            | Production::NamedProperty
+            | Production::KeyedProperty
+            | Production::PropertyValue
+            | Production::CoverComma
+    )
 }
 
 /// What stands in a pattern as it does in a literal.
@@ -129,7 +155,15 @@ fn is_inner(production: Production) -> bool
 fn is_free(production: Production) -> bool
     ensures { result ≡ is_free production }
 {
-    matches!(production, Production::CoverInitializedName | Production::ReservedWordName | Production::StringName | Production::NumericName | Production::ComputedPropertyName | Production::CoverRest)
+    matches!(
+        production,
+        Production::CoverInitializedName
+            | Production::ReservedWordName
+            | Production::StringName
+            | Production::NumericName
+            | Production::ComputedPropertyName
+            | Production::CoverRest
+    )
 }
 
 /// `...` in an array.
@@ -201,7 +235,14 @@ fn is_if(production: Production) -> bool
 fn ends_with_statement(production: Production) -> bool
     ensures { result ≡ ends_with_statement production }
 {
-    matches!(production, Production::IfStatement | Production::IfElseStatement | Production::WhileStatement | Production::ForStatement | Production::LabelledStatement)
+    matches!(
+        production,
+        Production::IfStatement
+            | Production::IfElseStatement
+            | Production::WhileStatement
+            | Production::ForStatement
+            | Production::LabelledStatement
+    )
 }
 
 /// A binding pattern.
@@ -209,7 +250,10 @@ fn ends_with_statement(production: Production) -> bool
 fn is_binding_pattern(production: Production) -> bool
     ensures { result ≡ is_binding_pattern production }
 {
-    matches!(production, Production::ObjectBindingPattern | Production::ArrayBindingPattern)
+    matches!(
+        production,
+        Production::ObjectBindingPattern | Production::ArrayBindingPattern
+    )
 }
 
 /// An initializer.
@@ -217,7 +261,10 @@ fn is_binding_pattern(production: Production) -> bool
 fn is_initializer(production: Production) -> bool
     ensures { result ≡ is_initializer production }
 {
-    matches!(production, Production::Initializer | Production::InitializerNoIn)
+    matches!(
+        production,
+        Production::Initializer | Production::InitializerNoIn
+    )
 }
 
 /// A binding of a `for`.
@@ -327,13 +374,17 @@ fn is_proper(production: Production, summary: Summary) -> bool
     ensures { result ≡ is_proper production summary }
 {
     !is_cover(production)
-        || !is_initialized_name(production) && ends_well(production, summary) && is_plain(production, summary) && summary.proper
+        || !is_initialized_name(production)
+            && ends_well(production, summary)
+            && is_plain(production, summary)
+            && summary.proper
 }
 
 fn is_super_property(production: Production, summary: Summary) -> bool
     ensures { result ≡ is_super_property production summary }
 {
-    is_super(production) && !summary.called || is_parenthesized(production) && summary.super_property
+    is_super(production) && !summary.called
+        || is_parenthesized(production) && summary.super_property
 }
 
 fn super_part(production: Production, parts: Summary) -> bool
@@ -358,7 +409,8 @@ fn is_target(production: Production, summary: Summary) -> bool
     ensures { result ≡ is_target production summary }
 {
     has_production(Nonterminal::LeftHandSideExpression, production)
-        && !(is_super_property(production, summary) || is_literal(production) && summary.super_target)
+        && !(is_super_property(production, summary)
+            || is_literal(production) && summary.super_target)
         && is_value_or_pattern(production, summary)
 }
 
@@ -464,8 +516,8 @@ fn proper_with(summary: Summary, production: Production, parts: Summary) -> bool
     summary.proper && is_proper(production, parts)
 }
 
-fn closed_node(production: Production, parts: Summary) -> bool
-    ensures { result ≡ (not (ends_with_statement production) || (not (is_if production) && parts.closed)) }
+fn is_closed(production: Production, parts: Summary) -> bool
+    ensures { result ≡ is_closed production parts }
 {
     !ends_with_statement(production) || !is_if(production) && parts.closed
 }
@@ -483,7 +535,7 @@ fn binding_with(summary: Summary, production: Production, parts: Summary) -> boo
 }
 
 fn ended_with(summary: Summary, production: Production, parts: Summary) -> bool
-    ensures { result ≡ (summary.ended || (is_spread_element production || (is_spread_property production || (is_comma_element production && parts.ended)))) }
+    ensures { result ≡ (summary.ended || ends_pattern production parts) }
 {
     summary.ended
         || is_spread_element(production)
@@ -522,7 +574,7 @@ pub fn with_node(summary: Summary, production: Production, parts: Summary) -> Su
     Summary {
         proper: proper_with(summary, production, parts),
         valued: !is_cover_rest(production),
-        closed: closed_node(production, parts),
+        closed: is_closed(production, parts),
         called_new: !is_new(production),
         pattern: pattern_with(summary, production, parts),
         binding: binding_with(summary, production, parts),
@@ -530,7 +582,11 @@ pub fn with_node(summary: Summary, production: Production, parts: Summary) -> Su
         target: is_target(production, parts),
         bindable: is_bindable(production, parts),
         literal: is_literal(production),
-        first_bindable: if_first(summary.first, is_bindable(production, parts), summary.first_bindable),
+        first_bindable: if_first(
+            summary.first,
+            is_bindable(production, parts),
+            summary.first_bindable,
+        ),
         called: is_super_call(production),
         super_property: is_super_property(production, parts),
         super_target: super_target_with(summary, production, parts),
@@ -566,14 +622,17 @@ fn refined(nonterminal: Nonterminal, production: Production, summary: Summary) -
         | Nonterminal::CommaElement => true,
         Nonterminal::CoverCommaHead => !is_cover_comma(production) || summary.valued,
         Nonterminal::AssignmentTarget => is_target(production, summary),
-        Nonterminal::SimpleTarget | Nonterminal::UpdateOperand => !is_super_property(production, summary)
-            && is_proper(production, summary),
+        Nonterminal::SimpleTarget | Nonterminal::UpdateOperand => !is_super_property(
+            production, summary,
+        ) && is_proper(production, summary),
         Nonterminal::ArrowParameters => is_identifier(production) || summary.binding,
-        Nonterminal::VariableDeclaration | Nonterminal::VariableDeclarationNoIn => !summary.binding_pattern,
+        Nonterminal::VariableDeclaration | Nonterminal::VariableDeclarationNoIn =>
+            !summary.binding_pattern,
         Nonterminal::ForOfTarget => is_lone_declaration(production, summary)
             || is_target(production, summary)
                 && !(is_identifier(production) && is_async_first(summary.first)),
-        Nonterminal::ForInTarget => is_lone_declaration(production, summary) || is_target(production, summary),
+        Nonterminal::ForInTarget => is_lone_declaration(production, summary)
+            || is_target(production, summary),
         Nonterminal::ForInit => is_proper(production, summary) && !summary.lacks,
         _ => is_proper(production, summary),
     }
@@ -597,5 +656,7 @@ fn led(nonterminal: Nonterminal, first: Option<Lexeme>) -> bool
 pub fn fits(nonterminal: Nonterminal, production: Production, summary: Summary) -> bool
     ensures { result ≡ fit_by nonterminal production summary }
 {
-    has_production(nonterminal, production) && refined(nonterminal, production, summary) && led(nonterminal, summary.first)
+    has_production(nonterminal, production)
+        && refined(nonterminal, production, summary)
+        && led(nonterminal, summary.first)
 }

@@ -3,4 +3,4 @@ use Rattle.js_grammar.specs.Moves.{rest_of}
 use Rattle.js_grammar.proofs.machine.+advance.Given as goal
 
 abbrev pub decreases-advance : goal.decreases-advance
-decreases-advance l = length (rest_of l.to_come)
+decreases-advance l = length (rest_of l.top.rest)
