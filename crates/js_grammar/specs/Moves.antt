@@ -5,14 +5,18 @@ use Rattle.js_grammar.specs.declared.constituents.Constituent.{Constituent}
 use Rattle.js_grammar.specs.declared.symbols.Production.{Production}
 use Rattle.js_grammar.specs.declared.summary.Summary.{Summary}
 use Rattle.js_grammar.specs.declared.event.Event.{Event}
+use Rattle.js_grammar.specs.declared.event.Event.TheVariants as event
 use Rattle.js_grammar.specs.declared.open.OpenProduction.{OpenProduction}
 use Rattle.js_grammar.specs.declared.open.Remainder.{Remainder}
 use Rattle.js_grammar.specs.declared.machine.Progress.{Progress}
 use Rattle.js_grammar.specs.declared.machine.Progress.TheVariants as progress
 use Rattle.std.specs.Global.{Vec}
 use Rattle.js_grammar.specs.declared.rules.Opening.{Opening}
-use Rattle.js_grammar.specs.Table.{rule_of, forms_of}
-use Rattle.js_grammar.specs.Flat.{Shape, shape, Flat, flat, begun_flat, opened_flat, onward_flat, wrapped_flat, put_flat, complete_flat, fed_flat}
+use Rattle.js_grammar.specs.Table.{rule_of, forms_of, wrap_of}
+use Rattle.js_grammar.specs.Fits.{with_leaf, with_node}
+use Rattle.js_grammar.specs.Grammar.{only_if}
+use Rattle.js_grammar.specs.declared.symbols.Nonterminal.{Nonterminal}
+use Rattle.js_grammar.specs.Flat.{Shape, shape, Flat, flat, begun_flat, opened_flat, onward_flat, wrapped_flat, put_flat, joined_to, turned_flat, fit_by, complete_flat, fed_flat}
 
 abbrev pub constituents_of : Option Constituent → List Constituent → List Constituent
 constituents_of None ps = []
@@ -56,8 +60,20 @@ wrapped_at xs es f h x t = wrapped_flat f (rule_of f) (shapes_of xs.items) (late
 abbrev pub fed_at : Vec OpenProduction → Vec Event → Lexeme → Option Flat
 fed_at xs es t = fed_flat (shapes_of xs.items) (latest es.items) t
 
+-- a token stands in a production, before these constituents
+abbrev pub leaf_at : Vec OpenProduction → Vec Event → OpenProduction → Lexeme → Flat
+leaf_at xs es i t = flat (shape i.production (with_leaf i.summary t) (rest_of i.rest) ∷ shapes_of xs.items) (event.Leaf t ∷ latest es.items)
+
+-- a part is opened within a production
+abbrev pub part_at : Vec OpenProduction → Vec Event → OpenProduction → Opening → Lexeme → Option Flat
+part_at xs es i o t = opened_flat (forms_of o) (shape_in i ∷ shapes_of xs.items) (latest es.items) t
+
 abbrev pub onward_at : OpenProduction → Lexeme → Move
 onward_at i t s o k = onward_flat k s o i.production i.summary (rest_of i.rest) t
+
+-- a whole tree stands as a part, before these constituents, or an operator goes on with it
+abbrev pub stood_at : OpenProduction → Nonterminal → Remainder → Production → Summary → Lexeme → Move
+stood_at i c r h x t s o k = joined_to (wrap_of c h t.terminal) (only_if (fit_by c h x) (onward_flat k s o i.production (with_node i.summary h x) (rest_of r) t)) (turned_flat s o i.production i.summary (rest_of i.rest) h x t)
 
 abbrev pub put_at : OpenProduction → Production → Summary → Lexeme → Move
 put_at i h x t s o k = put_flat k s o i.production i.summary (rest_of i.rest) h x t

@@ -2,13 +2,13 @@
 ghost use Rattle.std.specs.Prelude.{◌≡◌, ◌∷◌, IfOk, reverse};
 ghost use Rattle.js_grammar.specs.Flat.{fed_in};
 ghost use Rattle.js_grammar.specs.Laws.{from_flat};
-ghost use Rattle.js_grammar.specs.Moves.{latest, begun_at, opened_at, onward_at, wrapped_at, put_at, fed_at, Comes, Opens, Takes};
+ghost use Rattle.js_grammar.specs.Moves.{flat_in, latest, begun_at, opened_at, leaf_at, part_at, stood_at, onward_at, wrapped_at, put_at, fed_at, Comes, Opens, Takes};
 ghost use Rattle.js_grammar.specs.Would.{would};
 
 use crate::constituents::{Constituent, Repetition};
 use crate::event::Event;
 use crate::lexeme::Lexeme;
-use crate::open::{OpenProduction, Remainder, ahead, follow};
+use crate::open::{OpenProduction, Remainder, ahead, before, follow};
 use crate::prospect::is_taken;
 use crate::rules::{Opening, ends_list, is_among, openings, operator, rule};
 use crate::summary::{Summary, empty_summary, fits, with_leaf, with_node};
@@ -146,6 +146,41 @@ fn open_each(
     }
 }
 
+/// The token stands as the next constituent of a production, before those behind it.
+#[tactic(auto, using(crate::proofs::Reversed::reverse_push))]
+fn put_leaf(
+    stack: &mut Vec<OpenProduction>,
+    out: &mut Vec<Event>,
+    behind: OpenProduction,
+    lexeme: Lexeme,
+) -> Result<(), AllocError>
+    ensures { let there = leaf_at stack.old out.old behind lexeme in
+        IfOk result (λ _. flat_in stack.new.items out.new.items ≡ there) }
+{
+    note(out, Event::Leaf(lexeme))?;
+    stack.push(OpenProduction {
+        production: behind.production,
+        summary: with_leaf(behind.summary, lexeme),
+        rest: behind.rest,
+    })?;
+    Ok(())
+}
+
+/// A production stays open, and its next part begins with the token.
+#[tactic(auto, using(crate::proofs::Reversed::reverse_push))]
+fn open_part(
+    stack: &mut Vec<OpenProduction>,
+    out: &mut Vec<Event>,
+    top: OpenProduction,
+    opening: Opening,
+    lexeme: Lexeme,
+) -> Result<bool, AllocError>
+    ensures { IfOk result (Opens (part_at stack.old out.old top opening lexeme) stack.new out.new) }
+{
+    stack.push(top)?;
+    open_each(stack, out, opening, lexeme)
+}
+
 /// A production with its parts so far, before a token.
 #[tactic(auto, using(crate::proofs::Reversed::reverse_push))]
 fn advance(
@@ -156,37 +191,22 @@ fn advance(
 ) -> Result<Progress, AllocError>
     ensures { IfOk result (Comes stack.old out.old (onward_at top lexeme) stack.new out.new) }
 {
-    let OpenProduction {
-        production,
-        summary,
-        rest,
-    } = top;
-    let later = rest.later;
-    match rest.next {
+    let later = top.rest.later;
+    match top.rest.next {
         None => {
-            note(out, Event::Node(production))?;
-            Ok(Progress::Ended(production, summary))
+            note(out, Event::Node(top.production))?;
+            Ok(Progress::Ended(top.production, top.summary))
         }
         Some(Constituent::Token(set)) => {
             if !is_among(lexeme.terminal, set) {
                 return Ok(Progress::Refused);
             }
-            note(out, Event::Leaf(lexeme))?;
-            stack.push(OpenProduction {
-                production,
-                summary: with_leaf(summary, lexeme),
-                rest: ahead(later),
-            })?;
+            put_leaf(stack, out, before(top, ahead(later)), lexeme)?;
             Ok(Progress::Taken)
         }
         Some(Constituent::Part(nonterminal)) => {
-            stack.push(top)?;
-            let taken = open_each(
-                stack,
-                out,
-                openings(nonterminal, lexeme.terminal, lexeme.after_line),
-                lexeme,
-            )?;
+            let opening = openings(nonterminal, lexeme.terminal, lexeme.after_line);
+            let taken = open_part(stack, out, top, opening, lexeme)?;
             Ok(if taken {
                 Progress::Taken
             } else {
@@ -194,22 +214,12 @@ fn advance(
             })
         }
         Some(Constituent::Optional(nonterminal, _)) => {
-            let opened = openings(nonterminal, lexeme.terminal, lexeme.after_line);
-            if matches!(opened, Opening::Nothing) {
+            let opening = openings(nonterminal, lexeme.terminal, lexeme.after_line);
+            if matches!(opening, Opening::Nothing) {
                 note(out, Event::Absent)?;
-                return advance(
-                    stack,
-                    out,
-                    OpenProduction {
-                        production,
-                        summary,
-                        rest: ahead(later),
-                    },
-                    lexeme,
-                );
+                return advance(stack, out, before(top, ahead(later)), lexeme);
             }
-            stack.push(top)?;
-            let taken = open_each(stack, out, opened, lexeme)?;
+            let taken = open_part(stack, out, top, opening, lexeme)?;
             Ok(if taken {
                 Progress::Taken
             } else {
@@ -219,26 +229,10 @@ fn advance(
         Some(Constituent::Further(nonterminal, set)) => {
             if !is_among(lexeme.terminal, set) {
                 note(out, Event::Absent)?;
-                return advance(
-                    stack,
-                    out,
-                    OpenProduction {
-                        production,
-                        summary,
-                        rest: ahead(later),
-                    },
-                    lexeme,
-                );
+                return advance(stack, out, before(top, ahead(later)), lexeme);
             }
-            note(out, Event::Leaf(lexeme))?;
-            stack.push(OpenProduction {
-                production,
-                summary: with_leaf(summary, lexeme),
-                rest: Remainder {
-                    next: Some(Constituent::Optional(nonterminal, Repetition::Listed(set))),
-                    later,
-                },
-            })?;
+            let next = Some(Constituent::Optional(nonterminal, Repetition::Listed(set)));
+            put_leaf(stack, out, before(top, Remainder { next, later }), lexeme)?;
             Ok(Progress::Taken)
         }
     }
@@ -254,7 +248,8 @@ fn wrap(
     parts: Summary,
     lexeme: Lexeme,
 ) -> Result<bool, AllocError>
-    ensures { IfOk result (Opens (wrapped_at stack.old out.old outer inner parts lexeme) stack.new out.new) }
+    ensures { let there = wrapped_at stack.old out.old outer inner parts lexeme in
+        IfOk result (Opens there stack.new out.new) }
 {
     match rule(outer) {
         [
@@ -277,6 +272,41 @@ fn wrap(
     }
 }
 
+/// A whole tree becomes a part of an open production, before these constituents, or of one that stands there and goes on with the token.
+#[tactic(auto, using(crate::proofs::Reversed::reverse_push))]
+fn stand(
+    stack: &mut Vec<OpenProduction>,
+    out: &mut Vec<Event>,
+    top: OpenProduction,
+    nonterminal: Nonterminal,
+    behind: Remainder,
+    inner: Production,
+    parts: Summary,
+    lexeme: Lexeme,
+) -> Result<Progress, AllocError>
+    ensures { let there = stood_at top nonterminal behind inner parts lexeme in
+        IfOk result (Comes stack.old out.old there stack.new out.new) }
+{
+    if let Some(outer) = operator(nonterminal, inner, lexeme.terminal) {
+        stack.push(top)?;
+        let taken = wrap(stack, out, outer, inner, parts, lexeme)?;
+        return Ok(if taken {
+            Progress::Taken
+        } else {
+            Progress::Refused
+        });
+    }
+    if !fits(nonterminal, inner, parts) {
+        return Ok(Progress::Refused);
+    }
+    let placed = OpenProduction {
+        production: top.production,
+        summary: with_node(top.summary, inner, parts),
+        rest: behind,
+    };
+    advance(stack, out, placed, lexeme)
+}
+
 /// A whole tree stands where an open production wants a part.
 #[tactic(auto, using(crate::proofs::Reversed::reverse_push))]
 fn place(
@@ -287,75 +317,19 @@ fn place(
     parts: Summary,
     lexeme: Lexeme,
 ) -> Result<Progress, AllocError>
-    ensures { IfOk result (Comes stack.old out.old (put_at top inner parts lexeme) stack.new out.new) }
+    ensures { let there = put_at top inner parts lexeme in
+        IfOk result (Comes stack.old out.old there stack.new out.new) }
 {
-    let OpenProduction {
-        production,
-        summary,
-        rest: to_come,
-    } = top;
-    let later = to_come.later;
-    match to_come.next {
-        Some(Constituent::Part(nonterminal)) => match operator(
-            nonterminal,
-            inner,
-            lexeme.terminal,
-        ) {
-            Some(outer) => {
-                stack.push(top)?;
-                let taken = wrap(stack, out, outer, inner, parts, lexeme)?;
-                Ok(if taken {
-                    Progress::Taken
-                } else {
-                    Progress::Refused
-                })
-            }
-            None => {
-                if !fits(nonterminal, inner, parts) {
-                    return Ok(Progress::Refused);
-                }
-                advance(
-                    stack,
-                    out,
-                    OpenProduction {
-                        production,
-                        summary: with_node(summary, inner, parts),
-                        rest: ahead(later),
-                    },
-                    lexeme,
-                )
-            }
-        },
-        Some(Constituent::Optional(nonterminal, repetition)) => match operator(
-            nonterminal,
-            inner,
-            lexeme.terminal,
-        ) {
-            Some(outer) => {
-                stack.push(top)?;
-                let taken = wrap(stack, out, outer, inner, parts, lexeme)?;
-                Ok(if taken {
-                    Progress::Taken
-                } else {
-                    Progress::Refused
-                })
-            }
-            None => {
-                if !fits(nonterminal, inner, parts) {
-                    return Ok(Progress::Refused);
-                }
-                advance(
-                    stack,
-                    out,
-                    OpenProduction {
-                        production,
-                        summary: with_node(summary, inner, parts),
-                        rest: follow(ends_list(inner), nonterminal, repetition, later),
-                    },
-                    lexeme,
-                )
-            }
-        },
+    let later = top.rest.later;
+    match top.rest.next {
+        Some(Constituent::Part(nonterminal)) => {
+            let behind = ahead(later);
+            stand(stack, out, top, nonterminal, behind, inner, parts, lexeme)
+        }
+        Some(Constituent::Optional(nonterminal, repetition)) => {
+            let behind = follow(ends_list(inner), nonterminal, repetition, later);
+            stand(stack, out, top, nonterminal, behind, inner, parts, lexeme)
+        }
         _ => Ok(Progress::Refused),
     }
 }

@@ -22,6 +22,17 @@ pub struct OpenProduction {
     pub rest: Remainder,
 }
 
+/// The same production with its parts so far, before these constituents.
+pub fn before(top: OpenProduction, rest: Remainder) -> OpenProduction
+    ensures { result ≡ record top { rest = rest } }
+{
+    OpenProduction {
+        production: top.production,
+        summary: top.summary,
+        rest,
+    }
+}
+
 /// The constituents as they stand in a rule.
 pub fn ahead(rule: &'static [Constituent]) -> Remainder
     ensures { rest_of result ≡ rule.now }

@@ -3,7 +3,7 @@ ghost use Rattle.std.specs.Prelude.{◌≡◌, ◌∷◌, []};
 ghost use Rattle.js_grammar.specs.Table.{rule_of, forms_of};
 ghost use Rattle.js_grammar.specs.Would.{opened_would, onward_would, wrapped_would, put_would, complete_would, would};
 ghost use Rattle.js_grammar.specs.Moves.{shapes_of, rest_of};
-ghost use Rattle.js_grammar.specs.Looks.{Looks_so, put_looks};
+ghost use Rattle.js_grammar.specs.Looks.{Looks_so, put_looks, stood_looks};
 
 use crate::constituents::Constituent;
 use crate::lexeme::Lexeme;
@@ -102,59 +102,42 @@ fn would_wrap(outer: Production, inner: Production, parts: Summary, lexeme: Lexe
     }
 }
 
+fn would_stand(
+    top: OpenProduction,
+    nonterminal: Nonterminal,
+    behind: Remainder,
+    inner: Production,
+    parts: Summary,
+    lexeme: Lexeme,
+) -> Prospect
+    ensures { Looks_so (stood_looks top nonterminal behind inner parts lexeme) result }
+{
+    if let Some(outer) = operator(nonterminal, inner, lexeme.terminal) {
+        return if would_wrap(outer, inner, parts, lexeme) {
+            Prospect::Yes
+        } else {
+            Prospect::No
+        };
+    }
+    if !fits(nonterminal, inner, parts) {
+        return Prospect::No;
+    }
+    let summary = with_node(top.summary, inner, parts);
+    would_advance(top.production, summary, behind, lexeme)
+}
+
 fn would_place(top: OpenProduction, inner: Production, parts: Summary, lexeme: Lexeme) -> Prospect
     ensures { Looks_so (put_looks top inner parts lexeme) result }
 {
     let later = top.rest.later;
     match top.rest.next {
-        Some(Constituent::Part(nonterminal)) => match operator(
-            nonterminal,
-            inner,
-            lexeme.terminal,
-        ) {
-            Some(outer) => {
-                if would_wrap(outer, inner, parts, lexeme) {
-                    Prospect::Yes
-                } else {
-                    Prospect::No
-                }
-            },
-            None => {
-                if !fits(nonterminal, inner, parts) {
-                    return Prospect::No;
-                }
-                would_advance(
-                    top.production,
-                    with_node(top.summary, inner, parts),
-                    ahead(later),
-                    lexeme,
-                )
-            }
-        },
-        Some(Constituent::Optional(nonterminal, turn)) => match operator(
-            nonterminal,
-            inner,
-            lexeme.terminal,
-        ) {
-            Some(outer) => {
-                if would_wrap(outer, inner, parts, lexeme) {
-                    Prospect::Yes
-                } else {
-                    Prospect::No
-                }
-            },
-            None => {
-                if !fits(nonterminal, inner, parts) {
-                    return Prospect::No;
-                }
-                would_advance(
-                    top.production,
-                    with_node(top.summary, inner, parts),
-                    follow(ends_list(inner), nonterminal, turn, later),
-                    lexeme,
-                )
-            }
-        },
+        Some(Constituent::Part(nonterminal)) => {
+            would_stand(top, nonterminal, ahead(later), inner, parts, lexeme)
+        }
+        Some(Constituent::Optional(nonterminal, repetition)) => {
+            let behind = follow(ends_list(inner), nonterminal, repetition, later);
+            would_stand(top, nonterminal, behind, inner, parts, lexeme)
+        }
         _ => Prospect::No,
     }
 }
