@@ -3,10 +3,10 @@ use Rattle.std.proofs.Common.{◌≡◌, ◌<◌, ◌⊎◌, inl, inr, ℕ, Bool
 use Rattle.std.proofs.lemmas.Bool.Decides.{nat_tests}
 use Rattle.std.specs.Str.{IsUtf8, IsValidUpTo, chars}
 use Rattle.lava_base.specs.declared.place.Place.{Place}
-use Rattle.js_tree.specs.declared.fault.SyntaxFault.{SyntaxFault}
-use Rattle.js_tree.specs.declared.fault.SyntaxFault.TheVariants as faults
-use Rattle.js_tree.specs.declared.fault.SyntaxWhat.{SyntaxWhat}
-use Rattle.js_tree.specs.declared.fault.SyntaxWhat.TheVariants as what
+use Rattle.js_fault.specs.declared.fault.SyntaxFault.{SyntaxFault}
+use Rattle.js_fault.specs.declared.fault.SyntaxFault.TheVariants as faults
+use Rattle.js_fault.specs.declared.fault.SyntaxWhat.{SyntaxWhat}
+use Rattle.js_fault.specs.declared.fault.SyntaxWhat.TheVariants as what
 use Rattle.js_lexer.specs.declared.element.Element.{Element}
 use Rattle.js_lexer.specs.declared.element.Element.TheVariants as elements
 use Rattle.js_lexer.specs.declared.element.Form.{Form}

@@ -5,7 +5,7 @@ use Rattle.std.proofs.lemmas.List.Elements.{All-push, All-nil}
 use Rattle.std.proofs.lemmas.Str.{encodes-append, encodes-chars}
 use Rattle.std.specs.Char.{encode_utf8}
 use Rattle.std.specs.Str.{chars, encode_utf8_all}
-use Rattle.js_tree.specs.declared.fault.SyntaxFault.{SyntaxFault}
+use Rattle.js_fault.specs.declared.fault.SyntaxFault.{SyntaxFault}
 use Rattle.js_lexer.specs.declared.spot.Spot.{Spot}
 use Rattle.js_lexer.specs.declared.token.Token.{Token}
 use Rattle.js_lexer.specs.Answers.{StandInOrder}

@@ -1,10 +1,10 @@
 -- What `tokens` answers.
 use Rattle.std.specs.Prelude.{◌≡◌, ℕ, ◌≤◌, List, [], ◌∷◌, codes, ◌⊎◌, Result, MatchResult}
 use Rattle.lava_base.specs.declared.place.Place.{Place}
-use Rattle.js_tree.specs.declared.fault.SyntaxFault.{SyntaxFault}
-use Rattle.js_tree.specs.declared.fault.SyntaxFault.TheVariants as fault
-use Rattle.js_tree.specs.declared.fault.SyntaxWhat.{SyntaxWhat}
-use Rattle.js_tree.specs.declared.fault.SyntaxWhat.TheVariants as what
+use Rattle.js_fault.specs.declared.fault.SyntaxFault.{SyntaxFault}
+use Rattle.js_fault.specs.declared.fault.SyntaxFault.TheVariants as fault
+use Rattle.js_fault.specs.declared.fault.SyntaxWhat.{SyntaxWhat}
+use Rattle.js_fault.specs.declared.fault.SyntaxWhat.TheVariants as what
 use Rattle.js_lexer.specs.declared.element.Form.{Form}
 use Rattle.js_lexer.specs.declared.element.Form.TheVariants as forms
 use Rattle.js_lexer.specs.declared.token.Token.{Token}

@@ -1,12 +1,12 @@
 -- What the lexer's functions do to its state. `Sources` says what that means.
 use Rattle.std.specs.Prelude.{◌≡◌, [], MatchResult, Result, Err, ◌⊎◌}
 use Rattle.lava_base.specs.declared.place.Place.{Place}
-use Rattle.js_tree.specs.declared.fault.SyntaxFault.{SyntaxFault}
+use Rattle.js_fault.specs.declared.fault.SyntaxFault.{SyntaxFault}
 use Rattle.js_lexer.specs.declared.element.NoElement.{NoElement}
 use Rattle.js_lexer.specs.declared.lexer.Refusal.{Refusal}
 use Rattle.js_lexer.specs.declared.lexer.Refusal.TheVariants as refusals
-use Rattle.js_tree.specs.declared.fault.SyntaxFault.TheVariants as faults
-use Rattle.js_tree.specs.declared.fault.SyntaxWhat.TheVariants as what
+use Rattle.js_fault.specs.declared.fault.SyntaxFault.TheVariants as faults
+use Rattle.js_fault.specs.declared.fault.SyntaxWhat.TheVariants as what
 use Rattle.js_lexer.specs.declared.element.NoElement.TheVariants.{Stopped, LeftOut}
 use Rattle.js_lexer.specs.Answers.{form_name}
 use Rattle.js_lexer.specs.Nestings.{inside}

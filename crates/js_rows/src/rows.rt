@@ -6,7 +6,7 @@
 
 use js_lexer::lexer::tokens;
 use js_lexer::token::{TemplatePart, Token, TokenKind};
-use js_tree::fault::{SyntaxFault, SyntaxWhat};
+use js_fault::fault::{SyntaxFault, SyntaxWhat};
 use lava_base::place::Place;
 use std::alloc::Global;
 use std::fmt::Write;

@@ -14,7 +14,7 @@ use crate::spelling::first_token;
 use crate::token::Token;
 use js_lexer::lexer::tokens;
 use js_lexer::token::Token as SourceToken;
-use js_tree::fault::SyntaxFault;
+use js_fault::fault::SyntaxFault;
 use lava_base::list::List;
 use lava_base::memory::OutOfMemory;
 use std::alloc::Global;

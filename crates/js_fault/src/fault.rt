@@ -1,7 +1,7 @@
 // Why a source is refused.
 
 ghost use Rattle.std.specs.Prelude.{◌≡◌};
-ghost use Rattle.js_tree.specs.declared.fault.SyntaxFault.TheVariants as fault;
+ghost use Rattle.js_fault.specs.declared.fault.SyntaxFault.TheVariants as fault;
 
 use lava_base::memory::OutOfMemory;
 use lava_base::name::Name;
