@@ -2,7 +2,7 @@
 use Rattle.std.proofs.Common.{◌≡◌, ℕ, List, map, sym, ap, ◌∙◌, subst}
 use mathlib.Core.Equiv.{◌≃◌}
 use Rattle.js_text.specs.Maps.{map_symbol}
-use Rattle.js_text.specs.Naming.{Naming}
+use Rattle.js_text.specs.Naming.{IsAlike, Naming}
 use Rattle.js_text.specs.declared.value.Symbol.{Symbol}
 use Rattle.js_text.proofs.Moves.{to, to_symbol}
 use Rattle.js_desc.specs.Maps.{map_ask, map_reply}
@@ -14,7 +14,7 @@ use Rattle.js_store.specs.Frozen.{CommonObject}
 use Rattle.js_store.specs.Maps.{map_object}
 use Rattle.js_store.specs.Objects.{Object}
 use Rattle.js_ordinary.specs.Decided.{decided, resumed}
-use Rattle.js_ordinary.specs.Laws.{IsRenaming, References_do_not_matter, Resuming_does_not_look}
+use Rattle.js_ordinary.specs.Laws.{References_do_not_matter, Resuming_does_not_look}
 use Rattle.js_ordinary.specs.Maps.{map_next, map_ordinary_decision}
 use Rattle.js_ordinary.specs.Verdicts.{OrdinaryDecision}
 use Rattle.js_ordinary.specs.declared.next.Next.{Next}
@@ -25,7 +25,7 @@ abbrev renamed : {A B S T : Type 0} → (A → B) → (Symbol S → Symbol T) �
 renamed f g d = (map_ordinary_decision f g d.0, map (map_object f g) d.1)
 
 -- namings that tell the same are one along the paths of their types
-naming_moves : {A B S T : Type 0} (e : A ≃ B) (g : S ≃ T) (a : Naming A S) (b : Naming B T) → IsRenaming a b e.0 g.0 → coe 0 1 (i. Naming (ua e i) (ua g i)) a ≡ b
+naming_moves : {A B S T : Type 0} (e : A ≃ B) (g : S ≃ T) (a : Naming A S) (b : Naming B T) → IsAlike a b e.0 g.0 → coe 0 1 (i. Naming (ua e i) (ua g i)) a ≡ b
 naming_moves {A} {B} {S} {T} e g a b alike =
     let same : (x y : B) → a.same (back e x) (back e y) ≡ b.same x y = λ x y. sym (alike.same (back e x) (back e y)) ∙ (λ k. b.same (there_and_back e x k) (there_and_back e y k)) in
     let origin : (x : B) → a.origin (back e x) ≡ b.origin x = λ x. sym (alike.origin (back e x)) ∙ (λ k. b.origin (there_and_back e x k)) in

@@ -1,10 +1,9 @@
 // What Get and Set do at a value that may be no object.
 
-ghost use Rattle.std.specs.Prelude.{◌≡◌, length, codes, IfOk, Some, slice_get};
+ghost use Rattle.std.specs.Prelude.{◌≡◌, codes, IfOk, Some, slice_get};
 ghost use Rattle.js_text.specs.CommonPaths.{common_paths};
-ghost use Rattle.js_text.specs.Texts.{same_units};
 ghost use Rattle.js_store.specs.Frozen.{common_ref};
-ghost use Rattle.js_ordinary.specs.Primitives.{base_of, get_from, get_v, is_length, set_at, set_v, text_property};
+ghost use Rattle.js_ordinary.specs.Primitives.{base_of, get_from, get_v, set_at, set_v, text_property};
 
 use crate::next::Next;
 use js_desc::ask::Ask;
@@ -12,6 +11,7 @@ use js_desc::decision::Decision;
 use js_desc::fault::FaultText;
 use js_desc::reply::Reply;
 use js_text::copy::copy_value;
+use js_text::length::spells_length;
 use js_text::text::Text;
 use js_text::value::{Key, Value};
 use lava_base::ids::{CommonId, Ref};
@@ -38,40 +38,6 @@ pub fn primitive_prototypes_have_their_places()
     ensures string { slice_get common_paths STRING_PROTOTYPE ≡ Some (codes "String.prototype") }
     ensures symbol { slice_get common_paths SYMBOL_PROTOTYPE ≡ Some (codes "Symbol.prototype") }
 {}
-
-/// The units of the name `length`.
-static LENGTH: [u16; 6] = [108, 101, 110, 103, 116, 104];
-
-/// Whether a key is `length`.
-pub fn is_length(key: &Key) -> bool
-    ensures { result ≡ is_length key.now }
-{
-    match key {
-        Key::Text(text) => spells_length(text),
-        _ => false,
-    }
-}
-
-/// Whether a text is `length`.
-fn spells_length(text: &Text) -> bool
-    ensures { result ≡ same_units text.now (codes "length") }
-{
-    text.len() == 6 && has_units(text, &LENGTH)
-}
-
-/// Whether a text has these units, where it has as many.
-#[tactic(auto, using(crate::proofs::Length_laws::units_step, crate::proofs::Length_laws::units_end))]
-fn has_units(text: &Text, units: &[u16]) -> bool
-    requires { length text.now ≡ length units.now }
-    ensures { result ≡ same_units text.now units.now }
-{
-    for at in 0..text.len() {
-        if text.unit(at) != units[at as usize] {
-            return false;
-        }
-    }
-    true
-}
 
 /// The value of a property of a value: a text has its units and its length, and else what the value is, or inherits from, is asked (ECMA-262, GetV).
 pub fn get_v(alloc: Global, value: Value, key: Key) -> Result<Decision<Next>, OutOfMemory>

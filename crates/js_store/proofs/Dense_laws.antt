@@ -1,11 +1,12 @@
 -- The dense properties and the sparse ones after them are one list, ascending.
-use Rattle.std.proofs.Common.{◌≡◌, ℕ, zero, suc, ◌+◌, ◌-◌, ◌<◌, ◌≤◌, Bool, true, false, cond, List, [], ◌∷◌, ◌++◌, length, set, get_or, take, is_some, Result, Ok, Err, OnOk, OnErr, Option, Some, None, refl, sym, ◌∙◌, ap, arith}
+use Rattle.std.proofs.Common.{◌≡◌, ℕ, zero, suc, ◌+◌, ◌-◌, ◌<◌, ◌≤◌, Bool, true, false, cond, List, [], ◌∷◌, ◌++◌, length, set, get_or, take, slice_get, is_some, Result, Ok, Err, OnOk, OnErr, Option, Some, None, refl, sym, ◌∙◌, ap, arith}
 use Rattle.std.proofs.lemmas.Bool.Decides.{nat_tests}
-use Rattle.std.proofs.lemmas.List.{length_push, take_more, take_all}
+use Rattle.std.proofs.lemmas.List.{length_push, length-take, take_more, take_all}
 use Rattle.std.specs.BTreeMap.{insert_entry, is_at}
 use Rattle.std.specs.List.{AllByRecursion}
 use Rattle.std.specs.List.Sorted.{IsStrictlySortedBy}
-use Rattle.std.specs.Map.{keys_of, lookup, remove_entry}
+use Rattle.std.specs.Map.{keys_of, lookup, remove_entry, set_value}
+use Rattle.std.specs.Option.{unwrap_or}
 use Rattle.std.specs.Ordering.{is_eq, nat_cmp, match_ordering}
 use Rattle.std.specs.declared.cmp.Ordering.{Ordering}
 use Rattle.std.specs.declared.cmp.Ordering.TheVariants.{Less, Equal, Greater}
@@ -13,7 +14,7 @@ use Rattle.lava_base.specs.declared.ids.MadeSymbol.{MadeSymbol}
 use Rattle.lava_base.specs.declared.ids.Ref.{Ref}
 use Rattle.lava_base.specs.declared.memory.OutOfMemory.{OutOfMemory}
 use Rattle.js_desc.specs.declared.descriptor.Descriptor.{Descriptor}
-use Rattle.js_store.specs.Dense.{present}
+use Rattle.js_store.specs.Dense.{last_of, present}
 
 abbrev Places : Type 0
 Places = List (Option (Descriptor Ref MadeSymbol))
@@ -273,3 +274,83 @@ ascend_from n (Some d ∷ os) rest past sorted = (all_above n (present (suc n) o
 
 pub all_ascend : (os : Places) (rest : Entries) → Past (length os) rest → IsStrictlySortedBy nat_cmp (keys_of rest) → IsStrictlySortedBy nat_cmp (keys_of (present 0 os ++ rest))
 all_ascend os rest past sorted = ascend_from 0 os rest (from_start os rest past) sorted
+
+-- what a refusal tells: the index is not there
+pub absent_sparse : (i : ℕ) (os : Places) (rest : Entries) (r : Result (Unit {0}) OutOfMemory) → length os ≤ i → OnErr r (lookup (is_at (nat_cmp i)) rest ≡ None) → OnErr r (lookup (is_at (nat_cmp i)) (present 0 os ++ rest) ≡ None)
+absent_sparse i os rest (Ok u) le h = h
+absent_sparse i os rest (Err e) le h = found_sparse i os rest le ∙ h
+
+pub absent_next : (i : ℕ) (os : Places) (rest : Entries) (r : Result (Unit {0}) OutOfMemory) → i ≡ length os → is_some (lookup (is_at (nat_cmp i)) rest) ≡ false → OnErr r (lookup (is_at (nat_cmp i)) (present 0 os ++ rest) ≡ None)
+absent_next i os rest (Ok u) same none = tt
+absent_next i os rest (Err e) same none = found_sparse i os rest (omega arith) ∙ nothing (lookup (is_at (nat_cmp i)) rest) none
+  where
+    nothing : (o : Option (Descriptor Ref MadeSymbol)) → is_some o ≡ false → o ≡ None
+    nothing None h = refl
+    nothing (Some d) h = absurd cc
+
+-- WHAT IS WRITTEN AGAIN
+
+absent_above : (i : ℕ) (es : Entries) → Past (suc i) es → lookup (is_at (nat_cmp i)) es ≡ None
+absent_above i [] past = refl
+absent_above i (e ∷ es) past = ap (λ b. cond b (Some e.1) (lookup (is_at (nat_cmp i)) es)) (apart i e.0 (grind (arith))) ∙ absent_above i es past.1
+
+past_sorted : (i n : ℕ) (es : Entries) → i < n → AllByRecursion (λ j. nat_cmp n j ≡ Less) (keys_of es) → Past (suc i) es
+past_sorted i n [] lt above' = record {}
+past_sorted i n (e ∷ es) lt above' = (let h = above'.0 in grind (arith, nat_tests), past_sorted i n es lt above'.1)
+
+-- an index that is there is written at its place
+pub written_again : (i : ℕ) (d : Descriptor Ref MadeSymbol) (es : Entries) → IsStrictlySortedBy nat_cmp (keys_of es) → is_some (lookup (is_at (nat_cmp i)) es) ≡ true → insert_entry nat_cmp es i d ≡ set_value (is_at (nat_cmp i)) es d
+unfolding IsStrictlySortedBy
+written_again i d [] sorted there = absurd cc
+written_again i d (e ∷ es) sorted there = by_order (nat_cmp i e.0) refl there (written_again i d es sorted.1)
+  where
+    by_order : (o : Ordering) → nat_cmp i e.0 ≡ o → is_some (cond (is_eq o) (Some e.1) (lookup (is_at (nat_cmp i)) es)) ≡ true
+        → (is_some (lookup (is_at (nat_cmp i)) es) ≡ true → insert_entry nat_cmp es i d ≡ set_value (is_at (nat_cmp i)) es d)
+        → match_ordering o ((i, d) ∷ e ∷ es) ((e.0, d) ∷ es) (e ∷ insert_entry nat_cmp es i d) ≡ cond (is_eq o) ((e.0, d) ∷ es) (e ∷ set_value (is_at (nat_cmp i)) es d)
+    by_order Less same h rest = let none = absent_above i es (past_sorted i e.0 es (grind (arith, nat_tests)) sorted.0) in absurd cc
+    by_order Equal same h rest = refl
+    by_order Greater same h rest = ap (λ l. e ∷ l) (rest h)
+
+-- THE LAST ONE
+
+last_at : (es : Entries) (n : ℕ) (e : ℕ × Descriptor Ref MadeSymbol) → suc n ≡ length es → slice_get es n ≡ Some e → last_of es ≡ Some e.0
+last_at [] n e same h = absurd (omega arith)
+last_at (x ∷ []) zero e same h = let t : x ≡ e = some_same x e h in ap (λ y. Some y.0) t
+  where
+    some_same : (a b : ℕ × Descriptor Ref MadeSymbol) → Some a ≡ Some b → a ≡ b
+    some_same a b h = cc
+last_at (x ∷ []) (suc n) e same h = absurd (omega arith)
+last_at (x ∷ y ∷ es) zero e same h = absurd (omega arith)
+last_at (x ∷ y ∷ es) (suc n) e same h = ap (λ o. Some (unwrap_or o x.0)) (last_at (y ∷ es) n e (omega arith) h)
+
+last_behind : (es fs : Entries) (k : ℕ) → last_of fs ≡ Some k → last_of (es ++ fs) ≡ Some k
+last_behind [] fs k h = h
+last_behind (e ∷ es) fs k h = ap (λ o. Some (unwrap_or o e.0)) (last_behind es fs k h)
+
+pub last_sparse : (es fs : Entries) (k : ℕ) (d : Descriptor Ref MadeSymbol) → 0 < length fs → slice_get fs (length fs - 1) ≡ Some (k, d) → last_of (es ++ fs) ≡ Some k
+last_sparse es fs k d some h = last_behind es fs k (last_at fs (length fs - 1) (k, d) (omega arith) h)
+
+pub last_alone : (es fs : Entries) → (0 < length fs → ⊥) → last_of (es ++ fs) ≡ last_of es
+last_alone es (f ∷ fs) none = absurd (none (omega arith))
+last_alone es [] none = ap last_of (nothing_behind es)
+  where
+    nothing_behind : (l : Entries) → l ++ [] ≡ l
+    nothing_behind [] = refl
+    nothing_behind (y ∷ l) = ap (λ t. y ∷ t) (nothing_behind l)
+
+last_end : (n : ℕ) (os : Places) (d : Descriptor Ref MadeSymbol) → last_of (present n (os ++ Some d ∷ [])) ≡ Some (n + length os)
+last_end n [] d = ap (λ k. Some k) (grind (arith))
+last_end n (None ∷ os) d = last_end (suc n) os d ∙ ap (λ k. Some k) (grind (arith))
+last_end n (Some o ∷ os) d = ap (λ r. Some (unwrap_or r n)) (last_end (suc n) os d) ∙ ap (λ k. Some k) (grind (arith))
+
+-- a place that is filled shows the last index
+pub last_shown : (len : ℕ) (os : Places) (o : Option (Descriptor Ref MadeSymbol)) → 0 < len → len ≤ length os → o ≡ get_or os (len - 1) o → is_some o ≡ true → last_of (present 0 (take len os)) ≡ Some (len - 1)
+last_shown len os None some le same h = absurd cc
+last_shown len os (Some d) some le same h =
+    ap (λ n. last_of (present 0 (take n os))) (one_back len some)
+    ∙ (ap (λ l. last_of (present 0 l)) (take_more os (len - 1) (Some d) (grind (arith)) ∙ ap (λ o. take (len - 1) os ++ o ∷ []) (sym same))
+    ∙ (last_end 0 (take (len - 1) os) d
+    ∙ ap (λ k. Some k) (let t = length-take (len - 1) os in grind (arith))))
+  where
+    one_back : (n : ℕ) → 0 < n → n ≡ (n - 1) + 1
+    one_back n h = grind (arith)

@@ -1,10 +1,11 @@
 -- The properties at indices and the others, one after the other, are one list in the normal order.
-use Rattle.std.proofs.Common.{◌≡◌, ℕ, Bool, true, false, cond, List, [], ◌∷◌, ◌++◌, map, filter, Some, None, refl, sym, ◌∙◌, ap, nat_eq, nat_lt, arith}
+use Rattle.std.proofs.Common.{◌≡◌, ℕ, Bool, true, false, cond, Option, List, [], ◌∷◌, ◌++◌, map, filter, Some, None, refl, sym, ◌∙◌, ap, nat_eq, nat_lt, arith}
 use Rattle.std.proofs.lemmas.Bool.Decides.{nat_tests}
 use Rattle.std.specs.BTreeMap.{insert_entry, is_at}
 use Rattle.std.specs.List.{AllByRecursion, IsDistinct}
 use Rattle.std.specs.List.Sorted.{IsStrictlySortedBy}
-use Rattle.std.specs.Map.{keys_of, lookup, remove_entry}
+use Rattle.std.specs.Map.{keys_of, lookup, remove_entry, set_value}
+use Rattle.std.specs.Option.{unwrap_or}
 use Rattle.std.specs.Ordering.{is_eq, nat_cmp, match_ordering}
 use Rattle.std.specs.declared.cmp.Ordering.TheVariants.{Less}
 use Rattle.indexmap.specs.IndexMap.{insert_entry as insert_named}
@@ -15,9 +16,10 @@ use Rattle.js_text.specs.Values.{same_key}
 use Rattle.js_text.specs.declared.value.Key.{Key}
 use Rattle.js_text.specs.declared.value.Key.TheVariants as key
 use Rattle.js_desc.specs.declared.descriptor.Descriptor.{Descriptor}
+use Rattle.js_store.specs.Dense.{last_of}
 use Rattle.js_store.specs.Halves.{index_entry, is_index, joined, IsNamed}
 use Rattle.js_store.specs.Order.{PrecedesAll, IsInOrder}
-use Rattle.js_store.specs.Objects.{ordinary_get_own_property, goes_before, written, without, is_text, is_symbol, ordinary_own_property_keys}
+use Rattle.js_store.specs.Objects.{index_before, last_index, replaced, ordinary_get_own_property, goes_before, written, without, is_text, is_symbol, ordinary_own_property_keys}
 
 abbrev Elements : Type 0
 Elements = List (ℕ × Descriptor Ref MadeSymbol)
@@ -151,6 +153,53 @@ named_without k (n ∷ ns) named = by_test (same_key same_made_symbol k n.0) (na
     by_test : (b : Bool) → IsNamed (remove_entry (same_key same_made_symbol k) ns) → IsNamed (cond b ns (n ∷ remove_entry (same_key same_made_symbol k) ns))
     by_test true rest = named.1
     by_test false rest = (named.0, rest)
+
+-- WHAT IS REPLACED
+
+not_replaced : (i : ℕ) (d : Descriptor Ref MadeSymbol) (ns : Named) → IsNamed ns → replaced same_made_symbol (key.Index i) d ns ≡ ns
+not_replaced i d [] named = refl
+not_replaced i d (n ∷ ns) named = ap (λ b. cond b ((n.0, d) ∷ ns) (n ∷ replaced same_made_symbol (key.Index i) d ns)) (no_name n.0 i named.0) ∙ ap (λ l. n ∷ l) (not_replaced i d ns named.1)
+
+put_in : (e : ℕ × Descriptor Ref MadeSymbol) (d : Descriptor Ref MadeSymbol) (a : Elements) (b : Elements) (ns : Named) (t : Bool) → joined (cond t ((e.0, d) ∷ a) (e ∷ b)) ns ≡ cond t ((key.Index e.0, d) ∷ joined a ns) (index_entry e ∷ joined b ns)
+put_in e d a b ns true = refl
+put_in e d a b ns false = refl
+
+pub replaced_index : (i : ℕ) (d : Descriptor Ref MadeSymbol) (es : Elements) (ns : Named) → IsNamed ns → joined (set_value (is_at (nat_cmp i)) es d) ns ≡ replaced same_made_symbol (key.Index i) d (joined es ns)
+replaced_index i d [] ns named = sym (not_replaced i d ns named)
+replaced_index i d (e ∷ es) ns named =
+    put_in e d es (set_value (is_at (nat_cmp i)) es d) ns (is_eq (nat_cmp i e.0))
+    ∙ ap (λ b. cond b ((key.Index e.0, d) ∷ joined es ns) (index_entry e ∷ joined (set_value (is_at (nat_cmp i)) es d) ns)) (at_is i e.0)
+    ∙ ap (λ l. cond (nat_eq i e.0) ((key.Index e.0, d) ∷ joined es ns) (index_entry e ∷ l)) (replaced_index i d es ns named)
+
+pub replaced_named : (k : Key MadeSymbol) (d : Descriptor Ref MadeSymbol) (es : Elements) (ns : Named) → is_index k ≡ false → joined es (set_value (same_key same_made_symbol k) ns d) ≡ replaced same_made_symbol k d (joined es ns)
+replaced_named k d [] ns h = refl
+replaced_named k d (e ∷ es) ns h =
+    ap (λ l. index_entry e ∷ l) (replaced_named k d es ns h)
+    ∙ sym (ap (λ b. cond b ((key.Index e.0, d) ∷ joined es ns) (index_entry e ∷ replaced same_made_symbol k d (joined es ns))) (no_index k e.0 h))
+
+-- the keys stay
+pub named_replaced : (test : Key MadeSymbol → Bool) (d : Descriptor Ref MadeSymbol) (ns : Named) → IsNamed ns → IsNamed (set_value test ns d)
+named_replaced test d [] named = named
+named_replaced test d (n ∷ ns) named = by_test (test n.0) (named_replaced test d ns named.1)
+  where
+    by_test : (b : Bool) → IsNamed (set_value test ns d) → IsNamed (cond b ((n.0, d) ∷ ns) (n ∷ set_value test ns d))
+    by_test true rest = named
+    by_test false rest = (named.0, rest)
+
+-- THE LAST INDEX
+
+none_named : (ns : Named) → IsNamed ns → last_index ns ≡ None
+none_named [] named = refl
+none_named (n ∷ ns) named = passed n.0 (last_index ns) named.0 ∙ none_named ns named.1
+  where
+    passed : (k : Key MadeSymbol) (later : Option ℕ) → is_index k ≡ false → index_before k later ≡ later
+    passed (key.Index i) later h = absurd cc
+    passed (key.Text t) later h = refl
+    passed (key.Symbol s) later h = refl
+
+pub last_joined : (es : Elements) (ns : Named) → IsNamed ns → last_index (joined es ns) ≡ last_of es
+last_joined [] ns named = none_named ns named
+last_joined (e ∷ es) ns named = ap (λ o. Some (unwrap_or o e.0)) (last_joined es ns named)
 
 -- THE KEYS
 

@@ -1,6 +1,8 @@
 pub mod Bare_laws
 pub mod Common_laws
 pub mod Dense_laws
+pub mod Few_laws
+pub mod Fixed_laws
 pub mod Halves_laws
 pub mod Ids_laws
 pub mod Keys_laws

@@ -1,4 +1,5 @@
 pub mod Dense
+pub mod Few
 pub mod Foreign
 pub mod Frozen
 pub mod Halves

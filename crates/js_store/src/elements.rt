@@ -1,13 +1,13 @@
 // The properties at array indices, ascending.
 
-ghost use Rattle.std.specs.Prelude.{◌≡◌, ◌≤◌, ◌<◌, ◌^◌, ◌++◌, ◌∷◌, [], length, set, map, OnOk, OnErr};
+ghost use Rattle.std.specs.Prelude.{◌≡◌, ◌≤◌, ◌<◌, ◌^◌, ◌++◌, ◌∷◌, [], length, set, map, is_some, None, OnOk, OnErr};
 ghost use Rattle.std.specs.BTreeMap.{insert_entry, is_at};
 ghost use Rattle.std.specs.List.Sorted.{IsStrictlySortedBy};
-ghost use Rattle.std.specs.Map.{keys_of, lookup, remove_entry};
+ghost use Rattle.std.specs.Map.{keys_of, lookup, remove_entry, set_value};
 ghost use Rattle.std.specs.Option.{option_map};
 ghost use Rattle.std.specs.Ordering.{nat_cmp};
 ghost use Rattle.js_text.specs.declared.value.Key.TheVariants.{Index};
-ghost use Rattle.js_store.specs.Dense.{present};
+ghost use Rattle.js_store.specs.Dense.{last_of, present};
 
 use js_desc::descriptor::Descriptor;
 use js_text::value::Key;
@@ -67,10 +67,11 @@ impl Elements {
     }
 
     /// Writes the property at an index.
-    #[tactic(auto, using(crate::proofs::Dense_laws::written_dense, crate::proofs::Dense_laws::written_next, crate::proofs::Dense_laws::written_sparse, crate::proofs::Dense_laws::past_written, crate::proofs::Dense_laws::past_next))]
+    #[tactic(auto, using(crate::proofs::Dense_laws::written_dense, crate::proofs::Dense_laws::written_next, crate::proofs::Dense_laws::written_sparse, crate::proofs::Dense_laws::past_written, crate::proofs::Dense_laws::past_next, crate::proofs::Dense_laws::absent_sparse, crate::proofs::Dense_laws::absent_next))]
     pub(crate) fn write(&mut self, index: u32, property: Descriptor) -> Result<(), OutOfMemory>
         ensures ok { OnOk result (self.new ≡ insert_entry nat_cmp self.old index property) }
         ensures err { OnErr result (self.new ≡ self.old) }
+        ensures absent { OnErr result (lookup (is_at (nat_cmp index)) self.old ≡ None) }
     {
         let at = index as usize;
         if at < self.dense.len() {
@@ -81,6 +82,30 @@ impl Elements {
             return push(&mut self.dense, property);
         }
         insert(&mut self.sparse, index, property)
+    }
+
+    /// Puts another property in the place of that at an index, and tells whether there is one. It takes no memory.
+    #[tactic(auto, using(crate::proofs::Dense_laws::written_again, crate::proofs::Few_laws::none_replaced))]
+    pub(crate) fn replace(&mut self, index: u32, property: Descriptor) -> bool
+        ensures found { result ≡ is_some (lookup (is_at (nat_cmp index)) self.old) }
+        ensures properties { self.new ≡ set_value (is_at (nat_cmp index)) self.old property }
+    {
+        self.ascend();
+        if self.get(index).is_none() {
+            return false;
+        }
+        self.write(index, property).is_ok()
+    }
+
+    /// The last index, if there is one.
+    #[tactic(auto, using(crate::proofs::Dense_laws::last_sparse, crate::proofs::Dense_laws::last_alone))]
+    pub(crate) fn last(&self) -> Option<u32>
+        ensures { result ≡ last_of self.now }
+    {
+        match self.sparse.last_key_value() {
+            Some((index, _)) => Some(*index),
+            None => last_dense(&self.dense),
+        }
     }
 
     /// Takes the property at an index out, if there is one.
@@ -143,6 +168,22 @@ fn trim(dense: &mut Vec<Option<Descriptor>>)
     dense.truncate(len);
 }
 
+/// The last dense index that has a property, if there is one. It is the last place, as long as no place at the end is empty.
+#[tactic(auto, using(crate::proofs::Dense_laws::shown_less, crate::proofs::Dense_laws::last_shown))]
+fn last_dense(dense: &[Option<Descriptor>]) -> Option<u32>
+    requires { length dense.now ≤ 2 ^ 32 }
+    ensures { result ≡ last_of (present 0 dense.now) }
+{
+    let mut len = dense.len();
+    while len > 0 {
+        if dense[len - 1].is_some() {
+            return Some((len - 1) as u32);
+        }
+        len -= 1;
+    }
+    None
+}
+
 /// Writes a property among the sparse ones.
 fn insert(
     sparse: &mut BTreeMap<u32, Descriptor>,
@@ -152,6 +193,7 @@ fn insert(
     ensures ok { let after = insert_entry nat_cmp sparse.old.entries index property in
         OnOk result (sparse.new.entries ≡ after) }
     ensures err { OnErr result (sparse.new.entries ≡ sparse.old.entries) }
+    ensures absent { OnErr result (lookup (is_at (nat_cmp index)) sparse.old.entries ≡ None) }
 {
     sparse.insert(index, property)?;
     Ok(())

@@ -1,12 +1,14 @@
 // A store that keeps each object with a list of its properties.
 
-ghost use Rattle.std.specs.Prelude.{◌≡◌, ◌++◌, ◌∷◌, [], OnOk};
+ghost use Rattle.std.specs.Prelude.{◌≡◌, ◌++◌, ◌∷◌, [], OnOk, OnErr, IfSome, Some};
+ghost use Rattle.js_text.specs.Length.{length_key};
 ghost use Rattle.js_store.specs.Frozen.{bare};
 
 use crate::object::FlatObject;
 use crate::slot::Slot;
 use crate::store::{PLAIN_MARKS, Store};
 use js_desc::descriptor::{Change, Descriptor};
+use js_text::length::length_key;
 use js_text::value::Key;
 use lava_base::ids::{ObjId, PartyId, Ref};
 use lava_base::list::List;
@@ -21,17 +23,22 @@ pub struct FlatStore {
     alloc: Global,
     party: PartyId,
     objects: Vec<FlatObject>,
+    /// The key `length`, from the first object on.
+    length_key: Option<Key>,
 }
 
 impl Model for FlatStore {
-    ghost use Rattle.std.specs.Prelude.{◌<◌, ◌^◌, length};
+    ghost use Rattle.std.specs.Prelude.{◌≡◌, ◌<◌, ◌^◌, length, IsSome, IfSome};
+    ghost use Rattle.js_text.specs.Length.{length_key as ready_key};
     ghost use Rattle.js_store.specs.Objects.{Owned};
 
     ghost Value = { Owned };
 
     ghost view = { λ s. record { party = s.party; objects = s.objects.items } };
 
-    ghost invariant = { λ s. length s.objects.items < 2 ^ 32 };
+    ghost invariant = { λ s. (length s.objects.items < 2 ^ 32)
+        × (0 < length s.objects.items → IsSome s.length_key)
+        × IfSome s.length_key (λ key. key ≡ ready_key) };
 }
 
 impl FlatStore {
@@ -42,11 +49,24 @@ impl FlatStore {
         if self.objects.len() >= u32::MAX as usize {
             return Err(OutOfMemory);
         }
+        make_ready(self.alloc, &mut self.length_key)?;
         let mut object = FlatObject::new(self.alloc, None, PLAIN_MARKS, Slot::Plain);
         object.prevent();
         self.objects.push(object)?;
         Ok(())
     }
+}
+
+/// Makes the key `length`, where it is not there yet.
+fn make_ready(alloc: Global, ready: &mut Option<Key>) -> Result<(), OutOfMemory>
+    requires { IfSome ready.old (λ key. key ≡ length_key) }
+    ensures ok { OnOk result (ready.new ≡ Some length_key) }
+    ensures err { OnErr result (ready.new ≡ ready.old) }
+{
+    if ready.is_none() {
+        *ready = Some(length_key(alloc)?);
+    }
+    Ok(())
 }
 
 impl Store for FlatStore {
@@ -59,6 +79,7 @@ impl Store for FlatStore {
             alloc,
             party,
             objects: Vec::new(alloc),
+            length_key: None,
         }
     }
 
@@ -71,6 +92,7 @@ impl Store for FlatStore {
         if id >= u32::MAX as usize {
             return Err(OutOfMemory);
         }
+        make_ready(self.alloc, &mut self.length_key)?;
         let object = FlatObject::new(self.alloc, proto, marks, slot);
         self.objects.push(object)?;
         Ok(ObjId(id as u32))
@@ -100,12 +122,24 @@ impl Store for FlatStore {
         self.objects[id.0 as usize].apply(key, change)
     }
 
+    fn replace(&mut self, id: ObjId, key: Key, property: Descriptor) -> bool {
+        self.objects[id.0 as usize].replace(key, property)
+    }
+
     fn remove(&mut self, id: ObjId, key: &Key) {
         self.objects[id.0 as usize].remove(key);
     }
 
     fn keys(&self, alloc: Global, id: ObjId) -> Result<List<Key>, OutOfMemory> {
         self.objects[id.0 as usize].keys(alloc)
+    }
+
+    fn last_index(&self, id: ObjId) -> Option<u32> {
+        self.objects[id.0 as usize].last_index()
+    }
+
+    fn length_key(&self) -> &Key {
+        self.length_key.as_ref().unwrap()
     }
 
     fn extensible(&self, id: ObjId) -> bool {

@@ -1,9 +1,10 @@
 // The frozen common part.
 
-ghost use Rattle.std.specs.Prelude.{◌≡◌, ◌<◌, length, map, IfOk};
+ghost use Rattle.std.specs.Prelude.{◌≡◌, ◌<◌, length, map, IfOk, IfSome};
 ghost use Rattle.std.specs.Option.{option_map};
 ghost use Rattle.lava_base.specs.Ids.{same_made_symbol};
-ghost use Rattle.js_store.specs.Frozen.{IsFrozen, as_read, bare_objects, common_at, common_part, common_ref};
+ghost use Rattle.js_text.specs.Length.{length_key};
+ghost use Rattle.js_store.specs.Frozen.{IsFixed, IsFrozen, as_read, bare_objects, common_at, common_part, common_ref};
 ghost use Rattle.js_store.specs.Objects.{ordinary_get_own_property, ordinary_own_property_keys};
 ghost use Rattle.js_store.specs.Order.{IsInOrder};
 
@@ -75,9 +76,10 @@ impl FrozenStore {
     /// The own property of a key (ECMA-262, OrdinaryGetOwnProperty), with references of the reader.
     pub fn own(&self, id: CommonId, key: &Key) -> Option<&Descriptor>
         requires { id.0 < length self.now }
-        ensures { let found = option_map (λ d. d.now) result in
+        ensures own { let found = option_map (λ d. d.now) result in
             let o = common_at self.now id.0 in
             found ≡ ordinary_get_own_property same_made_symbol key.now o.properties }
+        ensures fixed { IfSome result (λ d. IsFixed d.now) }
     {
         self.store.own(ObjId(id.0), key)
     }
@@ -90,6 +92,14 @@ impl FrozenStore {
         ensures order { IsInOrder same_made_symbol (common_at self.now id.0).properties }
     {
         self.store.keys(alloc, ObjId(id.0))
+    }
+
+    /// The key `length`, ready to be looked up.
+    pub fn length_key(&self) -> &Key
+        requires { 0 < length self.now }
+        ensures { result.now ≡ length_key }
+    {
+        self.store.length_key()
     }
 
     /// Whether new properties may be made: never.

@@ -16,6 +16,7 @@ pub mod flat;
 pub mod foreign;
 pub mod frozen;
 pub mod laws;
+mod named;
 mod object;
 mod properties;
 pub mod slot;

@@ -1,9 +1,9 @@
 // One object of a flat store.
 
-ghost use Rattle.std.specs.Prelude.{◌≡◌, OnOk, OnErr, IfOk};
+ghost use Rattle.std.specs.Prelude.{◌≡◌, is_some, OnOk, OnErr, IfOk};
 ghost use Rattle.std.specs.Option.{option_map};
 ghost use Rattle.lava_base.specs.Ids.{same_made_symbol};
-ghost use Rattle.js_store.specs.Objects.{fresh, ordinary_get_own_property, ordinary_own_property_keys, with_prototype, with_change, without_property, not_extensible, with_slot};
+ghost use Rattle.js_store.specs.Objects.{fresh, ordinary_get_own_property, ordinary_own_property_keys, last_index, with_prototype, with_change, with_replaced, without_property, not_extensible, with_slot};
 ghost use Rattle.js_store.specs.Order.{IsInOrder};
 
 use crate::properties::Properties;
@@ -125,6 +125,23 @@ impl FlatObject {
             Change::Nothing => Ok(()),
             Change::Write(property) => self.properties.write(key, property),
         }
+    }
+
+    /// Puts another property in the place of that of a key, and tells whether there is one. It takes no memory.
+    pub(crate) fn replace(&mut self, key: Key, property: Descriptor) -> bool
+        ensures found { let ps = self.old.properties in
+            result ≡ is_some (ordinary_get_own_property same_made_symbol key ps) }
+        ensures object { self.new ≡ with_replaced same_made_symbol key property self.old }
+    {
+        self.properties.replace(key, property)
+    }
+
+    /// The last array index that has a property, if there is one.
+    pub(crate) fn last_index(&self) -> Option<u32>
+        ensures last { result ≡ last_index self.now.properties }
+        ensures order { IsInOrder same_made_symbol self.now.properties }
+    {
+        self.properties.last_index()
     }
 
     /// Takes the property of a key out, if there is one.

@@ -1,18 +1,14 @@
 // The own properties of an object, in the normal order.
 
-ghost use Rattle.std.specs.Prelude.{◌≡◌, ◌++◌, [], filter, OnOk, OnErr, IfOk};
-ghost use Rattle.std.specs.Map.{keys_of, remove_entry};
+ghost use Rattle.std.specs.Prelude.{◌≡◌, [], is_some, OnOk, OnErr, IfOk};
 ghost use Rattle.std.specs.Option.{option_map};
 ghost use Rattle.lava_base.specs.Ids.{same_made_symbol};
-ghost use Rattle.js_text.specs.Values.{same_key};
-ghost use Rattle.indexmap.specs.IndexMap.{insert_entry};
-ghost use Rattle.js_store.specs.Objects.{ordinary_get_own_property, ordinary_own_property_keys, written, without, is_symbol, is_text};
+ghost use Rattle.js_store.specs.Objects.{ordinary_get_own_property, ordinary_own_property_keys, last_index, replaced, written, without};
 ghost use Rattle.js_store.specs.Order.{IsInOrder};
 
 use crate::elements::Elements;
-use indexmap::IndexMap;
+use crate::named::NamedProperties;
 use js_desc::descriptor::Descriptor;
-use js_text::copy::copy_key;
 use js_text::value::Key;
 use lava_base::list::List;
 use lava_base::memory::OutOfMemory;
@@ -25,7 +21,7 @@ pub(crate) struct Properties {
     /// Those at array indices.
     elements: Elements,
     /// The others, in order of creation.
-    named: IndexMap<Key, Descriptor>,
+    named: NamedProperties,
 }
 
 impl Model for Properties {
@@ -38,9 +34,9 @@ impl Model for Properties {
 
     ghost Value = { List (Name MadeSymbol × Property Ref MadeSymbol) };
 
-    ghost view = { λ p. joined p.elements p.named.entries };
+    ghost view = { λ p. joined p.elements p.named };
 
-    ghost invariant = { λ p. IsNamed p.named.entries };
+    ghost invariant = { λ p. IsNamed p.named };
 }
 
 impl Properties {
@@ -50,7 +46,7 @@ impl Properties {
     {
         Properties {
             elements: Elements::new(alloc),
-            named: IndexMap::new(alloc),
+            named: NamedProperties::new(alloc),
         }
     }
 
@@ -62,7 +58,7 @@ impl Properties {
     {
         match key {
             Key::Index(index) => self.elements.get(*index),
-            _ => self.named.get(key),
+            _ => self.named.own(key),
         }
     }
 
@@ -75,7 +71,7 @@ impl Properties {
         if let Key::Index(index) = key {
             return self.elements.write(index, property);
         }
-        write_named(&mut self.named, key, property)
+        self.named.write(key, property)
     }
 
     /// Takes the property of a key out, if there is one.
@@ -85,8 +81,31 @@ impl Properties {
     {
         match key {
             Key::Index(index) => self.elements.remove(*index),
-            _ => remove_named(&mut self.named, key),
+            _ => self.named.remove(key),
         }
+    }
+
+    /// Puts another property in the place of that of a key, and tells whether there is one. It takes no memory.
+    #[tactic(auto, using(crate::proofs::Halves_laws::own_index, crate::proofs::Halves_laws::own_named, crate::proofs::Halves_laws::replaced_index, crate::proofs::Halves_laws::replaced_named, crate::proofs::Halves_laws::named_replaced))]
+    pub(crate) fn replace(&mut self, key: Key, property: Descriptor) -> bool
+        ensures found { let there = ordinary_get_own_property same_made_symbol key self.old in
+            result ≡ is_some there }
+        ensures properties { self.new ≡ replaced same_made_symbol key property self.old }
+    {
+        if let Key::Index(index) = key {
+            return self.elements.replace(index, property);
+        }
+        self.named.replace(key, property)
+    }
+
+    /// The last array index that has a property, if there is one.
+    #[tactic(auto, using(crate::proofs::Halves_laws::last_joined))]
+    pub(crate) fn last_index(&self) -> Option<u32>
+        ensures last { result ≡ last_index self.now }
+        ensures order { IsInOrder same_made_symbol self.now }
+    {
+        self.stand_in_order();
+        self.elements.last()
     }
 
     /// The keys: array indices ascending, then other texts, then symbols.
@@ -98,8 +117,8 @@ impl Properties {
         self.stand_in_order();
         let mut keys = List::new(alloc);
         self.elements.push_keys(&mut keys)?;
-        push_texts(&self.named, &mut keys)?;
-        push_symbols(&self.named, &mut keys)?;
+        self.named.push_keys(false, &mut keys)?;
+        self.named.push_keys(true, &mut keys)?;
         Ok(keys)
     }
 
@@ -109,52 +128,6 @@ impl Properties {
         ensures { IsInOrder same_made_symbol self.now }
     {
         self.elements.ascend();
-        self.named.len();
+        self.named.differ();
     }
-}
-
-/// Writes the property of a key that is no index.
-fn write_named(
-    named: &mut IndexMap<Key, Descriptor>,
-    key: Key,
-    property: Descriptor,
-) -> Result<(), OutOfMemory>
-    ensures ok { let same = same_key same_made_symbol in
-        OnOk result (named.new.entries ≡ insert_entry same named.old.entries key property) }
-    ensures err { OnErr result (named.new.entries ≡ named.old.entries) }
-{
-    named.insert(key, property)?;
-    Ok(())
-}
-
-/// Takes the property of a key that is no index out, if there is one.
-fn remove_named(named: &mut IndexMap<Key, Descriptor>, key: &Key)
-    ensures { let same = same_key same_made_symbol in
-        named.new.entries ≡ remove_entry (same key.now) named.old.entries }
-{
-    named.shift_remove(key);
-}
-
-/// Appends the keys that are no symbols.
-fn push_texts(named: &IndexMap<Key, Descriptor>, keys: &mut List<Key>) -> Result<(), OutOfMemory>
-    ensures { OnOk result (keys.new ≡ keys.old ++ filter is_text (keys_of named.now.entries)) }
-{
-    for key in named.keys() {
-        if !matches!(key, Key::Symbol(_)) {
-            keys.push(copy_key(key)?)?;
-        }
-    }
-    Ok(())
-}
-
-/// Appends the keys that are symbols.
-fn push_symbols(named: &IndexMap<Key, Descriptor>, keys: &mut List<Key>) -> Result<(), OutOfMemory>
-    ensures { OnOk result (keys.new ≡ keys.old ++ filter is_symbol (keys_of named.now.entries)) }
-{
-    for key in named.keys() {
-        if matches!(key, Key::Symbol(_)) {
-            keys.push(copy_key(key)?)?;
-        }
-    }
-    Ok(())
 }

@@ -1,11 +1,12 @@
 // What a store is: a list of objects, however it keeps them.
 
-ghost use Rattle.std.specs.Prelude.{◌≡◌, ◌+◌, ◌<◌, ◌++◌, ◌∷◌, [], List, length, IfOk, OnOk, OnErr, option_map};
+ghost use Rattle.std.specs.Prelude.{◌≡◌, ◌+◌, ◌<◌, ◌++◌, ◌∷◌, [], List, length, is_some, IfOk, OnOk, OnErr, option_map};
 ghost use Rattle.lava_base.specs.Ids.{same_made_symbol};
 ghost use Rattle.lava_base.specs.declared.ids.MadeSymbol.{MadeSymbol};
 ghost use Rattle.lava_base.specs.declared.ids.Ref.{Ref};
 ghost use Rattle.lava_base.specs.declared.ids.PartyId.{PartyId};
-ghost use Rattle.js_store.specs.Objects.{Object, fresh, object_at, at_place, ordinary_get_own_property, ordinary_own_property_keys, with_prototype, with_change, without_property, not_extensible, with_slot};
+ghost use Rattle.js_text.specs.Length.{length_key};
+ghost use Rattle.js_store.specs.Objects.{Object, fresh, object_at, at_place, ordinary_get_own_property, ordinary_own_property_keys, last_index, with_prototype, with_change, with_replaced, without_property, not_extensible, with_slot};
 ghost use Rattle.js_store.specs.Order.{IsInOrder};
 
 use crate::slot::Slot;
@@ -87,6 +88,15 @@ pub trait Store {
         ensures err { OnErr result (objects self.new ≡ objects self.old) }
         ensures party { owner self.new ≡ owner self.old };
 
+    /// Puts another property in the place of that of a key, which keeps its place, and tells whether there is one. It takes no memory.
+    fn replace(&mut self, id: ObjId, key: Key, property: Descriptor) -> bool
+        requires { id.0 < length (objects self.old) }
+        ensures found { let ps = (object_at (objects self.old) id.0).properties in
+            result ≡ is_some (ordinary_get_own_property same_made_symbol key ps) }
+        ensures objects { let after = with_replaced same_made_symbol key property in
+            objects self.new ≡ at_place (objects self.old) id.0 after }
+        ensures party { owner self.new ≡ owner self.old };
+
     /// Takes the property of a key out, if there is one.
     fn remove(&mut self, id: ObjId, key: &Key)
         requires { id.0 < length (objects self.old) }
@@ -100,6 +110,17 @@ pub trait Store {
         ensures keys { let o = object_at (objects self.now) id.0 in
             IfOk result (λ keys. keys ≡ ordinary_own_property_keys o.properties) }
         ensures order { IsInOrder same_made_symbol (object_at (objects self.now) id.0).properties };
+
+    /// The last array index that has a property, which is the greatest, if there is one.
+    fn last_index(&self, id: ObjId) -> Option<u32>
+        requires { id.0 < length (objects self.now) }
+        ensures last { result ≡ last_index (object_at (objects self.now) id.0).properties }
+        ensures order { IsInOrder same_made_symbol (object_at (objects self.now) id.0).properties };
+
+    /// The key `length`, ready to be looked up. A store has it from its first object on.
+    fn length_key(&self) -> &Key
+        requires { 0 < length (objects self.now) }
+        ensures { result.now ≡ length_key };
 
     /// Whether new properties may be made (ECMA-262, OrdinaryIsExtensible).
     fn extensible(&self, id: ObjId) -> bool

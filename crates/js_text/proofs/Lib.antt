@@ -2,6 +2,7 @@ pub mod Begun
 pub mod Decimals
 pub mod Encoded
 pub mod Keys
+pub mod Length_laws
 pub mod Moves
 pub mod NativeNames
 pub mod Orders

@@ -1,7 +1,9 @@
 pub mod CommonPaths
+pub mod Fingerprints
 pub mod Hashes
 pub mod Identities
 pub mod Indices
+pub mod Length
 pub mod Maps
 pub mod Naming
 pub mod Natives

@@ -4,7 +4,7 @@
 //   compared without copying what is long; `utf8` and `characters` read and write them as UTF-8.
 // - `value` has values, property keys and symbols; `same` tests whether two are the same (SameValue), `copy` gives one once more, and `hash`
 //   makes texts, symbols and keys keys of maps.
-// - `index` tells which texts are array indices, so that a key is an index, another text or a symbol.
+// - `index` tells which texts are array indices, so that a key is an index, another text or a symbol; `length` is the key of that name.
 // - `native` is the table of natives, `common` that of the paths of the common objects.
 // - `fault` says why a text cannot be made. Its limit is met exactly: `TooLong` comes where the text would pass it, and only there.
 //
@@ -16,8 +16,10 @@ mod characters;
 pub mod common;
 pub mod copy;
 pub mod fault;
+mod fingerprint;
 mod hash;
 pub mod index;
+pub mod length;
 pub mod native;
 mod rope;
 mod runs;

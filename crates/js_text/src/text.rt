@@ -7,6 +7,7 @@ ghost use Rattle.js_text.specs.Texts.{same_units, utf8_of, AddsPartOf};
 
 use crate::characters::{is_lead, is_trail, lone_character, pair_character, push_character};
 use crate::fault::TextFault;
+use crate::fingerprint::fingerprint_of;
 use crate::rope::{copied, joined, shared};
 use crate::runs::{count_before, even_runs};
 use lava_base::list::List;
@@ -33,8 +34,8 @@ pub struct Text {
 #[cycle(text)]
 #[derive(Drop)]
 pub(crate) enum Node {
-    /// Units of its own.
-    Whole(Vec<u16>),
+    /// Units of its own, with their fingerprint.
+    Whole { units: Vec<u16>, fingerprint: u32 },
     /// The units of a shared list from one place up to another.
     Part {
         units: Rc<Vec<u16>>,
@@ -88,7 +89,8 @@ pub(crate) fn text_of_vec(alloc: Global, units: Vec<u16>) -> Result<Text, OutOfM
 {
     let to = units.len() as u32;
     let node = if to <= FEW_UNITS {
-        Node::Whole(units)
+        let fingerprint = fingerprint_of(&units);
+        Node::Whole { units, fingerprint }
     } else {
         Node::Part {
             units: Rc::new(alloc, units)?,
@@ -108,7 +110,7 @@ impl Text {
         ensures within { result ≤ MAX_UNITS }
     {
         match &*self.node {
-            Node::Whole(units) => units.len() as u32,
+            Node::Whole { units, .. } => units.len() as u32,
             Node::Part { from, to, .. } => *to - *from,
             Node::Join { len, .. } => *len,
         }
@@ -130,7 +132,7 @@ impl Text {
         ensures within { at + length result.now ≤ length self.now }
     {
         match &*self.node {
-            Node::Whole(units) => &units[at as usize..],
+            Node::Whole { units, .. } => &units[at as usize..],
             Node::Part { units, from, to } => {
                 let (from, to) = (*from, *to);
                 &units[(from + at) as usize..to as usize]
@@ -182,7 +184,9 @@ impl Text {
         ensures test { result ≡ same_units self.now other.now }
         ensures equal { IsTrue result ↔ (self.now ≡ other.now) }
     {
-        self.len() == other.len() && self.has_at(0, other)
+        self.fingerprint() == other.fingerprint()
+            && self.len() == other.len()
+            && self.has_at(0, other)
     }
 
     /// Whether a part that is not too long for it stands at a place.
@@ -266,7 +270,7 @@ impl Text {
             return self.copy();
         }
         match &*self.node {
-            Node::Whole(units) => copied(alloc, units, from, to),
+            Node::Whole { units, .. } => copied(alloc, units, from, to),
             Node::Part {
                 units,
                 from: start,

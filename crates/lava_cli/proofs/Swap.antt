@@ -7,9 +7,8 @@ use Rattle.lava_base.specs.SameRefs.{same_ref_decides}
 use Rattle.lava_base.specs.SameSymbols.{same_made_symbol_decides}
 use Rattle.lava_base.specs.declared.ids.MadeSymbol.{MadeSymbol}
 use Rattle.lava_base.specs.declared.ids.Ref.{Ref}
-use Rattle.js_text.specs.Naming.{Own, Common, Foreign, origin_of, naming_of}
+use Rattle.js_text.specs.Naming.{IsAlike, Own, Common, Foreign, origin_of, naming_of}
 use Rattle.js_text.specs.Values.{IsSameness}
-use Rattle.lava_cli.specs.Identities.{IsAlike}
 
 module _ {X : Type 0} (same : X → X → Bool) (decides : IsSameness same) where
   -- the test of two, both ways

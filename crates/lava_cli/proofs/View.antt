@@ -8,13 +8,13 @@ use Rattle.lava_base.specs.SameSymbols.{same_made_symbol_decides}
 use Rattle.lava_base.specs.declared.ids.MadeSymbol.{MadeSymbol}
 use Rattle.lava_base.specs.declared.ids.Ref.{Ref}
 use Rattle.js_text.specs.Identities.{Identity, Of_object, Of_symbol}
-use Rattle.js_text.specs.Naming.{origin_of, naming_of}
+use Rattle.js_text.specs.Naming.{IsAlike, origin_of, naming_of}
 use Rattle.js_text.specs.Values.{IsSameness}
 use Rattle.lava_cli.specs.Asks.{CrossBody}
 use Rattle.lava_cli.specs.Party.{Party}
 use Rattle.lava_cli.specs.Journal.{received}
 use Rattle.lava_cli.specs.Heap.{heap}
-use Rattle.lava_cli.specs.Identities.{IsAlike, is_foreign, body_identities, party_identities}
+use Rattle.lava_cli.specs.Identities.{is_foreign, body_identities, party_identities}
 use Rattle.lava_cli.specs.View.{same_identity, is_in, add_new, came_to, AreNumbered, Each_has_its_view}
 use Rattle.lava_cli.proofs.Known.{from_other, number_of, of_other}
 use Rattle.lava_cli.proofs.Rename.{names_do_not_matter}

@@ -4,7 +4,7 @@ use Rattle.std.specs.Option.{option_map}
 use mathlib.Core.Equiv.{◌≃◌}
 use Rattle.lava_base.specs.declared.ids.MadeSymbol.{MadeSymbol}
 use Rattle.lava_base.specs.declared.ids.Ref.{Ref}
-use Rattle.js_text.specs.Naming.{Naming, Origin, Own, Common, Foreign, origin_of}
+use Rattle.js_text.specs.Naming.{IsAlike, Naming, Origin, Own, Common, Foreign, origin_of}
 use Rattle.js_text.specs.Identities.{Identity, Of_object, Of_symbol, key_identities, value_identities}
 use Rattle.js_text.specs.Maps.{map_symbol, map_key, map_value}
 use Rattle.js_text.specs.declared.value.Symbol.{Symbol}
@@ -70,15 +70,6 @@ seen r = record { sent = r.sent; steps = r.steps; standing = shows r.standing }
 -- what a run shows, with other references and symbols
 abbrev pub map_seen : {A B S T : Type 0} → (A → B) → (Symbol S → Symbol T) → Seen A S → Seen B T
 map_seen f g r = record { sent = map (map_body f g) r.sent; steps = r.steps; standing = r.standing }
-
--- two pairs of types tell the same: what is the same, where each object is from, and which are the own ones and those of the common part
-pub record IsAlike {A B S T : Type 0} (a : Naming A S) (b : Naming B T) (f : A → B) (g : S → T) : Type 0 where
-  pub same : (x y : A) → b.same (f x) (f y) ≡ a.same x y
-  pub origin : (x : A) → b.origin (f x) ≡ a.origin x
-  pub own : (i : ℕ) → b.own i ≡ f (a.own i)
-  pub common : (c : ℕ) → b.common c ≡ f (a.common c)
-  pub same_symbol : (x y : S) → b.same_symbol (g x) (g y) ≡ a.same_symbol x y
-  pub own_symbol : (i : ℕ) → b.own_symbol i ≡ g (a.own_symbol i)
 
 -- a party's run is the same whatever its references and made symbols are, if each object is from where it was
 abbrev pub Names_do_not_matter : Type 0 → Type 0 → Type 0 → Type 0 → Type 0

@@ -6,14 +6,14 @@ use Rattle.lava_base.specs.declared.ids.MadeSymbol.{MadeSymbol}
 use Rattle.lava_base.specs.declared.ids.Ref.{Ref}
 use Rattle.js_text.specs.Identities.{Identity, Of_object, Of_symbol, map_identity}
 use Rattle.js_text.specs.Maps.{map_symbol}
-use Rattle.js_text.specs.Naming.{naming_of}
+use Rattle.js_text.specs.Naming.{IsAlike, naming_of}
 use Rattle.lava_cli.specs.Asks.{CrossBody}
 use Rattle.lava_cli.specs.Party.{Party}
 use Rattle.lava_cli.specs.Local.{local}
 use Rattle.lava_cli.specs.Journal.{Application, received}
 use Rattle.lava_cli.specs.Heap.{World, heap}
 use Rattle.lava_cli.specs.Laws.{own_run}
-use Rattle.lava_cli.specs.Identities.{map_party, map_body, seen, map_seen, IsAlike, is_foreign, body_identities, party_identities}
+use Rattle.lava_cli.specs.Identities.{map_party, map_body, seen, map_seen, is_foreign, body_identities, party_identities}
 
 -- whether two are the same
 abbrev pub same_identity : Identity Ref MadeSymbol → Identity Ref MadeSymbol → Bool
