@@ -1,5 +1,5 @@
 -- The clauses of the reading, from what the course of the tokens means.
-use Rattle.std.proofs.Common.{◌≡◌, ℕ, ◌+◌, Bool, true, false, List, [], ◌∷◌, ◌++◌, Option, Some, None, ◌⊎◌, inl, inr, Result, Ok, Err, MatchResult, IfOk, IfErr, refl, sym, ap, subst, ◌∙◌, append_assoc}
+use Rattle.std.proofs.Common.{◌≡◌, ℕ, ◌+◌, List, [], ◌∷◌, ◌++◌, Option, Some, None, ◌⊎◌, inl, inr, Result, Ok, Err, MatchResult, IfOk, IfErr, refl, sym, ap, subst, ◌∙◌, append_assoc}
 use Rattle.std.proofs.lemmas.List.{append-nil}
 use Rattle.lava_base.specs.declared.place.Place.{Place}
 use Rattle.js_tree.specs.declared.fault.SyntaxFault.{SyntaxFault}
@@ -14,18 +14,18 @@ use Rattle.js_grammar.specs.declared.constituents.Repetition.TheVariants.{Many}
 use Rattle.js_grammar.specs.declared.constituents.Constituent.TheVariants.{Token as Taken_token, Optional}
 use Rattle.js_grammar.specs.Table
 use Rattle.js_grammar.specs.Fits.{table}
-use Rattle.js_grammar.specs.Flat.{Flat, flat_of, laid}
+use Rattle.js_grammar.specs.Flat.{Flat, flat_of}
 use Rattle.js_grammar.specs.Grammar.{Node, Leaf, Row, Nil, Then}
 use Rattle.js_grammar.specs.Inserted.{Choice, Nothing, Ending, DoEnding}
 use Rattle.js_grammar.specs.Inserted as inserted
 use Rattle.js_grammar.specs.Machine.{State, item, feeds}
-use Rattle.js_grammar.specs.Laws.{from, from_flat, semi, do_semi, whole_state, with_semicolons, Begins, Flatly, Good, Exact, Ends_whole, Kept, Kept_back, Begun, Refused, Same_read, Inserted_read, Read_inserted}
+use Rattle.js_grammar.specs.Laws.{from, semi, do_semi, whole_state, with_semicolons, Flatly, Good, Exact, Ends_whole, Kept, Kept_back, Begun, Refused, Same_read, Inserted_read, Read_inserted}
 use Rattle.js_lexer.specs.declared.token.Token.{Token}
-use Rattle.js_reader.specs.Steps.{start, end, lexeme_of, Course, Through, Stuck, source_course, Answers_course}
+use Rattle.js_reader.specs.Steps.{start, end, lexeme_of, Course, Through, Stuck, Answers_course}
 use Rattle.js_reader.specs.Reading.{lexemes, front, whole, events_of, HasPartialTree, IsTree, IsImpossible, IsUnexpected, HasReason, IsRefusal}
 use Rattle.js_reader.proofs.Steps_laws.{stepping, going, on, ahead, place_of}
 use Rattle.js_reader.proofs.Fronts_laws.{Is_taken, after_is, taken, front_begins}
-use Rattle.js_reader.proofs.Reading_laws.{Means, means}
+use Rattle.js_reader.proofs.Reading_laws.{Means}
 
 -- what is inserted stands before a token: the last one is last
 emptied : (xs : List Choice) → inserted.plain xs ≡ [] → xs ≡ []

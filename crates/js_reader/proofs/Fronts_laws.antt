@@ -176,7 +176,7 @@ module _ (kept : Kept) (back : Kept_back) where
   pub same_rule : (source : List ℕ) (at : ℕ) (t : Token) (r s : List Token) → rule_stands (lexeme_of source at t r) ≡ rule_stands (lexeme_of source at t s)
   same_rule source at t r s =
       closing_same t.after_line (terminal_of source t r) (terminal_of source t s) at
-        (sym (closing_plain (terminal_of source t r)) ∙ ap is_closing (plain_terminal source t r ∙ sym (plain_terminal source t s)) ∙ closing_plain (terminal_of source t s))
+      (sym (closing_plain (terminal_of source t r)) ∙ ap is_closing (plain_terminal source t r ∙ sym (plain_terminal source t s)) ∙ closing_plain (terminal_of source t s))
 
   module _ (good : Good) (exact : Exact) (begun : Begun) (refused : Refused) (same : Same_read) where
     -- the last of some tokens may stand before others

@@ -1,19 +1,18 @@
 -- What the program comes to, and which trees and impossible tokens a source has.
-use Rattle.std.proofs.Common.{◌≡◌, ℕ, ◌+◌, Bool, true, false, List, [], ◌∷◌, ◌++◌, Option, Some, None, ◌⊎◌, refl, sym, ap, subst, ◌∙◌, append_assoc}
+use Rattle.std.proofs.Common.{◌≡◌, ℕ, ◌+◌, List, [], ◌∷◌, ◌++◌, Option, Some, None, refl, sym, ap, subst, ◌∙◌, append_assoc}
 use Rattle.std.proofs.lemmas.List.{append-nil}
 use Rattle.lava_base.specs.declared.place.Place.{Place}
 use Rattle.js_grammar.specs.declared.lexeme.Lexeme.{Lexeme}
 use Rattle.js_grammar.specs.declared.symbols.Production.TheVariants as production
-use Rattle.js_grammar.specs.Fits.{table}
-use Rattle.js_grammar.specs.Flat.{Flat, flat_of, fed_in}
-use Rattle.js_grammar.specs.Grammar.{Tree, Node, Row}
+use Rattle.js_grammar.specs.Flat.{Flat, flat_of}
+use Rattle.js_grammar.specs.Grammar.{Node, Row}
 use Rattle.js_grammar.specs.Machine.{State}
-use Rattle.js_grammar.specs.Laws.{from, from_flat, so, whole_state, Flatly, Begins, Has, Good, Exact, Kept, Kept_back, Begun, Refused, Same_read, Inserted_read, Read_inserted}
+use Rattle.js_grammar.specs.Laws.{from, from_flat, so, whole_state, Flatly, Good, Exact, Kept, Kept_back, Begun, Refused, Same_read, Inserted_read}
 use Rattle.js_lexer.specs.declared.token.Token.{Token}
 use Rattle.js_reader.specs.Steps.{start, end, lexeme_of, stepped_in, Course, Through, Stuck, after_step, course, to_end, source_course}
-use Rattle.js_reader.specs.Reading.{lexemes, front, whole, HasPartialTree, IsTree, IsImpossible, IsUnexpected}
+use Rattle.js_reader.specs.Reading.{lexemes, front, whole, IsTree, IsUnexpected}
 use Rattle.js_reader.proofs.Steps_laws.{stepping, going, on, ahead, place_of, stepped, comes, Comes_to}
-use Rattle.js_reader.proofs.Fronts_laws.{after_is, joint, front_begins, front_ends, ahead_none}
+use Rattle.js_reader.proofs.Fronts_laws.{after_is, joint, front_begins, front_ends}
 
 -- the tokens up to one, that one, and those behind it
 parts_at : (source : List ℕ) (at : ℕ) (b : List Token) (t : Token) (r : List Token) → lexemes source at (b ++ t ∷ r) ≡ ahead source at b (t ∷ r) ++ lexeme_of source (place_of at b) t r ∷ lexemes source (place_of at b + 1) r

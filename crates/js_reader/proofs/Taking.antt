@@ -1,11 +1,11 @@
 -- A token that would be taken is taken, and another one has a semicolon before it.
-use Rattle.std.proofs.Common.{◌≡◌, Bool, true, false, cond, Option, Some, None, refl, sym, ◌∙◌, ap}
+use Rattle.std.proofs.Common.{◌≡◌, Bool, true, false, cond, Option, Some, None, refl, ◌∙◌}
 use Rattle.js_grammar.specs.declared.lexeme.Lexeme.{Lexeme}
 use Rattle.js_grammar.specs.Flat.{Flat, fed_in}
 use Rattle.js_grammar.specs.Laws.{Looks_ahead, is_some, semi, do_semi, rule_stands}
 use Rattle.js_grammar.specs.Moves.{Takes}
 use Rattle.js_grammar.specs.Would.{would}
-use Rattle.js_reader.specs.Steps.{paired_in, or_so, stepped_in}
+use Rattle.js_reader.specs.Steps.{paired_in, stepped_in}
 
 none_some : (o : Option Flat) → is_some o ≡ true → o ≡ None → ⊥
 none_some None h e = cc

@@ -15,8 +15,7 @@ use Rattle.js_lexer.specs.declared.token.TokenKind.{TokenKind}
 use Rattle.js_lexer.specs.declared.token.TokenKind.TheVariants as kind
 use Rattle.js_lexer.specs.declared.token.TemplatePart.{TemplatePart}
 use Rattle.js_lexer.specs.declared.token.TemplatePart.TheVariants as template
-use Rattle.js_reader.specs.Terminals
-use Rattle.js_reader.specs.Terminals.{is_key, is_dot, is_colon, is_ellipsis, before, before_of, text_of, is_proto, label_terminal, name_terminal, word_terminal, keyword_terminal, mark_terminal, punctuator_terminal, string_terminal, template_terminal, word_or_label, kind_terminal, terminal_of}
+use Rattle.js_reader.specs.Terminals.{is_key, is_dot, is_colon, is_ellipsis, before, before_of, text_of, is_proto, label_terminal, name_terminal, keyword_terminal, punctuator_terminal, template_terminal, kind_terminal, terminal_of}
 
 -- the same choice, whichever tokens stand behind the next one
 word_ahead : (k : Keyword) (u : Token) (r s : List Token) → keyword_terminal k (u ∷ r) ≡ keyword_terminal k (u ∷ s)

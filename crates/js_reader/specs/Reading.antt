@@ -3,7 +3,6 @@ use Rattle.std.specs.Prelude.{◌≡◌, ℕ, ◌+◌, List, [], ◌∷◌, ◌+
 use Rattle.lava_base.specs.declared.place.Place.{Place}
 use Rattle.js_tree.specs.declared.fault.SyntaxFault.{SyntaxFault}
 use Rattle.js_tree.specs.declared.fault.SyntaxFault.TheVariants as fault
-use Rattle.js_tree.specs.declared.fault.SyntaxWhat.{SyntaxWhat}
 use Rattle.js_tree.specs.declared.fault.SyntaxWhat.TheVariants as what
 use Rattle.js_grammar.specs.declared.lexeme.Lexeme.{Lexeme}
 use Rattle.js_grammar.specs.declared.event.Event.{Event}

@@ -1,5 +1,5 @@
 -- One token of a source after the other, with a semicolon before it where one is inserted, and what the reader comes to.
-use Rattle.std.specs.Prelude.{◌≡◌, ℕ, ◌+◌, Bool, true, false, cond, List, [], ◌∷◌, Option, Some, None, ◌⊎◌, Result, Ok, Err}
+use Rattle.std.specs.Prelude.{◌≡◌, ℕ, ◌+◌, false, cond, List, [], ◌∷◌, Option, Some, None, ◌⊎◌, Result, Ok, Err}
 use Rattle.lava_base.specs.declared.place.Place.{Place}
 use Rattle.js_grammar.specs.declared.lexeme.Lexeme.{Lexeme}
 use Rattle.js_grammar.specs.declared.symbols.Terminal.{Terminal}

@@ -1,4 +1,4 @@
-use Rattle.std.proofs.Common.{◌≡◌, ℕ, ◌+◌, length}
+use Rattle.std.proofs.Common.{◌≡◌, ◌+◌, length}
 use Rattle.js_reader.specs.Steps.{course}
 use Rattle.js_reader.proofs.reading.take_tokens.Given as goal
 
