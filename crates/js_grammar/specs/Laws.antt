@@ -9,7 +9,8 @@ use Rattle.js_grammar.specs.declared.constituents.Constituent.TheVariants.{Part}
 use Rattle.js_grammar.specs.declared.event.Event.{Event}
 use Rattle.js_grammar.specs.Grammar.{Tree, Node, Row, Nil, IsSpelled, HasPartial}
 use Rattle.js_grammar.specs.Machine.{State, item, feed, feeds}
-use Rattle.js_grammar.specs.Inserted.{HasTree, IsBegun, steps}
+use Rattle.js_grammar.specs.Inserted.{Choice, HasTree, IsBegun, Rightly, marked, steps}
+use Rattle.js_grammar.specs.Inserted as inserted
 use Rattle.js_grammar.specs.Levels.{LowPartial, Shallow}
 use Rattle.js_grammar.specs.Flat.{Shape, Flat, fed_flat, flat_of, shape_of, laid_out}
 use Rattle.js_grammar.specs.Would.{would}
@@ -139,3 +140,17 @@ Read_inserted = (ts : List Lexeme) (r : Row) → Steps ts (Some (whole_state r))
 -- tokens have one tree at most
 abbrev pub One_tree : Type 0
 One_tree = (ts : List Lexeme) (x y : Tree) → Has ts x → Has ts y → x ≡ y
+
+-- where semicolons are inserted rightly, and the tokens with them have a partial tree, they are what the reader has
+abbrev pub Is_right : List Lexeme → List Choice → Type 0
+Is_right ts xs = (inserted.plain xs ≡ ts) × Rightly grammar nonterminal.Module semi do_semi rule_stands [] xs
+
+abbrev pub with_semicolons : List Choice → List Lexeme
+with_semicolons xs = marked grammar nonterminal.Module semi do_semi rule_stands xs
+
+abbrev pub Same_read : Type 0
+Same_read = (ts : List Lexeme) (q : State) (xs : List Choice) → Steps ts (Some q) → Is_right ts xs → HasBeginning (with_semicolons xs) → Reads (with_semicolons xs) q
+
+-- what ends with the end of a source is a module that stands whole
+abbrev pub Ends_whole : Type 0
+Ends_whole = (ts : List Lexeme) (t : Lexeme) (q : State) → Reads (ts ++ t ∷ []) q → t.terminal ≡ terminal.End → (r : Row) × (q ≡ whole_state r)

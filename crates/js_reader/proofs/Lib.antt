@@ -1,0 +1,6 @@
+pub mod Terminals_laws
+pub mod Steps_laws
+pub mod Fronts_laws
+pub mod Taking
+pub mod Reading_laws
+pub mod Clauses_laws
