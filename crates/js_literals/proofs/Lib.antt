@@ -1,0 +1,3 @@
+pub mod Characters_laws
+pub mod Escapes_laws
+pub mod StringValues_laws
