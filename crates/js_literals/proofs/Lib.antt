@@ -1,3 +1,4 @@
 pub mod Characters_laws
 pub mod Escapes_laws
+pub mod Plain_laws
 pub mod StringValues_laws

@@ -1,3 +1,4 @@
 pub mod Answers
 pub mod Escapes
+pub mod Plain
 pub mod StringValues

@@ -11,5 +11,8 @@
 
 mod characters;
 mod escapes;
+pub mod names;
 mod pieces;
+mod plain;
 pub mod strings;
+mod units;

@@ -11,6 +11,7 @@ ghost use Rattle.js_literals.specs.declared.escapes.TheConstants.{PAST_CODE_POIN
 
 use crate::characters::Characters;
 use crate::pieces::{Delimiter, is_end, take_piece};
+use crate::plain::{ascii_text, plain_string, plain_template};
 use js_text::fault::TextFault;
 use js_text::text::{MAX_UNITS, Text, from_units};
 use js_text::utf8::from_utf8;
@@ -22,6 +23,22 @@ use std::alloc::Global;
 /// `NotUtf8` comes exactly where the bytes are not UTF-8. `TooLong` comes exactly where they are UTF-8 of a literal of more than `MAX_UNITS` units,
 /// or where the place that `NotUtf8` would tell is past 4,294,967,295.
 pub fn string_value(alloc: Global, literal: &[u8]) -> Result<Text, TextFault>
+    ensures utf8 { OnOk result (IsUtf8 literal.now) }
+    ensures value { IfOk result (λ text. text ≡ sv (chars literal.now)) }
+    ensures not_utf8 { (at : ℕ) → at < 2 ^ 32
+        → IsErrOf result (fault.NotUtf8 at) ↔ IsFault literal.now at }
+    ensures too_long { IsErrOf result TextFault.TooLong ↔ IsTooLongBy sv literal.now }
+    ensures memory { IsUtf8 literal.now → length (sv (chars literal.now)) ≤ MAX_UNITS
+        → IsOkUnless result TextFault.OutOfMemory }
+{
+    match plain_string(literal) {
+        Some(inside) => ascii_text(alloc, inside),
+        None => string_of_bytes(alloc, literal),
+    }
+}
+
+/// The same, a character after the other.
+fn string_of_bytes(alloc: Global, literal: &[u8]) -> Result<Text, TextFault>
     ensures utf8 { OnOk result (IsUtf8 literal.now) }
     ensures value { IfOk result (λ text. text ≡ sv (chars literal.now)) }
     ensures not_utf8 { (at : ℕ) → at < 2 ^ 32
@@ -67,6 +84,22 @@ fn string_of_str(alloc: Global, text: &str) -> Result<Text, TextFault>
 ///
 /// `NotUtf8` and `TooLong` come as for string literals.
 pub fn template_value(alloc: Global, part: &[u8]) -> Result<Text, TextFault>
+    ensures utf8 { OnOk result (IsUtf8 part.now) }
+    ensures value { IfOk result (λ text. text ≡ tv (chars part.now)) }
+    ensures not_utf8 { (at : ℕ) → at < 2 ^ 32
+        → IsErrOf result (fault.NotUtf8 at) ↔ IsFault part.now at }
+    ensures too_long { IsErrOf result TextFault.TooLong ↔ IsTooLongBy tv part.now }
+    ensures memory { IsUtf8 part.now → length (tv (chars part.now)) ≤ MAX_UNITS
+        → IsOkUnless result TextFault.OutOfMemory }
+{
+    match plain_template(part) {
+        Some(inside) => ascii_text(alloc, inside),
+        None => template_of_bytes(alloc, part),
+    }
+}
+
+/// The same, a character after the other.
+fn template_of_bytes(alloc: Global, part: &[u8]) -> Result<Text, TextFault>
     ensures utf8 { OnOk result (IsUtf8 part.now) }
     ensures value { IfOk result (λ text. text ≡ tv (chars part.now)) }
     ensures not_utf8 { (at : ℕ) → at < 2 ^ 32
@@ -183,6 +216,16 @@ fn push_unit(units: &mut Vec<u16>, unit: u16) -> Result<(), OutOfMemory>
 
 /// Whether a string literal has just this text, whose units are these bytes (ECMA-262, "Static Semantics: SV"). It takes no memory.
 pub fn is_string_value(literal: &[u8], text: &[u8]) -> bool
+    ensures { IsTrue result ↔ (IsUtf8 literal.now × (sv (chars literal.now) ≡ text.now)) }
+{
+    match plain_string(literal) {
+        Some(inside) => inside == text,
+        None => is_value_of_bytes(literal, text),
+    }
+}
+
+/// The same, a character after the other.
+fn is_value_of_bytes(literal: &[u8], text: &[u8]) -> bool
     ensures { IsTrue result ↔ (IsUtf8 literal.now × (sv (chars literal.now) ≡ text.now)) }
 {
     match str::from_utf8(literal) {
