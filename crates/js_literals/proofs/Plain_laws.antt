@@ -1,9 +1,10 @@
 -- What stands for itself is its own units.
-use Rattle.std.proofs.Common.{◌≡◌, ℕ, ◌<◌, Bool, true, false, List, [], ◌∷◌, ◌++◌, length, take, drop, cond, suc, ◌+◌, subst, Some, refl, sym, ap, ◌∙◌, arith, IsTrue, not}
+use Rattle.std.proofs.Common.{◌≡◌, ℕ, ◌<◌, Bool, true, false, List, [], ◌∷◌, ◌++◌, length, take, drop, get_or, cond, suc, ◌+◌, ◌-◌, ◌≤◌, length-drop, subst, Option, Some, None, OnSome, IfSome, refl, sym, ap, ◌∙◌, arith, IsTrue, not}
 use Rattle.std.specs.Prelude.{◌==◌, ◌&&◌, ◌||◌, nat_lt}
 use Rattle.std.specs.Char.Escape.{encode_utf16}
 use Rattle.std.specs.List.{prefix_len, list_all}
 use Rattle.std.specs.Str.{IsAscii, IsUtf8, chars}
+use Rattle.std.proofs.Math.Seq.{take-length}
 use Rattle.std.proofs.lemmas.Bool.{true≢false}
 use Rattle.std.proofs.lemmas.Bool.Decides.{nat_tests}
 use Rattle.std.proofs.lemmas.List.{take-append-drop}
@@ -104,14 +105,27 @@ module _ (d : Delimiter) (bytes : List ℕ) where
 
 -- with the first character in front
 
-pub first_ascii : (c : ℕ) (bytes : List ℕ) → c < 128 → IsAscii bytes → IsUtf8 (c ∷ bytes)
-first_ascii c bytes l h = IsUtf8-from_ascii (c ∷ bytes) (IsAscii-cons c bytes l h)
+pub behind_first : (bytes : List ℕ) → take (length bytes - 1) (drop 1 bytes) ≡ drop 1 bytes
+behind_first bytes = ap (λ n. take n (drop 1 bytes)) (sym (length-drop 1 bytes)) ∙ take-length (drop 1 bytes)
 
-pub string_plain : (c : ℕ) (bytes inside : List ℕ) → c < 128 → IsAscii bytes → value_behind (Quote c) 0 bytes ≡ inside → sv (chars (c ∷ bytes)) ≡ inside
-string_plain c bytes inside l h e = ap sv (chars-IsAscii (c ∷ bytes) (IsAscii-cons c bytes l h)) ∙ e
+pub first_ascii : {A : Type 0} (r : Option A) (bytes behind : List ℕ) → behind ≡ drop 1 bytes → 1 ≤ length bytes → get_or bytes 0 0 < 128 → OnSome r (IsAscii behind) → OnSome r (IsUtf8 bytes)
+first_ascii r [] behind b some l h = absurd (omega arith)
+first_ascii None (c ∷ cs) behind b some l h = tt
+first_ascii (Some x) (c ∷ cs) behind b some l h = IsUtf8-from_ascii (c ∷ cs) (IsAscii-cons c cs l (subst IsAscii b h))
 
-pub template_plain : (c : ℕ) (bytes inside : List ℕ) → c < 128 → IsAscii bytes → value_behind Template 0 bytes ≡ inside → tv (chars (c ∷ bytes)) ≡ inside
-template_plain c bytes inside l h e = ap tv (chars-IsAscii (c ∷ bytes) (IsAscii-cons c bytes l h)) ∙ e
+pub string_plain : {A : Type 0} (view : A → List ℕ) (r : Option A) (bytes behind : List ℕ) (quote : ℕ) → quote ≡ get_or bytes 0 0 → behind ≡ drop 1 bytes → 1 ≤ length bytes → get_or bytes 0 0 < 128
+    → OnSome r (IsAscii behind) → IfSome r (λ x. value_behind (Quote quote) 0 behind ≡ view x) → IfSome r (λ x. sv (chars bytes) ≡ view x)
+string_plain view r [] behind quote q b some l h e = absurd (omega arith)
+string_plain view None (c ∷ cs) behind quote q b some l h e = tt
+string_plain view (Some x) (c ∷ cs) behind quote q b some l h e =
+    ap sv (chars-IsAscii (c ∷ cs) (IsAscii-cons c cs l (subst IsAscii b h))) ∙ ap (λ p. value_behind (Quote p) 0 cs) (sym q) ∙ ap (value_behind (Quote quote) 0) (sym b) ∙ e
+
+pub template_plain : {A : Type 0} (view : A → List ℕ) (r : Option A) (bytes behind : List ℕ) → behind ≡ drop 1 bytes → 1 ≤ length bytes → get_or bytes 0 0 < 128 → OnSome r (IsAscii behind)
+    → IfSome r (λ x. value_behind Template 0 behind ≡ view x) → IfSome r (λ x. tv (chars bytes) ≡ view x)
+template_plain view r [] behind b some l h e = absurd (omega arith)
+template_plain view None (c ∷ cs) behind b some l h e = tt
+template_plain view (Some x) (c ∷ cs) behind b some l h e =
+    ap tv (chars-IsAscii (c ∷ cs) (IsAscii-cons c cs l (subst IsAscii b h))) ∙ ap (value_behind Template 0) (sym b) ∙ e
 
 -- the units of ASCII
 pub ascii_units : (bytes : List ℕ) → IsAscii bytes → utf16_of (chars bytes) ≡ bytes
@@ -120,3 +134,6 @@ ascii_units bytes h = ap utf16_of (chars-IsAscii bytes h) ∙ all_units bytes (�
     all_units : (xs : List ℕ) → IsAscii xs → utf16_of xs ≡ xs
     all_units [] k = refl
     all_units (x ∷ xs) k = ap (λ l. l ++ utf16_of xs) (ascii_unit x (grind (arith, nat_tests, k 0))) ∙ ap (λ l. x ∷ l) (all_units xs (IsAscii-drop (x ∷ xs) 1 k))
+
+pub quote_ends : (quote : ℕ) → is_end (Quote quote) (quote ∷ []) ≡ true
+quote_ends quote = grind (arith, nat_tests)

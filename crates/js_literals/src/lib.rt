@@ -11,7 +11,9 @@
 
 mod characters;
 mod escapes;
+pub mod laws;
 pub mod names;
+pub mod numbers;
 mod pieces;
 mod plain;
 pub mod strings;
