@@ -1,6 +1,6 @@
 -- The answer to bytes that are UTF-8.
-use Rattle.std.proofs.Common.{◌≡◌, ◌↔◌, ℕ, ◌<◌, ◌≤◌, List, length, Result, Ok, Err, sym, ap, subst, ◌∙◌, arith}
-use Rattle.std.proofs.Math.Logic.{inl, inr, ⊎_elim}
+use Rattle.std.proofs.Common.{◌≡◌, ◌↔◌, ℕ, ◌<◌, ◌≤◌, List, length, Result, Ok, Err, sym, subst, ◌∙◌}
+use Rattle.std.proofs.Math.Logic.{inl, ⊎_elim}
 use Rattle.std.proofs.str.Laws.{order}
 use Rattle.std.specs.Prelude.{IsErrOf, IsOkUnless, OnOk}
 use Rattle.std.specs.Str.{IsAscii, IsUtf8, chars}

@@ -1,6 +1,6 @@
 -- What the next hexadecimal digit does to a number, and how far digits go.
-use Rattle.std.proofs.Common.{◌≡◌, ℕ, zero, suc, if◌then◌else◌, ◌+◌, ◌-◌, ◌*◌, ◌<◌, ◌≤◌, Bool, true, false, List, [], ◌∷◌, length, drop, min, refl, sym, ap, ◌∙◌, arith}
-use Rattle.std.proofs.Math.Logic.{◌⊎◌, inl, inr, ⊎_elim}
+use Rattle.std.proofs.Common.{◌≡◌, ℕ, zero, suc, if◌then◌else◌, ◌+◌, ◌-◌, ◌*◌, ◌<◌, ◌≤◌, true, false, List, [], ◌∷◌, length, drop, min, refl, sym, ap, ◌∙◌, arith}
+use Rattle.std.proofs.Math.Logic.{⊎_elim}
 use Rattle.std.proofs.str.Laws.{order}
 use Rattle.js_lexer.specs.Characters.{is_hex_digit, hex_value}
 use Rattle.js_lexer.specs.Grammar.{hex_from}

@@ -1,5 +1,5 @@
 -- A numeric literal is a text of a number that begins with a digit or a point and ends with no white space.
-use Rattle.std.proofs.Common.{◌≡◌, ℕ, zero, suc, ◌+◌, ◌-◌, ◌*◌, ◌<◌, ◌≤◌, Bool, true, false, List, [], ◌∷◌, ◌++◌, length, get_or, refl, ap, sym, subst, ◌∙◌, arith, ℤ, pos, ◌^◌, Some, inl, inr, append-nil, length-append}
+use Rattle.std.proofs.Common.{◌≡◌, ℕ, zero, suc, ◌+◌, ◌-◌, ◌<◌, ◌≤◌, Bool, true, false, List, [], ◌∷◌, ◌++◌, length, get_or, refl, ap, sym, subst, ◌∙◌, arith, ℤ, pos, ◌^◌, Some, inl, inr, append-nil, length-append}
 use Rattle.std.proofs.Math.Seq.{get_or-append_right}
 use Rattle.std.proofs.lemmas.Bool.{true≢false}
 use Rattle.std.proofs.lemmas.Bool.Decides.{nat_tests}
@@ -8,9 +8,9 @@ use Rattle.std.specs.Char.{digit_value}
 use Rattle.std.specs.List.{AllPass}
 use Rattle.std.specs.Str.Parse.{AllDigits, IsNumeral, digits_value}
 use Rattle.js_lexer.specs.Rules.{begins_with}
-use Rattle.js_num.specs.Numerals.{Sign, Unsigned, Plus, Minus, sign_text, Fraction, NoPoint, Point, fraction_digits, fraction_text, Exponent, NoExponent, Lower, Upper, exponent_text, HasExponentDigits, Decimal, IsDecimal, decimal_text, radix_of, parts_of, HasValue}
+use Rattle.js_num.specs.Numerals.{Sign, Unsigned, Plus, Minus, sign_text, Fraction, NoPoint, Point, fraction_digits, fraction_text, Exponent, NoExponent, Lower, Upper, exponent_text, HasExponentDigits, Decimal, IsDecimal, decimal_text, radix_of}
 use Rattle.js_num.specs.SafeRange.{NoSafe}
-use Rattle.js_num.specs.StringToNumber.{IsDecimalOf, IsRadixOf, IsLiteralOf, IsNumberOf}
+use Rattle.js_num.specs.StringToNumber.{IsLiteralOf, IsNumberOf}
 use Rattle.js_num.specs.White.{is_white}
 use Rattle.js_num.proofs.Literals.{mark_read}
 use Rattle.js_num.proofs.OneNumber.{one_number_of, its_text}
@@ -19,7 +19,7 @@ use Rattle.std.proofs.lemmas.Fmt.{digits_decimal, decimal_nonempty}
 use Rattle.std.proofs.lemmas.Int.{ints}
 use Rattle.std.proofs.lemmas.Str.Parse.{IsNumeralModel, numerals_by_value, tells_digits}
 use Rattle.std.specs.Fmt.{decimal}
-use Rattle.js_literals.specs.NumericValues.{IsDecimalMv, IsMv, may_begin, is_visible, is_enclosed}
+use Rattle.js_literals.specs.NumericValues.{IsMv, may_begin, is_visible, is_enclosed}
 
 both : (a b : Bool) → (a && b) ≡ true → (a ≡ true) × (b ≡ true)
 both true true h = (refl, refl)
@@ -139,14 +139,14 @@ enclosed_so (c ∷ cs) b s = rw (b, seen_at (c ∷ cs) (length (c ∷ cs) - 1) s
 enclosed_decimal : (d : Decimal) → IsDecimal d → d.sign ≡ Unsigned → is_enclosed (decimal_text d) ≡ true
 enclosed_decimal d h u = enclosed_so (decimal_text d)
     (subst (λ s. begins_with may_begin (sign_text s ++ (d.integer ++ (fraction_text d.fraction ++ exponent_text d.exponent))) ≡ true) (sym u)
-        (begins_so d.integer d.fraction (exponent_text d.exponent) h.integer h.some_digit))
+    (begins_so d.integer d.fraction (exponent_text d.exponent) h.integer h.some_digit))
     (seen_decimal d h)
 
 enclosed_radix : (mark radix : ℕ) (digits : List ℕ) → radix_of mark ≡ Some radix → AllDigits radix digits → is_enclosed (48 ∷ mark ∷ digits) ≡ true
 enclosed_radix mark radix digits r h =
     let read = mark_read mark radix r in
     enclosed_so (48 ∷ mark ∷ digits) refl
-        (refl, (visible mark (omega (arith, read.letter_low)) (omega (arith, read.letter_high)), seen_digits digits radix read.high h))
+    (refl, (visible mark (omega (arith, read.letter_low)) (omega (arith, read.letter_high)), seen_digits digits radix read.high h))
 
 pub enclosed_mv : (text : List ℕ) (v : ℤ) → IsMv text v → is_enclosed text ≡ true
 enclosed_mv text v (inl d) = rw d.3 (enclosed_decimal d.0 d.1 d.2)

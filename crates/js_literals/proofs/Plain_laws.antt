@@ -1,5 +1,5 @@
 -- What stands for itself is its own units.
-use Rattle.std.proofs.Common.{◌≡◌, ℕ, ◌<◌, Bool, true, false, List, [], ◌∷◌, ◌++◌, length, take, drop, get_or, cond, suc, ◌+◌, ◌-◌, ◌≤◌, length-drop, subst, Option, Some, None, OnSome, IfSome, refl, sym, ap, ◌∙◌, arith, IsTrue, not}
+use Rattle.std.proofs.Common.{◌≡◌, ℕ, ◌<◌, Bool, true, false, List, [], ◌∷◌, ◌++◌, length, take, drop, get_or, cond, suc, ◌+◌, ◌-◌, ◌≤◌, length-drop, subst, Option, Some, None, OnSome, IfSome, refl, sym, ap, ◌∙◌, arith, not}
 use Rattle.std.specs.Prelude.{◌==◌, ◌&&◌, ◌||◌, nat_lt}
 use Rattle.std.specs.Char.Escape.{encode_utf16}
 use Rattle.std.specs.List.{prefix_len, list_all}

@@ -1,5 +1,5 @@
 -- What one piece more adds to the value of a text.
-use Rattle.std.proofs.Common.{◌≡◌, ℕ, zero, suc, ◌↔◌, ◌+◌, ◌-◌, ◌<◌, ◌≤◌, Bool, true, false, List, [], ◌∷◌, ◌++◌, length, drop, min, refl, sym, ap, ◌∙◌, arith, length-append, length-drop, append-nil}
+use Rattle.std.proofs.Common.{◌≡◌, ℕ, zero, suc, ◌↔◌, ◌+◌, ◌<◌, ◌≤◌, true, false, List, [], ◌∷◌, ◌++◌, length, drop, min, refl, sym, ap, ◌∙◌, arith, length-append, length-drop, append-nil}
 use Rattle.std.proofs.lemmas.List.{append_assoc}
 use Rattle.std.proofs.lemmas.Bool.{true≢false}
 use Rattle.js_literals.specs.StringValues.{front_piece, is_end, units_of_code, value_behind}
@@ -41,9 +41,15 @@ pub length_step : (d : Delimiter) (cs rest total : List ℕ) (len more new most 
     → min (len + length (value_behind d 0 cs)) most ≡ min (length total) most
     → min (new + length (value_behind d 0 rest)) most ≡ min (length total) most
 length_step d cs rest total len more new most h e m n i =
-    omega (arith, m, n, i, ap length (value_step d cs h),
+    omega (
+      arith,
+      m,
+      n,
+      i,
+      ap length (value_step d cs h),
       length-append (units_of_code (front_piece d cs).code) (value_behind d 0 (drop (front_piece d cs).taken (drop 1 cs))),
-      ap (λ l. length (value_behind d 0 l)) e)
+      ap (λ l. length (value_behind d 0 l)) e,
+    )
 
 tail_same : (x : ℕ) (a b : List ℕ) → x ∷ a ≡ x ∷ b → a ≡ b
 tail_same x a b e = cc

@@ -49,7 +49,7 @@ value_behind delimiter (suc passed) (c ∷ cs) = value_behind delimiter passed c
 value_behind delimiter zero (c ∷ cs) =
     if is_end delimiter (c ∷ cs) then []
     else units_of_code (front_piece delimiter (c ∷ cs)).code
-        ++ value_behind delimiter (front_piece delimiter (c ∷ cs)).taken cs
+    ++ value_behind delimiter (front_piece delimiter (c ∷ cs)).taken cs
 
 -- the text of a string literal, from its quote on
 -- own: what is no literal ends with the first such quote, or else with its last character

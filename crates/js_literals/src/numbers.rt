@@ -5,7 +5,7 @@ ghost use Rattle.lava_base.specs.SafeIntegers.{IsSafe};
 ghost use Rattle.js_num.specs.SafeRange.{NoSafe};
 ghost use Rattle.js_literals.specs.NumericValues.{IsMv, may_begin, is_visible, is_enclosed};
 
-use crate::units::write_units;
+use crate::units::{byte_units, write_units};
 use js_num::safe::Safe;
 use lava_base::memory::OutOfMemory;
 use std::alloc::Global;
@@ -27,8 +27,7 @@ pub fn numeric_value(alloc: Global, literal: &[u8]) -> Result<Option<Safe>, OutO
     if literal.len() <= SHORT {
         return Ok(short_value(literal));
     }
-    let mut units = Vec::from_elem(alloc, 0, literal.len())?;
-    write_units(literal, &mut units);
+    let units = byte_units(alloc, literal)?;
     Ok(value_of_units(&units))
 }
 

@@ -1,4 +1,4 @@
-use Rattle.std.proofs.Common.{◌≡◌, ◌∷◌, ◌∙◌, ap, drop, sym}
+use Rattle.std.proofs.Common.{◌∙◌, ap, drop, sym}
 use Rattle.js_literals.specs.Escapes.{escape_sequence}
 use Rattle.js_literals.proofs.Characters_laws.{front_taken}
 use Rattle.js_literals.proofs.escapes.escape_sequence.Goals as goal

@@ -1,4 +1,4 @@
-use Rattle.std.proofs.Common.{rules, ◌≡◌, ◌∷◌, ◌<◌, ◌≤◌, ◌∙◌, true, false, [], drop, sym, ap, arith}
+use Rattle.std.proofs.Common.{rules, ◌≡◌, ◌∷◌, ◌<◌, ◌∙◌, true, false, drop, sym, ap, arith}
 use Rattle.js_lexer.specs.Characters.{is_hex_digit}
 use Rattle.js_literals.specs.Escapes.{hex_digits}
 use Rattle.js_literals.specs.declared.escapes.TheConstants.{PAST_CODE_POINTS}
@@ -20,11 +20,11 @@ loop-digit-preserved c =
 
 pub returns-then-left-eq0-clause-number : goal.returns-then-left-eq0-clause-number
 returns-then-left-eq0-clause-number c = elim c.then-left-eq0.branch [
-    then-left-eq0-via-then-left-eq0 w ↦
+  | then-left-eq0-via-then-left-eq0 w ↦
       let none : c.loop-digit.left ≡ 0 = omega arith in
       number_stop c.loop-digit.number c.loop-digit.left PAST_CODE_POINTS c.loop-digit.rest _ (ap (λ n. hex_digits n c.loop-digit.rest) none) c.loop-digit.invariant.within c.loop-digit.invariant.number
   | then-left-eq0-via-else-left-eq0+then-not-is_ascii_hexdigit w ↦
       let other : is_hex_digit c.in-Some.digit ≡ false = search rules in
       let e : c.loop-digit.rest ≡ c.in-Some.digit ∷ drop 1 c.loop-digit.rest = front c.loop-digit.rest c.in-Some.digit (cc) in
       number_stop c.loop-digit.number c.loop-digit.left PAST_CODE_POINTS c.loop-digit.rest _ (ap (λ l. hex_digits c.loop-digit.left l) e ∙ digits_none c.loop-digit.left c.in-Some.digit (drop 1 c.loop-digit.rest) other) c.loop-digit.invariant.within c.loop-digit.invariant.number
-  ]
+]

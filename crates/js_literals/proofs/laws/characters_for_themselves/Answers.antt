@@ -1,5 +1,4 @@
-use Rattle.std.proofs.Common.{◌≡◌, ◌∷◌, [], true, refl}
-use Rattle.js_literals.specs.StringValues.{is_end}
+use Rattle.std.proofs.Common.{◌∷◌, []}
 use Rattle.js_literals.specs.declared.pieces.Delimiter.TheVariants as delimiters
 use Rattle.js_literals.proofs.Plain_laws.{itself_value, quote_ends}
 use Rattle.js_literals.proofs.laws.characters_for_themselves.Goals as goal

@@ -7,7 +7,7 @@ use Rattle.js_literals.proofs.numbers.numeric_value.Goals as goal
 
 pub returns-then-not-is_enclosed-clause-none : goal.returns-then-not-is_enclosed-clause-none
 returns-then-not-is_enclosed-clause-none c =
-    let open_ : is_enclosed c.args.literal.now ≡ false = search rules in not_enclosed c.args.literal.now open_
+    let other : is_enclosed c.args.literal.now ≡ false = search rules in not_enclosed c.args.literal.now other
 
 pub returns-clause-none : goal.returns-clause-none
 returns-clause-none c =

@@ -1,4 +1,4 @@
-use Rattle.std.proofs.Common.{arith, get_or}
+use Rattle.std.proofs.Common.{arith}
 use Rattle.js_literals.proofs.Plain_laws.{behind_first, first_ascii, string_plain}
 use Rattle.js_literals.proofs.plain.plain_string.Goals as goal
 

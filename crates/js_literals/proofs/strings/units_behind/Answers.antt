@@ -7,4 +7,4 @@ pub loop-rest-preserved : goal.loop-rest-preserved
 loop-rest-preserved c =
     let going : is_end c.args.delimiter c.loop-rest.rest ≡ false = search rules in
     units_step c.args.delimiter c.loop-rest.rest c.take_piece-code.new.rest c.loop-rest.units.items c.push_code.new.units.items (value_behind c.args.delimiter 0 c.args.start.now)
-        going c.take_piece-code.ensures.rest (c.in_ok-push_code.ensures ∙ ap (λ x. c.loop-rest.units.items ++ units_of_code x) c.take_piece-code.ensures.code) c.loop-rest.invariant
+    going c.take_piece-code.ensures.rest (c.in_ok-push_code.ensures ∙ ap (λ x. c.loop-rest.units.items ++ units_of_code x) c.take_piece-code.ensures.code) c.loop-rest.invariant
