@@ -1,10 +1,13 @@
 -- What the next hexadecimal digit does to a number, and how far digits go.
-use Rattle.std.proofs.Common.{◌≡◌, ℕ, zero, suc, if◌then◌else◌, ◌+◌, ◌-◌, ◌*◌, ◌<◌, ◌≤◌, true, false, List, [], ◌∷◌, length, drop, min, refl, sym, ap, ◌∙◌, arith}
+use Rattle.std.proofs.Common.{map, not, Bool, true, false, ◌≡◌, ℕ, zero, suc, if◌then◌else◌, ◌+◌, ◌-◌, ◌*◌, ◌<◌, ◌≤◌, List, [], ◌∷◌, length, drop, min, refl, sym, ap, ◌∙◌, arith}
 use Rattle.std.proofs.Math.Logic.{⊎_elim}
+use Rattle.std.proofs.lemmas.Bool.{true≢false}
 use Rattle.std.proofs.str.Laws.{order}
+use Rattle.std.specs.List.{list_all}
+use Rattle.std.specs.Prelude.{◌==◌, ◌&&◌}
 use Rattle.js_lexer.specs.Characters.{is_hex_digit, hex_value}
 use Rattle.js_lexer.specs.Grammar.{hex_from}
-use Rattle.js_literals.specs.Escapes.{hex_digits}
+use Rattle.js_literals.specs.Escapes.{escaped_by, hex_digits}
 
 hex_from_ge : (v : ℕ) (cs : List ℕ) → v ≤ hex_from v cs
 hex_from_ge v [] = omega arith
@@ -53,3 +56,19 @@ pub number_stop : (number left most : ℕ) (cs : List ℕ) (total : ℕ) → hex
 number_stop number left most cs total e w i =
     let whole : number ≡ min number most = omega arith in
     whole ∙ sym (ap (λ l. min (hex_from number l) most) e) ∙ i
+
+not_true : (b : Bool) → not b ≡ true → b ≡ false
+not_true false h = refl
+not_true true h = absurd (true≢false (sym h))
+
+both : (a b : Bool) → (a && b) ≡ true → (a ≡ true) × (b ≡ true)
+both true true h = (refl, refl)
+both true false h = absurd (true≢false (sym h))
+both false b h = absurd (true≢false (sym h))
+
+-- what stands in no row stands for itself
+pub escaped_other : (rows : List (ℕ × ℕ)) (c : ℕ) → list_all (λ e. not (e == c)) (map (λ row. row.0) rows) ≡ true → escaped_by rows c ≡ c
+escaped_other [] c h = refl
+escaped_other (row ∷ rows) c h =
+    let parts = both (not (row.0 == c)) (list_all (λ e. not (e == c)) (map (λ r. r.0) rows)) h in
+    rw (not_true (row.0 == c) parts.0) (escaped_other rows c parts.1)
