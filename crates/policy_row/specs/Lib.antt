@@ -1,0 +1,4 @@
+pub mod Merging
+pub mod Names
+pub mod Rows
+pub mod Texts

@@ -1,0 +1,76 @@
+-- Rows by package, and what keeps them in order.
+use Rattle.std.specs.Prelude.{ℕ, Bool, true, false, not, ◌&&◌, ◌||◌, List, [], ◌∷◌, Option, Some, None, codes, bytes_eq}
+use Rattle.std.specs.BTreeMap.{insert_entry, is_at}
+use Rattle.std.specs.Cmp.Lexicographic.{slice_cmp}
+use Rattle.std.specs.List.{list_all}
+use Rattle.std.specs.Map.{lookup}
+use Rattle.std.specs.Ordering.{nat_cmp, is_lt}
+use Rattle.std.specs.declared.cmp.Ordering.{Ordering}
+use Rattle.policy_row.specs.declared.grade.Grade.{Grade}
+use Rattle.policy_row.specs.declared.grade.Grade.TheVariants.{No, Yes, Write}
+use Rattle.policy_row.specs.declared.row.Row.{Row}
+
+-- the entries of one kind by name
+abbrev pub Entries : Type 0
+Entries = List (List ℕ × Grade)
+
+-- the rows by the canonical names of their packages
+abbrev pub Rows : Type 0
+Rows = List (List ℕ × Row)
+
+-- byte order
+abbrev pub order_of_names : List ℕ → List ℕ → Ordering
+order_of_names = slice_cmp nat_cmp
+
+-- what stands at a name
+abbrev pub at_name : {X : Type 0} → List ℕ → List (List ℕ × X) → Option X
+at_name name es = lookup (is_at (order_of_names name)) es
+
+-- the same entries with this one at its name: an entry that stands there goes
+abbrev pub with_entry : {X : Type 0} → List (List ℕ × X) → List ℕ → X → List (List ℕ × X)
+with_entry es name x = insert_entry order_of_names es name x
+
+-- true and "write" grant
+-- LavaMoat policy
+abbrev pub is_granting : Grade → Bool
+is_granting No = false
+is_granting Yes = true
+is_granting Write = true
+
+abbrev pub is_write : Grade → Bool
+is_write No = false
+is_write Yes = false
+is_write Write = true
+
+-- own: an entry that is absent denies
+abbrev pub is_granted : Option Grade → Bool
+is_granted None = false
+is_granted (Some grade) = is_granting grade
+
+-- own: byte order without repeats
+abbrev pub is_in_order : {X : Type 0} → List (List ℕ × X) → Bool
+is_in_order [] = true
+is_in_order (e ∷ es) = list_all (λ f. is_lt (order_of_names e.0 f.0)) es && is_in_order es
+
+-- own: writing is granted of globals alone
+abbrev pub has_no_write : Entries → Bool
+has_no_write es = list_all (λ e. not (is_write e.1)) es
+
+-- own: what is kept of each row
+abbrev pub is_kept : Row → Bool
+is_kept row = (is_in_order row.globals && is_in_order row.builtin && is_in_order row.packages) && (has_no_write row.builtin && has_no_write row.packages)
+
+-- the name of the application's own package
+-- LavaMoat policy
+abbrev pub root_name : List ℕ
+root_name = codes "$root$"
+
+-- whether a row grants a package
+abbrev pub row_grants : List ℕ → Option Row → Bool
+row_grants linked None = false
+row_grants linked (Some row) = is_granted (at_name linked row.packages)
+
+-- the application's own package has everything; another what its row grants
+-- LavaMoat policy
+abbrev pub may_reach : Rows → List ℕ → List ℕ → Bool
+may_reach rows name linked = bytes_eq name root_name || row_grants linked (at_name name rows)

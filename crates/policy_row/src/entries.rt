@@ -1,0 +1,86 @@
+// Entries by name, as a map while they are put together and as a list in byte order.
+
+ghost use Rattle.std.specs.Prelude.{◌≡◌, ◌&&◌, [], IfOk, OnOk, IsTrue, string_bytes};
+ghost use Rattle.policy_row.specs.Merging.{merged_entries};
+ghost use Rattle.policy_row.specs.Rows.{with_entry, is_in_order};
+ghost use Rattle.policy_row.specs.Texts.{by_bytes};
+
+use crate::grade::Grade;
+use lava_base::list::List;
+use lava_base::memory::OutOfMemory;
+use lava_base::name::Name;
+use std::alloc::Global;
+use std::collections::BTreeMap;
+
+/// The same entries once more.
+pub(crate) fn copy_entries(
+    alloc: Global,
+    entries: &List<(Name, Grade)>,
+) -> Result<List<(Name, Grade)>, OutOfMemory>
+    ensures { IfOk result (λ copy. copy ≡ entries.now) }
+{
+    let mut copies = List::new(alloc);
+    for (name, grade) in entries.as_slice() {
+        copies.push((name.copy()?, *grade))?;
+    }
+    Ok(copies)
+}
+
+/// The override's entries over those of the policy.
+pub(crate) fn merge_entries(
+    alloc: Global,
+    under: &List<(Name, Grade)>,
+    over: &List<(Name, Grade)>,
+) -> Result<List<(Name, Grade)>, OutOfMemory>
+    requires { IsTrue (is_in_order under.now) }
+    ensures merged { IfOk result (λ es. es ≡ merged_entries under.now over.now) }
+    ensures in_order { IfOk result (λ es. IsTrue (is_in_order es)) }
+{
+    let mut map = BTreeMap::new(alloc);
+    put_entries(alloc, &mut map, under)?;
+    put_entries(alloc, &mut map, over)?;
+    list_of(alloc, &map)
+}
+
+/// Puts each entry at its name.
+fn put_entries(
+    alloc: Global,
+    map: &mut BTreeMap<String, Grade>,
+    entries: &List<(Name, Grade)>,
+) -> Result<(), OutOfMemory>
+    ensures { let old = by_bytes map.old.entries in let new = by_bytes map.new.entries in
+        OnOk result (new ≡ merged_entries old entries.now) }
+{
+    for (name, grade) in entries.as_slice() {
+        put_entry(map, String::from_str(alloc, name.as_str())?, *grade)?;
+    }
+    Ok(())
+}
+
+/// Puts an entry at its name.
+fn put_entry(
+    map: &mut BTreeMap<String, Grade>,
+    name: String,
+    grade: Grade,
+) -> Result<(), OutOfMemory>
+    ensures { let old = by_bytes map.old.entries in let new = by_bytes map.new.entries in
+        OnOk result (new ≡ with_entry old (string_bytes name) grade) }
+{
+    map.insert(name, grade)?;
+    Ok(())
+}
+
+/// The entries of a map as a list.
+fn list_of(
+    alloc: Global,
+    map: &BTreeMap<String, Grade>,
+) -> Result<List<(Name, Grade)>, OutOfMemory>
+    ensures same { IfOk result (λ es. es ≡ by_bytes map.now.entries) }
+    ensures in_order { IfOk result (λ es. IsTrue (is_in_order es)) }
+{
+    let mut entries = List::new(alloc);
+    for (name, grade) in map.iter() {
+        entries.push((Name::of(alloc, name.as_str())?, *grade))?;
+    }
+    Ok(entries)
+}

@@ -1,0 +1,8 @@
+// Policies of LavaMoat's form: what each package is granted, read from JSON, written as JSON, and merged with an override.
+#![tactic(auto)]
+
+mod entries;
+pub mod fault;
+pub mod grade;
+pub mod policy;
+pub mod row;
