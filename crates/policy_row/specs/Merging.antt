@@ -1,5 +1,5 @@
 -- An override's rows over those of a policy.
-use Rattle.std.specs.Prelude.{ℕ, List, fold, Option, Some, None}
+use Rattle.std.specs.Prelude.{List, [], fold, Option, Some, None}
 use Rattle.policy_row.specs.Rows.{Entries, Rows, at_name, with_entry}
 use Rattle.policy_row.specs.declared.row.Row.{Row}
 
@@ -19,7 +19,11 @@ abbrev pub over_row : Option Row → Row → Row
 over_row None over = over
 over_row (Some under) over = merged_row under over
 
--- for each package the override's row over the policy's
+-- rows over those that stand there, one after the other
+abbrev pub rows_over : Rows → Rows → Rows
+rows_over under over = fold (λ rows r. with_entry rows r.0 (over_row (at_name r.0 rows) r.1)) under over
+
+-- for each package the override's row over the policy's, in byte order
 -- LavaMoat policy
 abbrev pub merged_rows : Rows → Rows → Rows
-merged_rows under over = fold (λ rows r. with_entry rows r.0 (over_row (at_name r.0 rows) r.1)) under over
+merged_rows under over = rows_over (rows_over [] under) over

@@ -3,11 +3,13 @@ use Rattle.std.specs.Prelude.{ℕ, Bool, true, false, not, ◌&&◌, ◌||◌, L
 use Rattle.std.specs.BTreeMap.{insert_entry, is_at}
 use Rattle.std.specs.Cmp.Lexicographic.{slice_cmp}
 use Rattle.std.specs.List.{list_all}
-use Rattle.std.specs.Map.{lookup}
+use Rattle.std.specs.Map.{keys_of, lookup}
 use Rattle.std.specs.Ordering.{nat_cmp, is_lt}
 use Rattle.std.specs.declared.cmp.Ordering.{Ordering}
 use Rattle.policy_row.specs.declared.grade.Grade.{Grade}
 use Rattle.policy_row.specs.declared.grade.Grade.TheVariants.{No, Yes, Write}
+use Rattle.policy_row.specs.declared.grade.Kind.{Kind}
+use Rattle.policy_row.specs.declared.grade.Kind.TheVariants.{Builtin, Globals, Packages}
 use Rattle.policy_row.specs.declared.row.Row.{Row}
 
 -- the entries of one kind by name
@@ -48,17 +50,27 @@ is_granted None = false
 is_granted (Some grade) = is_granting grade
 
 -- own: byte order without repeats
-abbrev pub is_in_order : {X : Type 0} → List (List ℕ × X) → Bool
-is_in_order [] = true
-is_in_order (e ∷ es) = list_all (λ f. is_lt (order_of_names e.0 f.0)) es && is_in_order es
+abbrev pub are_in_order : List (List ℕ) → Bool
+are_in_order [] = true
+are_in_order (name ∷ names) = list_all (λ other. is_lt (order_of_names name other)) names && are_in_order names
 
--- own: writing is granted of globals alone
-abbrev pub has_no_write : Entries → Bool
-has_no_write es = list_all (λ e. not (is_write e.1)) es
+abbrev pub is_in_order : {X : Type 0} → List (List ℕ × X) → Bool
+is_in_order es = are_in_order (keys_of es)
+
+-- writing is granted of globals alone
+-- LavaMoat policy
+abbrev pub may_stand : Kind → Grade → Bool
+may_stand Builtin grade = not (is_write grade)
+may_stand Globals grade = true
+may_stand Packages grade = not (is_write grade)
+
+-- own: what is kept of the entries of a kind
+abbrev pub are_kept : Kind → Entries → Bool
+are_kept kind es = is_in_order es && list_all (λ e. may_stand kind e.1) es
 
 -- own: what is kept of each row
 abbrev pub is_kept : Row → Bool
-is_kept row = (is_in_order row.globals && is_in_order row.builtin && is_in_order row.packages) && (has_no_write row.builtin && has_no_write row.packages)
+is_kept row = are_kept Builtin row.builtin && (are_kept Globals row.globals && are_kept Packages row.packages)
 
 -- the name of the application's own package
 -- LavaMoat policy

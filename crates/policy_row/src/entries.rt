@@ -1,11 +1,11 @@
 // Entries by name, as a map while they are put together and as a list in byte order.
 
-ghost use Rattle.std.specs.Prelude.{◌≡◌, ◌&&◌, [], IfOk, OnOk, IsTrue, string_bytes};
+ghost use Rattle.std.specs.Prelude.{◌≡◌, IfOk, OnOk, IsTrue, string_bytes};
 ghost use Rattle.policy_row.specs.Merging.{merged_entries};
-ghost use Rattle.policy_row.specs.Rows.{with_entry, is_in_order};
+ghost use Rattle.policy_row.specs.Rows.{with_entry, is_in_order, are_kept};
 ghost use Rattle.policy_row.specs.Texts.{by_bytes};
 
-use crate::grade::Grade;
+use crate::grade::{Grade, Kind};
 use lava_base::list::List;
 use lava_base::memory::OutOfMemory;
 use lava_base::name::Name;
@@ -26,20 +26,24 @@ pub(crate) fn copy_entries(
     Ok(copies)
 }
 
-/// The override's entries over those of the policy.
+/// The override's entries of a kind over those of the policy.
 pub(crate) fn merge_entries(
     alloc: Global,
+    kind: Kind,
     under: &List<(Name, Grade)>,
     over: &List<(Name, Grade)>,
 ) -> Result<List<(Name, Grade)>, OutOfMemory>
-    requires { IsTrue (is_in_order under.now) }
+    requires under { IsTrue (are_kept kind under.now) }
+    requires over { IsTrue (are_kept kind over.now) }
     ensures merged { IfOk result (λ es. es ≡ merged_entries under.now over.now) }
-    ensures in_order { IfOk result (λ es. IsTrue (is_in_order es)) }
+    ensures kept { IfOk result (λ es. IsTrue (are_kept kind es)) }
 {
+    let _kind = kind;
     let mut map = BTreeMap::new(alloc);
     put_entries(alloc, &mut map, under)?;
     put_entries(alloc, &mut map, over)?;
-    list_of(alloc, &map)
+    let merged = list_of(alloc, &map)?;
+    Ok(merged)
 }
 
 /// Puts each entry at its name.

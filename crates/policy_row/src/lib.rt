@@ -4,5 +4,6 @@
 mod entries;
 pub mod fault;
 pub mod grade;
+pub mod merging;
 pub mod policy;
 pub mod row;
