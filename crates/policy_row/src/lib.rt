@@ -6,4 +6,5 @@ pub mod fault;
 pub mod grade;
 pub mod merging;
 pub mod policy;
+pub mod reading;
 pub mod row;

@@ -7,10 +7,8 @@ use Rattle.policy_row.specs.Rows.{Entries, is_in_order, are_kept, may_stand}
 use Rattle.policy_row.specs.Texts.{by_bytes}
 use Rattle.policy_row.specs.declared.grade.Kind.{Kind}
 use Rattle.policy_row.proofs.Entries_laws.{put_in_order, all_merged}
+use Rattle.policy_row.proofs.Reading_laws.{both}
 use Rattle.policy_row.proofs.entries.merge_entries.Goals as goal
-
-both : (a b : Bool) → a ≡ true → b ≡ true → (a && b) ≡ true
-both a b h k = rw (h, k) refl
 
 merged_kept : (kind : Kind) (under over es : Entries) → are_kept kind under ≡ true → are_kept kind over ≡ true → is_in_order es ≡ true → es ≡ merged_entries under over → are_kept kind es ≡ true
 merged_kept kind under over es h more order same =
