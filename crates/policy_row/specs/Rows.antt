@@ -1,5 +1,5 @@
 -- Rows by package, and what keeps them in order.
-use Rattle.std.specs.Prelude.{ℕ, Bool, true, false, not, ◌&&◌, ◌||◌, List, [], ◌∷◌, Option, Some, None, codes, bytes_eq}
+use Rattle.std.specs.Prelude.{ℕ, Bool, true, false, not, ◌&&◌, ◌||◌, List, [], ◌∷◌, Option, Some, None, codes, bytes_eq, if◌then◌else◌}
 use Rattle.std.specs.BTreeMap.{insert_entry, is_at}
 use Rattle.std.specs.Cmp.Lexicographic.{slice_cmp}
 use Rattle.std.specs.List.{list_all}
@@ -43,6 +43,20 @@ abbrev pub is_write : Grade → Bool
 is_write No = false
 is_write Yes = false
 is_write Write = true
+
+-- own: the order of grades is false, true, "write"
+abbrev pub greater : Grade → Grade → Grade
+greater No other = other
+greater Yes other = if is_write other then Write else Yes
+greater Write other = Write
+
+abbrev pub raised_grade : Option Grade → Grade → Grade
+raised_grade None grade = grade
+raised_grade (Some old) grade = greater old grade
+
+-- the grade at a name is raised to this one where it is less
+abbrev pub raised : Entries → List ℕ → Grade → Entries
+raised es name grade = with_entry es name (raised_grade (at_name name es) grade)
 
 -- own: an entry that is absent denies
 abbrev pub is_granted : Option Grade → Bool

@@ -2,7 +2,7 @@
 
 ghost use Rattle.std.specs.Prelude.{◌≡◌, IfOk, OnOk, IsTrue, string_bytes};
 ghost use Rattle.policy_row.specs.Merging.{merged_entries};
-ghost use Rattle.policy_row.specs.Rows.{with_entry, is_in_order, are_kept};
+ghost use Rattle.policy_row.specs.Rows.{at_name, with_entry, raised, raised_grade, is_in_order, are_kept};
 ghost use Rattle.policy_row.specs.Texts.{by_bytes};
 
 use crate::grade::{Grade, Kind};
@@ -13,7 +13,7 @@ use std::alloc::Global;
 use std::collections::BTreeMap;
 
 /// The same entries once more.
-pub(crate) fn copy_entries(
+pub fn copy_entries(
     alloc: Global,
     entries: &List<(Name, Grade)>,
 ) -> Result<List<(Name, Grade)>, OutOfMemory>
@@ -27,7 +27,7 @@ pub(crate) fn copy_entries(
 }
 
 /// The override's entries of a kind over those of the policy.
-pub(crate) fn merge_entries(
+pub fn merge_entries(
     alloc: Global,
     kind: Kind,
     under: &List<(Name, Grade)>,
@@ -74,8 +74,8 @@ fn put_entry(
     Ok(())
 }
 
-/// The entries of a map as a list.
-fn list_of(
+/// The entries of a map as a list, in byte order.
+pub fn list_of(
     alloc: Global,
     map: &BTreeMap<String, Grade>,
 ) -> Result<List<(Name, Grade)>, OutOfMemory>
@@ -87,4 +87,37 @@ fn list_of(
         entries.push((Name::of(alloc, name.as_str())?, *grade))?;
     }
     Ok(entries)
+}
+
+/// Raises the grade at a name to this one where it is less, or absent: `No` is less than `Yes`, and `Yes` than `Write`.
+pub fn raise_entry(
+    alloc: Global,
+    map: &mut BTreeMap<String, Grade>,
+    name: &str,
+    grade: Grade,
+) -> Result<(), OutOfMemory>
+    ensures { let old = by_bytes map.old.entries in let new = by_bytes map.new.entries in
+        OnOk result (new ≡ raised old name.now grade) }
+{
+    let grade = greater_if_any(grade_in(map, name), grade);
+    let name = String::from_str(alloc, name)?;
+    put_entry(map, name, grade)?;
+    Ok(())
+}
+
+/// The grade at a name, if one is there.
+fn grade_in(map: &BTreeMap<String, Grade>, name: &str) -> Option<Grade>
+    ensures { result ≡ at_name name.now (by_bytes map.now.entries) }
+{
+    map.get(name).copied()
+}
+
+/// The greater of a grade that may be there and another one.
+fn greater_if_any(old: Option<Grade>, grade: Grade) -> Grade
+    ensures { result ≡ raised_grade old grade }
+{
+    match old {
+        None => grade,
+        Some(old) => old.greater(grade),
+    }
 }

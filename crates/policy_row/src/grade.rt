@@ -2,7 +2,7 @@
 
 ghost use Rattle.std.specs.Prelude.{◌≡◌};
 ghost use Rattle.policy_row.specs.Names.{kind_name};
-ghost use Rattle.policy_row.specs.Rows.{is_granting};
+ghost use Rattle.policy_row.specs.Rows.{is_granting, is_write, greater};
 
 /// What an entry of a row says.
 #[derive(Clone, Copy, Debug, PartialEq, Eq)]
@@ -34,6 +34,33 @@ impl Grade {
         match self {
             Grade::No => false,
             Grade::Yes | Grade::Write => true,
+        }
+    }
+
+    /// Whether it grants writing.
+    pub fn is_write(self) -> bool
+        ensures { result ≡ is_write self }
+    {
+        match self {
+            Grade::No | Grade::Yes => false,
+            Grade::Write => true,
+        }
+    }
+
+    /// The greater of two, in the order of the variants.
+    pub fn greater(self, other: Grade) -> Grade
+        ensures { result ≡ greater self other }
+    {
+        match self {
+            Grade::No => other,
+            Grade::Yes => {
+                if other.is_write() {
+                    Grade::Write
+                } else {
+                    Grade::Yes
+                }
+            }
+            Grade::Write => Grade::Write,
         }
     }
 }

@@ -1,7 +1,7 @@
 // Policies of LavaMoat's form: what each package is granted, read from JSON, written as JSON, and merged with an override.
 #![tactic(auto)]
 
-mod entries;
+pub mod entries;
 pub mod fault;
 pub mod grade;
 pub mod merging;
