@@ -1,0 +1,2 @@
+mod Entries_laws
+mod Reading_laws

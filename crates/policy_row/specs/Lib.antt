@@ -1,0 +1,5 @@
+pub mod Merging
+pub mod Names
+pub mod Reading
+pub mod Rows
+pub mod Texts
