@@ -1,9 +1,9 @@
 -- What the tokens of a source have by the grammar: a partial tree, a tree, or a first token that is impossible.
 use Rattle.std.specs.Prelude.{◌≡◌, ℕ, ◌+◌, List, [], ◌∷◌, ◌++◌, ◌⊎◌}
 use Rattle.lava_base.specs.declared.place.Place.{Place}
-use Rattle.js_tree.specs.declared.fault.SyntaxFault.{SyntaxFault}
-use Rattle.js_tree.specs.declared.fault.SyntaxFault.TheVariants as fault
-use Rattle.js_tree.specs.declared.fault.SyntaxWhat.TheVariants as what
+use Rattle.js_fault.specs.declared.fault.SyntaxFault.{SyntaxFault}
+use Rattle.js_fault.specs.declared.fault.SyntaxFault.TheVariants as fault
+use Rattle.js_fault.specs.declared.fault.SyntaxWhat.TheVariants as what
 use Rattle.js_grammar.specs.declared.lexeme.Lexeme.{Lexeme}
 use Rattle.js_grammar.specs.declared.event.Event.{Event}
 use Rattle.js_grammar.specs.declared.symbols.Production.TheVariants as production

@@ -8,9 +8,9 @@ use Rattle.js_grammar.specs.Flat.{Flat, fed_in}
 use Rattle.js_grammar.specs.Grammar.{after}
 use Rattle.js_grammar.specs.Laws.{semi, do_semi, rule_stands}
 use Rattle.js_lexer.specs.declared.token.Token.{Token}
-use Rattle.js_tree.specs.declared.fault.SyntaxFault.{SyntaxFault}
-use Rattle.js_tree.specs.declared.fault.SyntaxFault.TheVariants as fault
-use Rattle.js_tree.specs.declared.fault.SyntaxWhat.TheVariants as what
+use Rattle.js_fault.specs.declared.fault.SyntaxFault.{SyntaxFault}
+use Rattle.js_fault.specs.declared.fault.SyntaxFault.TheVariants as fault
+use Rattle.js_fault.specs.declared.fault.SyntaxWhat.TheVariants as what
 use Rattle.js_reader.specs.Terminals.{terminal_of}
 
 -- the start and the end of a source

@@ -5,7 +5,7 @@ ghost use Rattle.lava_base.specs.declared.place.Place.{Place};
 ghost use Rattle.js_grammar.specs.Grammar.{Row};
 ghost use Rattle.js_grammar.specs.Laws.{from_flat, rule_stands};
 ghost use Rattle.js_grammar.specs.Moves.{Takes};
-ghost use Rattle.js_tree.specs.declared.fault.SyntaxFault.TheVariants as fault;
+ghost use Rattle.js_fault.specs.declared.fault.SyntaxFault.TheVariants as fault;
 ghost use Rattle.js_reader.specs.Steps.{alone, lexeme_of, paired_in, stepped_in, course, source_course, Reaches, Answers_course};
 ghost use Rattle.js_reader.specs.Reading.{IsTree, IsUnexpected, IsRefusal, HasReason, events_of};
 
@@ -16,7 +16,7 @@ use js_grammar::lexeme::Lexeme;
 use js_grammar::machine::PartialTree;
 use js_grammar::symbols::Terminal;
 use js_lexer::token::Token;
-use js_tree::fault::{SyntaxFault, SyntaxWhat};
+use js_fault::fault::{SyntaxFault, SyntaxWhat};
 use lava_base::place::Place;
 use std::alloc::{AllocError, Global};
 use std::marker::Model;

@@ -6,7 +6,7 @@ use js_grammar::event::Event;
 use js_grammar::symbols::Terminal;
 use js_lexer::lexer::tokens;
 use js_reader::reading::module_reading;
-use js_tree::fault::{SyntaxFault, SyntaxWhat};
+use js_fault::fault::{SyntaxFault, SyntaxWhat};
 use lava_base::place::Place;
 use std::alloc::{AllocError, Global};
 use std::io;
