@@ -8,7 +8,10 @@ use Rattle.lava_cli.specs.declared.outcome.TheConstants.{DONE_STATUS, OUTSIDE_ST
 use Rattle.lava_cli.specs.declared.program.Statement.{Statement}
 use Rattle.lava_cli.specs.declared.outcome.Outcome.{Outcome}
 use Rattle.lava_cli.specs.declared.outcome.Outcome.TheVariants as outcome
-use Rattle.lava_cli.specs.Answers.{directory_of, file_of, IsFileOf, IsFirstForm, IsUnsupported, ComesIn, Comes, status_of, Writes, Reports, Answers, IsDone, SomeFailed, StopsEarly, MissingComes, UnsupportedComes, RunComes}
+use Rattle.lava_base.specs.declared.place.Place.{Place}
+use Rattle.js_fault.specs.declared.fault.SyntaxWhat.{SyntaxWhat}
+use Rattle.js_reader.specs.Sources.{HasSourceTree, IsSyntaxFault}
+use Rattle.lava_cli.specs.Answers.{directory_of, file_of, IsFileOf, IsFirstForm, IsNoFirstForm, IsRefused, IsOnlyFault, IsUnsupported, HasNoFault, ComesIn, Comes, status_of, Writes, WritesOrLacks, Reports, Answers, IsDone, SomeFailed, StopsEarly, MissingComes, SyntaxComes, UnsupportedComes, RunComes}
 
 -- a folder that tells its files told what was read
 told_is : (told : Option Files) (d : List ℕ) (r : FileRead) (files : Files) → told ≡ Some files → IsFileOf told d r → r ≡ file_of files d
@@ -34,10 +37,16 @@ module _ (words : List (List ℕ)) (before after : Outside) (status : ℕ) where
   not_done o other (inl w) e = other (sym w.0 ∙ e)
   not_done o other (inr w) e = absurd (let z : OUTSIDE_STATUS ≡ DONE_STATUS = sym w.0 ∙ e in cc)
 
+  -- a line that takes memory is no end of a finished run either
+  not_done_or_lacks : (o : Outcome) → (status_of o ≡ DONE_STATUS → ⊥) → WritesOrLacks o before.errors after.errors status → status ≡ DONE_STATUS → ⊥
+  not_done_or_lacks o other (inl w) e = not_done o other w e
+  not_done_or_lacks o other (inr w) e = not_done outcome.OutOfMemory (λ z. cc) w e
+
   done_in : (d : List ℕ) (o : Outcome) → directory_of words ≡ Some d → ComesIn d before after o → Reported o → status ≡ DONE_STATUS → IsDone words before after
   done_in d outcome.Finished at c r e = (d, c.1.0, at, c.1.1, c.1.2, r.1)
   done_in d outcome.Usage at c r e = elim c [ ]
   done_in d outcome.Missing at c r e = absurd (not_done outcome.Missing (λ z. cc) r e)
+  done_in d (outcome.Syntax place what) at c r e = absurd (not_done_or_lacks (outcome.Syntax place what) (λ z. cc) r e)
   done_in d outcome.Unsupported at c r e = absurd (not_done outcome.Unsupported (λ z. cc) r e)
   done_in d outcome.FolderFailed at c r e = absurd (not_done outcome.FolderFailed (λ z. cc) r e)
   done_in d outcome.OutputFailed at c r e = absurd (not_done outcome.OutputFailed (λ z. cc) r e)
@@ -56,10 +65,15 @@ module _ (words : List (List ℕ)) (before after : Outside) (status : ℕ) where
   failed_by o there (inl w) e = there (sym w.0 ∙ e)
   failed_by o there (inr w) e = inr (inr w.1.0)
 
+  failed_or_lacks : (o : Outcome) → (status_of o ≡ OUTSIDE_STATUS → SomeFailed before after) → WritesOrLacks o before.errors after.errors status → status ≡ OUTSIDE_STATUS → SomeFailed before after
+  failed_or_lacks o there (inl w) e = failed_by o there w e
+  failed_or_lacks o there (inr w) e = failed_by outcome.OutOfMemory (λ z. absurd cc) w e
+
   failed_in : (d : List ℕ) (o : Outcome) → ComesIn d before after o → Reported o → status ≡ OUTSIDE_STATUS → SomeFailed before after
   failed_in d outcome.Finished c r e = absurd (let z : DONE_STATUS ≡ OUTSIDE_STATUS = sym r.0 ∙ e in cc)
   failed_in d outcome.Usage c r e = elim c [ ]
   failed_in d outcome.Missing c r e = failed_by outcome.Missing (λ z. absurd cc) r e
+  failed_in d (outcome.Syntax place what) c r e = failed_or_lacks (outcome.Syntax place what) (λ z. absurd cc) r e
   failed_in d outcome.Unsupported c r e = failed_by outcome.Unsupported (λ z. absurd cc) r e
   failed_in d outcome.FolderFailed c r e = inl c.0
   failed_in d outcome.OutputFailed c r e = inr (inl c.1.2.0)
@@ -94,6 +108,7 @@ module _ (words : List (List ℕ)) (before after : Outside) (status : ℕ) where
     missing_in e outcome.Finished c r = absurd (absent_is_bytes c.1.1.0 (read_is d files (Bytes c.1.1.0) Absent tells e c.1.1.2))
     missing_in e outcome.Usage c r = elim c [ ]
     missing_in e outcome.Missing c r = inl r
+    missing_in e (outcome.Syntax place what) c r = absurd (absent_is_bytes c.1.0 (read_is d files (Bytes c.1.0) Absent tells e c.1.1))
     missing_in e outcome.Unsupported c r = elim (subst IsUnsupported (read_is d files c.1.0 Absent tells e c.1.1) c.1.2) [ ]
     missing_in e outcome.FolderFailed c r = inr (inl (c.0, r))
     missing_in e outcome.OutputFailed c r = absurd (absent_is_bytes c.1.1.0 (read_is d files (Bytes c.1.1.0) Absent tells e c.1.1.2))
@@ -101,28 +116,63 @@ module _ (words : List (List ℕ)) (before after : Outside) (status : ℕ) where
 
     -- a program of the first form is not unsupported
     not_both : (bytes : List ℕ) (program : List Statement) (s : FileRead) → file_of files d ≡ s → IsUnsupported s → IsFileOf before.folder.told d (Bytes bytes) → IsFirstForm bytes program → ⊥
-    not_both bytes program s e u h is = subst IsUnsupported (sym (read_is d files (Bytes bytes) s tells e h)) u program is
+    not_both bytes program s e u h is = (subst IsUnsupported (sym (read_is d files (Bytes bytes) s tells e h)) u).0 program is
+
+    -- what has a tree has no fault
+    not_refused : (bytes : List ℕ) (place : Place) (what : SyntaxWhat) (s : FileRead) → file_of files d ≡ s → IsUnsupported s → IsFileOf before.folder.told d (Bytes bytes) → IsOnlyFault bytes place what → ⊥
+    not_refused bytes place what s e u h only = only.0 (subst IsUnsupported (sym (read_is d files (Bytes bytes) s tells e h)) u).1
 
     unsupported_in : (s : FileRead) → file_of files d ≡ s → IsUnsupported s → (o : Outcome) → ComesIn d before after o → Reported o → Writes outcome.Unsupported before.errors after.errors status ⊎ StopsEarly before after status
     unsupported_in s e u outcome.Finished c r = absurd (not_both c.1.1.0 c.1.1.1 s e u c.1.1.2 c.1.1.3)
     unsupported_in s e u outcome.Usage c r = elim c [ ]
     unsupported_in s e u outcome.Missing c r = elim (subst IsUnsupported (sym (read_is d files Absent s tells e c.1)) u) [ ]
+    unsupported_in s e u (outcome.Syntax place what) c r = absurd (not_refused c.1.0 place what s e u c.1.1 c.1.3)
     unsupported_in s e u outcome.Unsupported c r = inl r
     unsupported_in s e u outcome.FolderFailed c r = inr (inl (c.0, r))
     unsupported_in s e u outcome.OutputFailed c r = absurd (not_both c.1.1.0 c.1.1.1 s e u c.1.1.2 c.1.1.3)
     unsupported_in s e u outcome.OutOfMemory c r = inr (inr r)
 
+    -- one fault at most is told of a file
+    same_fault : (bytes other : List ℕ) (place at : Place) (what fault : SyntaxWhat) → Bytes other ≡ Bytes bytes → IsOnlyFault other at fault → IsRefused bytes place what → (place ≡ at) × (what ≡ fault)
+    same_fault bytes other place at what fault same only refused = only.1 place what (subst (λ b. IsSyntaxFault b place what) (let z : bytes ≡ other = cc in z) refused.1)
+
+    told : (place at : Place) (what fault : SyntaxWhat) → place ≡ at → what ≡ fault → WritesOrLacks (outcome.Syntax at fault) before.errors after.errors status → Writes (outcome.Syntax place what) before.errors after.errors status ⊎ StopsEarly before after status
+    told place at what fault e w (inl r) = inl (subst (λ p. Writes (outcome.Syntax p what) before.errors after.errors status) (sym e) (subst (λ f. Writes (outcome.Syntax at f) before.errors after.errors status) (sym w) r))
+    told place at what fault e w (inr r) = inr (inr r)
+
+    syntax_in : (bytes : List ℕ) (place : Place) (what : SyntaxWhat) → file_of files d ≡ Bytes bytes → IsRefused bytes place what → (o : Outcome) → ComesIn d before after o → Reported o → Writes (outcome.Syntax place what) before.errors after.errors status ⊎ StopsEarly before after status
+    syntax_in bytes place what e is outcome.Finished c r =
+        let same : Bytes bytes ≡ Bytes c.1.1.0 = sym (read_is d files (Bytes c.1.1.0) (Bytes bytes) tells e c.1.1.2) in
+        absurd (is.0 c.1.1.1 (subst (λ b. IsFirstForm b c.1.1.1) (let z : c.1.1.0 ≡ bytes = cc in z) c.1.1.3))
+    syntax_in bytes place what e is outcome.Usage c r = elim c [ ]
+    syntax_in bytes place what e is outcome.Missing c r = absurd (absent_is_bytes bytes (sym (read_is d files Absent (Bytes bytes) tells e c.1)))
+    syntax_in bytes place what e is (outcome.Syntax at fault) c r =
+        let same = same_fault bytes c.1.0 place at what fault (read_is d files (Bytes c.1.0) (Bytes bytes) tells e c.1.1) c.1.3 is in
+        told place at what fault same.0 same.1 r
+    syntax_in bytes place what e is outcome.Unsupported c r = absurd (subst HasNoFault (read_is d files c.1.0 (Bytes bytes) tells e c.1.1) c.1.3 place what is.1)
+    syntax_in bytes place what e is outcome.FolderFailed c r = inr (inl (c.0, r))
+    syntax_in bytes place what e is outcome.OutputFailed c r =
+        let same : Bytes bytes ≡ Bytes c.1.1.0 = sym (read_is d files (Bytes c.1.1.0) (Bytes bytes) tells e c.1.1.2) in
+        absurd (is.0 c.1.1.1 (subst (λ b. IsFirstForm b c.1.1.1) (let z : c.1.1.0 ≡ bytes = cc in z) c.1.1.3))
+    syntax_in bytes place what e is outcome.OutOfMemory c r = inr (inr r)
+
     run_in : (bytes : List ℕ) (program : List Statement) → file_of files d ≡ Bytes bytes → IsFirstForm bytes program → (o : Outcome) → ComesIn d before after o → Reported o → RunEnds
     run_in bytes program e is outcome.Finished c r = inl r.0
     run_in bytes program e is outcome.Usage c r = elim c [ ]
     run_in bytes program e is outcome.Missing c r = absurd (absent_is_bytes bytes (sym (read_is d files Absent (Bytes bytes) tells e c.1)))
-    run_in bytes program e is outcome.Unsupported c r = absurd (subst IsUnsupported (read_is d files c.1.0 (Bytes bytes) tells e c.1.1) c.1.2 program is)
+    run_in bytes program e is (outcome.Syntax place what) c r =
+        let same : Bytes c.1.0 ≡ Bytes bytes = read_is d files (Bytes c.1.0) (Bytes bytes) tells e c.1.1 in
+        absurd (c.1.2.0 program (subst (λ b. IsFirstForm b program) (let z : bytes ≡ c.1.0 = cc in z) is))
+    run_in bytes program e is outcome.Unsupported c r = absurd ((subst IsUnsupported (read_is d files c.1.0 (Bytes bytes) tells e c.1.1) c.1.2).0 program is)
     run_in bytes program e is outcome.FolderFailed c r = inr (inr (inl (c.0, r)))
     run_in bytes program e is outcome.OutputFailed c r = inr (inl (c.1.2.0, r))
     run_in bytes program e is outcome.OutOfMemory c r = inr (inr (inr r))
 
   pub missing_of : Answers words before after status → MissingComes words before after status
   missing_of a t = missing_in t.0 t.1 t.3 t.4 a.0 (cause_at t.0 a.0 t.2 a.1) a.2
+
+  pub syntax_of : Answers words before after status → SyntaxComes words before after status
+  syntax_of a bytes place what t is = syntax_in t.0 t.1 t.3 bytes place what t.4 is a.0 (cause_at t.0 a.0 t.2 a.1) a.2
 
   pub unsupported_of : Answers words before after status → UnsupportedComes words before after status
   unsupported_of a s t u = unsupported_in t.0 t.1 t.3 s t.4 u a.0 (cause_at t.0 a.0 t.2 a.1) a.2

@@ -1,6 +1,9 @@
 -- What the program's call answers: the cause of each answer, and what the call leaves of the outside.
 use Rattle.std.specs.Prelude.{◌≡◌, ℕ, List, [], ◌∷◌, ◌++◌, ◌⊎◌, true, Option, Some, None, Result, Ok, Err, if◌then◌else◌}
+use Rattle.lava_base.specs.declared.place.Place.{Place}
 use Rattle.js_text.specs.Texts.{same_units}
+use Rattle.js_fault.specs.declared.fault.SyntaxWhat.{SyntaxWhat}
+use Rattle.js_reader.specs.Sources.{HasSourceTree, IsSyntaxFault}
 use Rattle.lava_streams.specs.Counts.{ForTold}
 use Rattle.lava_streams.specs.Files.{Files}
 use Rattle.lava_streams.specs.Folders.{file_read}
@@ -18,6 +21,7 @@ use Rattle.lava_cli.specs.declared.source.Source.TheVariants as source
 use Rattle.lava_cli.specs.declared.print.PrintFault.{PrintFault}
 use Rattle.lava_cli.specs.declared.print.PrintFault.TheVariants as fault
 use Rattle.lava_cli.specs.Syntax.{IsFirstFormText}
+use Rattle.lava_cli.specs.SyntaxLines.{syntax_line}
 use Rattle.lava_cli.specs.Rules.{follows_rules}
 use Rattle.lava_cli.specs.Lower.{lowered}
 use Rattle.lava_cli.specs.Lines.{lines_of}
@@ -50,11 +54,31 @@ IsFileOf told directory r = ForTold told (λ files. r ≡ file_of files director
 abbrev pub IsFirstForm : (bytes : List ℕ) → List Statement → Type 0
 IsFirstForm bytes program = IsFirstFormText bytes program × (follows_rules program ≡ true)
 
--- a file that is too long, or no program of the first form
+-- these bytes are no program of the first form
+abbrev pub IsNoFirstForm : (bytes : List ℕ) → Type 0
+IsNoFirstForm bytes = (program : List Statement) → IsFirstForm bytes program → ⊥
+
+-- no program of the first form, and at this place no source of the language: which of several faults is told, js_reader says
+abbrev pub IsRefused : (bytes : List ℕ) → Place → SyntaxWhat → Type 0
+IsRefused bytes place what = IsNoFirstForm bytes × IsSyntaxFault bytes place what
+
+-- no other fault is told of these bytes, and they have no tree
+abbrev pub IsOnlyFault : (bytes : List ℕ) → Place → SyntaxWhat → Type 0
+IsOnlyFault bytes place what =
+    (HasSourceTree bytes → ⊥)
+    × ((other : Place) (fault : SyntaxWhat) → IsSyntaxFault bytes other fault → (other ≡ place) × (fault ≡ what))
+
+-- a file that is too long, or has a tree and is no program of the first form
 abbrev pub IsUnsupported : FileRead → Type 0
-IsUnsupported (Bytes bytes) = (program : List Statement) → IsFirstForm bytes program → ⊥
+IsUnsupported (Bytes bytes) = IsNoFirstForm bytes × HasSourceTree bytes
 IsUnsupported Absent = ⊥
 IsUnsupported Longer = Unit {0}
+
+-- no fault is told of a file
+abbrev pub HasNoFault : FileRead → Type 0
+HasNoFault (Bytes bytes) = (place : Place) (what : SyntaxWhat) → IsSyntaxFault bytes place what → ⊥
+HasNoFault Absent = Unit {0}
+HasNoFault Longer = Unit {0}
 
 -- the network run of a program prints this text, whatever the common part
 abbrev pub RunPrints : List Statement → (text : List ℕ) → Type 0
@@ -63,7 +87,9 @@ RunPrints program text = (common : CommonPart) → Prints (application common (l
 -- what was found in a folder: no file, a file that is unsupported, or a program with its lines
 abbrev pub IsSourceOf : FileRead → Source → Type 0
 IsSourceOf r source.Absent = r ≡ Absent
-IsSourceOf r source.Unsupported = IsUnsupported r
+IsSourceOf r source.Unsupported = IsUnsupported r × HasNoFault r
+IsSourceOf r (source.Refused place what) =
+    (bytes : List ℕ) × (r ≡ Bytes bytes) × IsRefused bytes place what × IsOnlyFault bytes place what
 IsSourceOf r (source.Lines lines) =
     (bytes : List ℕ) × (program : List Statement) × (r ≡ Bytes bytes) × IsFirstForm bytes program
     × (lines_of program ≡ Some lines)
@@ -89,10 +115,15 @@ ComesIn directory before after outcome.Usage = ⊥
 -- there is no such file
 ComesIn directory before after outcome.Missing =
     IsFaultless before.folder after.folder × IsFileOf before.folder.told directory Absent × (after.output ≡ before.output)
--- the file is too long or not of the first form
+-- the file is no source of the language
+ComesIn directory before after (outcome.Syntax place what) =
+    IsFaultless before.folder after.folder
+    × ((bytes : List ℕ) × IsFileOf before.folder.told directory (Bytes bytes) × IsRefused bytes place what × IsOnlyFault bytes place what)
+    × (after.output ≡ before.output)
+-- the file is too long, or has a tree and is not of the first form
 ComesIn directory before after outcome.Unsupported =
     IsFaultless before.folder after.folder
-    × ((r : FileRead) × IsFileOf before.folder.told directory r × IsUnsupported r) × (after.output ≡ before.output)
+    × ((r : FileRead) × IsFileOf before.folder.told directory r × IsUnsupported r × HasNoFault r) × (after.output ≡ before.output)
 -- the folder failed
 ComesIn directory before after outcome.FolderFailed =
     HasFault before.folder after.folder × (after.output ≡ before.output)
@@ -119,25 +150,45 @@ status_of outcome.Finished = texts.DONE_STATUS
 status_of outcome.Usage = texts.USAGE_STATUS
 status_of outcome.Missing = texts.LOADING_STATUS
 status_of outcome.Unsupported = texts.LOADING_STATUS
+status_of (outcome.Syntax place what) = texts.LOADING_STATUS
 status_of outcome.FolderFailed = texts.OUTSIDE_STATUS
 status_of outcome.OutputFailed = texts.OUTSIDE_STATUS
 status_of outcome.OutOfMemory = texts.MEMORY_STATUS
 
+-- the line on the errors, where it is always the same
+abbrev pub fixed_line : Outcome → List ℕ
+fixed_line outcome.Finished = []
+fixed_line outcome.Usage = texts.USAGE_LINE.now
+fixed_line outcome.Missing = texts.MISSING_LINE.now
+fixed_line outcome.Unsupported = texts.UNSUPPORTED_LINE.now
+fixed_line (outcome.Syntax place what) = []
+fixed_line outcome.FolderFailed = texts.FOLDER_LINE.now
+fixed_line outcome.OutputFailed = texts.OUTPUT_LINE.now
+fixed_line outcome.OutOfMemory = texts.MEMORY_LINE.now
+
 -- the line on the errors
 abbrev pub error_line : Outcome → List ℕ
-error_line outcome.Finished = []
-error_line outcome.Usage = texts.USAGE_LINE.now
-error_line outcome.Missing = texts.MISSING_LINE.now
-error_line outcome.Unsupported = texts.UNSUPPORTED_LINE.now
-error_line outcome.FolderFailed = texts.FOLDER_LINE.now
-error_line outcome.OutputFailed = texts.OUTPUT_LINE.now
-error_line outcome.OutOfMemory = texts.MEMORY_LINE.now
+error_line (outcome.Syntax place what) = syntax_line place what
+error_line outcome.Finished = fixed_line outcome.Finished
+error_line outcome.Usage = fixed_line outcome.Usage
+error_line outcome.Missing = fixed_line outcome.Missing
+error_line outcome.Unsupported = fixed_line outcome.Unsupported
+error_line outcome.FolderFailed = fixed_line outcome.FolderFailed
+error_line outcome.OutputFailed = fixed_line outcome.OutputFailed
+error_line outcome.OutOfMemory = fixed_line outcome.OutOfMemory
 
--- a line is written, and the status is the outcome's; where writing it fails it is that of a fault of the outside
+-- a line is written, and the status is this one; where writing it fails it is that of a fault of the outside
+abbrev pub Puts : (line : List ℕ) → (own : ℕ) → (before after : Stand (List ℕ)) → (status : ℕ) → Type 0
+Puts line own before after status =
+    ((status ≡ own) × Grows before after line) ⊎ ((status ≡ texts.OUTSIDE_STATUS) × Fails before after line)
+
+-- the line of an outcome is written, and the status is its own
 abbrev pub Writes : Outcome → (before after : Stand (List ℕ)) → (status : ℕ) → Type 0
-Writes o before after status =
-    ((status ≡ status_of o) × Grows before after (error_line o))
-    ⊎ ((status ≡ texts.OUTSIDE_STATUS) × Fails before after (error_line o))
+Writes o before after status = Puts (error_line o) (status_of o) before after status
+
+-- a line that takes memory is written, or want of memory is told
+abbrev pub WritesOrLacks : Outcome → (before after : Stand (List ℕ)) → (status : ℕ) → Type 0
+WritesOrLacks o before after status = Writes o before after status ⊎ Writes outcome.OutOfMemory before after status
 
 -- what is reported of an outcome: nothing of a finished run
 abbrev pub Reports : Outcome → (before after : Stand (List ℕ)) → (status : ℕ) → Type 0
@@ -145,6 +196,7 @@ Reports outcome.Finished before after status = (status ≡ texts.DONE_STATUS) ×
 Reports outcome.Usage before after status = Writes outcome.Usage before after status
 Reports outcome.Missing before after status = Writes outcome.Missing before after status
 Reports outcome.Unsupported before after status = Writes outcome.Unsupported before after status
+Reports (outcome.Syntax place what) before after status = WritesOrLacks (outcome.Syntax place what) before after status
 Reports outcome.FolderFailed before after status = Writes outcome.FolderFailed before after status
 Reports outcome.OutputFailed before after status = Writes outcome.OutputFailed before after status
 Reports outcome.OutOfMemory before after status = Writes outcome.OutOfMemory before after status
@@ -191,7 +243,13 @@ MissingComes words before after status =
     Tells words before Absent
     → Writes outcome.Missing before.errors after.errors status ⊎ StopsEarly before after status
 
--- where the folder tells a file that is too long or not of the first form, that is the answer, unless the folder failed or memory ran out
+-- where the folder tells a file that is no source of the language, its fault is the answer, unless the folder failed or memory ran out
+abbrev pub SyntaxComes : (words : List (List ℕ)) → (before after : Outside) → (status : ℕ) → Type 0
+SyntaxComes words before after status =
+    (bytes : List ℕ) (place : Place) (what : SyntaxWhat) → Tells words before (Bytes bytes) → IsRefused bytes place what
+    → Writes (outcome.Syntax place what) before.errors after.errors status ⊎ StopsEarly before after status
+
+-- where the folder tells a file that is too long, or has a tree and is not of the first form, that is the answer, unless the folder failed or memory ran out
 abbrev pub UnsupportedComes : (words : List (List ℕ)) → (before after : Outside) → (status : ℕ) → Type 0
 UnsupportedComes words before after status =
     (r : FileRead) → Tells words before r → IsUnsupported r

@@ -29,6 +29,7 @@ pub mod Run
 pub mod Runs
 pub mod Spelling
 pub mod Syntax
+pub mod SyntaxLines
 pub mod Terms
 pub mod Tokens
 pub mod Two_runs

@@ -3,11 +3,15 @@
 ghost use Rattle.std.specs.Prelude.{◌≡◌, ◌≢◌, ℕ, List, map, string_bytes, option_map};
 ghost use Rattle.std.specs.IoError.{error_kind};
 ghost use Rattle.lava_streams.specs.Outside.{Stand, outside};
-ghost use Rattle.lava_cli.specs.Answers.{directory_of, ComesIn, Comes, Reports, Writes, Answers, IsDone, SomeFailed, MissingComes, UnsupportedComes, RunComes};
+ghost use Rattle.lava_cli.specs.Answers.{directory_of, ComesIn, Comes, Reports, Puts, Writes, WritesOrLacks, fixed_line, status_of, Answers, IsDone, SomeFailed, MissingComes, SyntaxComes, UnsupportedComes, RunComes};
 
-use crate::outcome::{DONE_STATUS, OUTSIDE_STATUS, Outcome};
+use crate::outcome::{DONE_STATUS, LOADING_STATUS, OUTSIDE_STATUS, Outcome};
 use crate::print::{PrintFault, print_lines};
 use crate::source::{Source, find};
+use crate::syntax_line::syntax_line;
+use js_fault::fault::SyntaxWhat;
+use lava_base::memory::OutOfMemory;
+use lava_base::place::Place;
 use lava_streams::clock::Clock;
 use lava_streams::fault::{Failed, ReadFault};
 use lava_streams::folder::Folder;
@@ -43,6 +47,7 @@ fn run<F: Folder, O: Sink>(alloc: Global, directory: &str, folder: &mut F, out: 
         Err(ReadFault::OutOfMemory) => Outcome::OutOfMemory,
         Ok(Source::Absent) => Outcome::Missing,
         Ok(Source::Unsupported) => Outcome::Unsupported,
+        Ok(Source::Refused { place, what }) => Outcome::Syntax { place, what },
         Ok(Source::Lines(lines)) => match print_lines(alloc, &lines, out) {
             Ok(()) => Outcome::Finished,
             Err(PrintFault::Failed) => Outcome::OutputFailed,
@@ -70,22 +75,42 @@ fn outcome_of<F: Folder, O: Sink>(
     }
 }
 
-/// Writes the line of an outcome, and gives its status, or that of a fault of the outside where the writing fails.
-fn write_line<E: Sink>(outcome: Outcome, err: &mut E) -> u8
-    ensures { Writes outcome (E.stand err.old) (E.stand err.new) result }
+/// Writes a line, and gives the status, or that of a fault of the outside where the writing fails.
+fn put_line<E: Sink>(line: &[u8], status: u8, err: &mut E) -> u8
+    ensures { Puts line.now status (E.stand err.old) (E.stand err.new) result }
 {
-    match err.put(outcome.line().as_bytes()) {
-        Ok(()) => outcome.status(),
+    match err.put(line) {
+        Ok(()) => status,
         Err(Failed) => OUTSIDE_STATUS,
     }
 }
 
+/// Writes the line of an outcome that is always the same.
+fn write_line<E: Sink>(outcome: Outcome, err: &mut E) -> u8
+    ensures { let line = fixed_line outcome in
+        Puts line (status_of outcome) (E.stand err.old) (E.stand err.new) result }
+{
+    put_line(outcome.fixed_line().as_bytes(), outcome.status(), err)
+}
+
+/// Writes what is wrong with `index.js`, or that there is no memory for that.
+fn write_syntax<E: Sink>(alloc: Global, place: Place, what: SyntaxWhat, err: &mut E) -> u8
+    ensures { let outcome = Outcome.Syntax place what in
+        WritesOrLacks outcome (E.stand err.old) (E.stand err.new) result }
+{
+    match syntax_line(alloc, place, &what) {
+        Ok(line) => put_line(line.as_slice(), LOADING_STATUS, err),
+        Err(OutOfMemory) => write_line(Outcome::OutOfMemory, err),
+    }
+}
+
 /// Reports an outcome: nothing of a finished run.
-fn report<E: Sink>(outcome: Outcome, err: &mut E) -> u8
+fn report<E: Sink>(alloc: Global, outcome: Outcome, err: &mut E) -> u8
     ensures { Reports outcome (E.stand err.old) (E.stand err.new) result }
 {
     match outcome {
         Outcome::Finished => DONE_STATUS,
+        Outcome::Syntax { place, what } => write_syntax(alloc, place, what, err),
         other => write_line(other, err),
     }
 }
@@ -105,13 +130,13 @@ fn answer<F: Folder, O: Sink, E: Sink>(
     ensures folder { (F.stand folder.new).told ≡ (F.stand folder.old).told }
 {
     let outcome = outcome_of(alloc, words, folder, out);
-    report(outcome, err)
+    report(alloc, outcome, err)
 }
 
 /// Does what the words say, and gives the exit status. The words come without the program's own name.
 ///
 /// `run DIR` runs the file `index.js` of a folder, where it is a program of the first form of at most `FILE_LIMIT` bytes.
-/// The statuses: 0 the run was finished, 2 usage, 3 no such file or not of the first form, 7 a call on an object of the outside failed, 9 want of memory.
+/// The statuses: 0 the run was finished, 2 usage, 3 no such file, no source of the language or not of the first form, 7 a call on an object of the outside failed, 9 want of memory.
 pub fn lava<F: Folder, I: Input, O: Sink, E: Sink, C: Clock>(
     alloc: Global,
     words: &[String],
@@ -146,6 +171,10 @@ pub fn lava<F: Folder, I: Input, O: Sink, E: Sink, C: Clock>(
         let before = outside (F.stand folder.old) (O.stand out.old) (E.stand err.old) in
         let after = outside (F.stand folder.new) (O.stand out.new) (E.stand err.new) in
         MissingComes said before after result }
+    ensures syntax { let said = map string_bytes words.now in
+        let before = outside (F.stand folder.old) (O.stand out.old) (E.stand err.old) in
+        let after = outside (F.stand folder.new) (O.stand out.new) (E.stand err.new) in
+        SyntaxComes said before after result }
     ensures unsupported { let said = map string_bytes words.now in
         let before = outside (F.stand folder.old) (O.stand out.old) (E.stand err.old) in
         let after = outside (F.stand folder.new) (O.stand out.new) (E.stand err.new) in

@@ -24,5 +24,6 @@ mod reserved;
 mod source;
 mod spelling;
 mod statements;
+mod syntax_line;
 mod token;
 mod words;

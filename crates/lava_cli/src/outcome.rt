@@ -1,7 +1,10 @@
 // How a command ends, with its exit status and its line on the errors.
 
 ghost use Rattle.std.specs.Prelude.{◌≡◌};
-ghost use Rattle.lava_cli.specs.Answers.{status_of, error_line};
+ghost use Rattle.lava_cli.specs.Answers.{status_of, fixed_line};
+
+use js_fault::fault::SyntaxWhat;
+use lava_base::place::Place;
 
 /// The exit status of a run that was finished.
 pub const DONE_STATUS: u8 = 0;
@@ -24,7 +27,28 @@ pub const USAGE_LINE: &str = "usage: lava COMMAND ARG [--budget N]\n";
 /// The line where the folder has no `index.js`.
 pub const MISSING_LINE: &str = "lava: missing $root$ index.js\n";
 
-/// The line where `index.js` is too long or not of the first form.
+/// How the line begins where `index.js` is no source of the language; the place and what is wrong there follow.
+pub const SYNTAX_START: &str = "lava: syntax $root$ index.js:";
+
+/// What is wrong: the bytes are not UTF-8.
+pub const NOT_UTF8: &str = "not utf-8";
+
+/// What is wrong: no token of the language.
+pub const BAD_TOKEN: &str = "bad token";
+
+/// What is wrong: a form that the language leaves out; its name follows.
+pub const LEFT_OUT: &str = "unsupported ";
+
+/// What is wrong: a token with which no source goes on.
+pub const UNEXPECTED: &str = "unexpected";
+
+/// What is wrong: more than 256 levels.
+pub const TOO_DEEP: &str = "too deep";
+
+/// What is wrong: an early error; its name follows.
+pub const EARLY: &str = "early ";
+
+/// The line where `index.js` is too long, or has a tree and is not of the first form.
 pub const UNSUPPORTED_LINE: &str = "lava: syntax $root$ index.js:1:1 unsupported later\n";
 
 /// The line where a call on the folder failed.
@@ -37,7 +61,7 @@ pub const OUTPUT_LINE: &str = "lava: outside output\n";
 pub const MEMORY_LINE: &str = "lava: out of memory\n";
 
 /// How a command ends.
-#[derive(Clone, Copy, Debug, PartialEq, Eq)]
+#[derive(Drop)]
 pub enum Outcome {
     /// The run was finished.
     Finished,
@@ -45,7 +69,9 @@ pub enum Outcome {
     Usage,
     /// The folder has no `index.js`.
     Missing,
-    /// `index.js` is too long or not of the first form.
+    /// `index.js` is no source of the language: what is wrong, and at which place.
+    Syntax { place: Place, what: SyntaxWhat },
+    /// `index.js` is too long, or has a tree and is not of the first form.
     Unsupported,
     /// A call on the folder failed.
     FolderFailed,
@@ -57,24 +83,24 @@ pub enum Outcome {
 
 impl Outcome {
     /// The exit status.
-    pub fn status(self) -> u8
-        ensures { result ≡ status_of self }
+    pub fn status(&self) -> u8
+        ensures { result ≡ status_of self.now }
     {
         match self {
             Outcome::Finished => DONE_STATUS,
             Outcome::Usage => USAGE_STATUS,
-            Outcome::Missing | Outcome::Unsupported => LOADING_STATUS,
+            Outcome::Missing | Outcome::Syntax { .. } | Outcome::Unsupported => LOADING_STATUS,
             Outcome::FolderFailed | Outcome::OutputFailed => OUTSIDE_STATUS,
             Outcome::OutOfMemory => MEMORY_STATUS,
         }
     }
 
-    /// The line on the errors, with its LF; nothing for a finished run.
-    pub fn line(self) -> &'static str
-        ensures { result.now ≡ error_line self }
+    /// The line on the errors, with its LF, where it is always the same; else nothing.
+    pub fn fixed_line(&self) -> &'static str
+        ensures { result.now ≡ fixed_line self.now }
     {
         match self {
-            Outcome::Finished => "",
+            Outcome::Finished | Outcome::Syntax { .. } => "",
             Outcome::Usage => USAGE_LINE,
             Outcome::Missing => MISSING_LINE,
             Outcome::Unsupported => UNSUPPORTED_LINE,

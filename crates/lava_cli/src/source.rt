@@ -3,13 +3,16 @@
 ghost use Rattle.std.specs.Prelude.{◌≡◌, ◌≤◌, length, IfOk, string_bytes, List};
 ghost use Rattle.lava_streams.specs.Counts.{Counts};
 ghost use Rattle.lava_streams.specs.declared.folder.FileRead as file;
-ghost use Rattle.lava_cli.specs.Answers.{path_of, IsSource, IsSourceOf};
+ghost use Rattle.lava_cli.specs.Answers.{path_of, IsSource, IsSourceOf, IsNoFirstForm};
 
 use crate::lines::lines_of;
 use crate::program::Constant;
 use crate::reader::read;
+use js_fault::fault::{SyntaxFault, SyntaxWhat};
+use js_reader::source::source_reading;
 use lava_base::list::List;
 use lava_base::memory::OutOfMemory;
+use lava_base::place::Place;
 use lava_streams::fault::ReadFault;
 use lava_streams::folder::{FileRead, Folder};
 use std::alloc::Global;
@@ -25,8 +28,10 @@ pub const ENTRY: &str = "/index.js";
 pub enum Source {
     /// There is no file.
     Absent,
-    /// The file is too long, or no program of the first form.
+    /// The file is too long, or has a tree and is no program of the first form.
     Unsupported,
+    /// The file is no source of the language.
+    Refused { place: Place, what: SyntaxWhat },
     /// A program, which prints these lines.
     Lines(List<List<Constant>>),
 }
@@ -40,15 +45,27 @@ fn path(alloc: Global, directory: &str) -> Result<String, OutOfMemory>
     Ok(path)
 }
 
+/// What the bytes of a file are that is no program of the first form.
+fn other_source(alloc: Global, bytes: &[u8]) -> Result<Source, OutOfMemory>
+    requires { IsNoFirstForm bytes.now }
+    ensures { IfOk result (λ s. IsSourceOf (FileRead.Bytes bytes.now) s) }
+{
+    match source_reading(alloc, bytes) {
+        Ok(_) => Ok(Source::Unsupported),
+        Err(SyntaxFault::At { place, what }) => Ok(Source::Refused { place, what }),
+        Err(SyntaxFault::OutOfMemory) => Err(OutOfMemory),
+    }
+}
+
 /// What the bytes of a file are.
 fn source_of(alloc: Global, bytes: &[u8]) -> Result<Source, OutOfMemory>
     requires { length bytes.now ≤ FILE_LIMIT }
     ensures { IfOk result (λ s. IsSourceOf (FileRead.Bytes bytes.now) s) }
 {
     match read(alloc, bytes)? {
-        None => Ok(Source::Unsupported),
+        None => other_source(alloc, bytes),
         Some(program) => match lines_of(alloc, &program)? {
-            None => Ok(Source::Unsupported),
+            None => other_source(alloc, bytes),
             Some(lines) => Ok(Source::Lines(lines)),
         },
     }
