@@ -126,6 +126,11 @@ IsTokens bytes tokens =
     IsUtf8 bytes
     × ((s : State) × Run (opening (chars bytes)) s × (s.rest ≡ []) × (s.tokens ≡ tokens))
 
+-- the place behind the last character of a source
+-- own: a place counts lines and units from 1, without a leading byte order mark
+abbrev pub end_place : List ℕ → Place
+end_place bytes = (over_all (opening (chars bytes)).spot (opening (chars bytes)).rest).place
+
 -- the longest front of a source that is UTF-8, with whether it is the whole
 -- Unicode UTF-8
 abbrev pub IsFront : List ℕ → List ℕ → Bool → Type 0

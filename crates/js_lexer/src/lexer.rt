@@ -8,7 +8,7 @@ ghost use Rattle.js_fault.specs.declared.fault.SyntaxWhat.{SyntaxWhat};
 ghost use Rattle.js_fault.specs.declared.fault.SyntaxWhat.TheVariants as what;
 ghost use Rattle.js_lexer.specs.Answers.{HasCause, GivesTokens, Refuses, IsFault, StandInOrder};
 ghost use Rattle.js_lexer.specs.Lexing.{AfterTake, AfterRun, IsFaultOf, IsBrokenFault};
-ghost use Rattle.js_lexer.specs.Sources.{State, IsKind, IsTokens, pushed, opening, behind_mark, begins_hashbang, behind_hashbang};
+ghost use Rattle.js_lexer.specs.Sources.{State, IsKind, IsTokens, end_place, pushed, opening, behind_mark, begins_hashbang, behind_hashbang};
 ghost use Rattle.js_lexer.specs.Spelled.{IsTextOf};
 ghost use Rattle.js_lexer.specs.Spots.{IsSound, over_all, size_of};
 ghost use Rattle.js_lexer.specs.declared.element.Element.{Element};
@@ -243,6 +243,17 @@ pub fn tokens(alloc: Global, source: &[u8]) -> Result<List<Token>, SyntaxFault>
     match str::from_utf8(source) {
         Ok(text) => whole_tokens(alloc, text),
         Err(error) => Err(broken_fault(alloc, source, error.valid_up_to())),
+    }
+}
+
+/// The place behind the last character of a source that is UTF-8.
+pub fn end_of(alloc: Global, source: &[u8]) -> Place
+    requires { length source.now ≤ MAX_SOURCE }
+    ensures { IsUtf8 source.now → result ≡ end_place source.now }
+{
+    match str::from_utf8(source) {
+        Ok(text) => Lexer::new(alloc, text).end(),
+        Err(_) => Place { line: 1, unit: 1 },
     }
 }
 

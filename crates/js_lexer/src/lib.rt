@@ -16,5 +16,5 @@ mod numbers;
 mod passing;
 pub mod punctuators;
 mod quoted;
-mod spot;
+pub mod spot;
 pub mod token;

@@ -1,3 +1,4 @@
 pub mod Terminals
 pub mod Steps
 pub mod Reading
+pub mod Sources

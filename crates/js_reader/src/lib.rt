@@ -6,4 +6,5 @@
 
 pub mod laws;
 pub mod reading;
+pub mod source;
 pub mod terminals;
