@@ -22,7 +22,7 @@ use Rattle.js_grammar.specs.Flat.{fit_by, Shape, shape_of, laid_out}
 use Rattle.js_grammar.specs.Would.{opened_would, or_would, onward_would, wrapped_would, joined_would, put_would, complete_would, would}
 use Rattle.js_grammar.specs.Laws.{from, so, is_some, plain, HasBeginning}
 use Rattle.js_grammar.proofs.Sound.{and_true, after_is, only_some, Fine, feeds_comes}
-use Rattle.js_grammar.proofs.Follows.{is_empty, is_nil}
+use Rattle.js_grammar.proofs.Ways.{is_empty, is_nil}
 use Rattle.js_grammar.proofs.Places.{productions, terminals}
 use Rattle.js_grammar.proofs.Computed.{lexeme, tables}
 use Rattle.js_grammar.proofs.Tame.{all, each_production, each_terminal, same_productions, same_productions_is}
