@@ -1,20 +1,19 @@
 -- A tree that a nonterminal has is read, whatever waits below, and before any lexeme that does not go on with its right edge.
-use Rattle.std.proofs.Common.{◌≡◌, ℕ, ◌+◌, ◌≤◌, Bool, true, false, not, ◌&&◌, cond, List, [], ◌∷◌, ◌++◌, Option, Some, None, refl, sym, ap, subst, ◌∙◌, arith}
+use Rattle.std.proofs.Common.{◌≡◌, ℕ, ◌+◌, ◌≤◌, Bool, true, false, not, ◌&&◌, List, [], ◌∷◌, ◌++◌, Option, Some, None, refl, sym, ap, subst, ◌∙◌}
 use Rattle.std.proofs.lemmas.List.{append-nil}
 use Rattle.js_grammar.specs.declared.lexeme.Lexeme.{Lexeme}
 use Rattle.js_grammar.specs.declared.constituents.Terminals.{Terminals}
 use Rattle.js_grammar.specs.declared.symbols.Nonterminal.{Nonterminal}
 use Rattle.js_grammar.specs.declared.constituents.Constituent.{Constituent}
-use Rattle.js_grammar.specs.declared.constituents.Repetition.{Repetition}
 use Rattle.js_grammar.specs.declared.constituents.Repetition.TheVariants.{Listed}
 use Rattle.js_grammar.specs.declared.constituents.Constituent.TheVariants.{Token, Part, Optional, Further}
 use Rattle.js_grammar.specs.declared.symbols.Production.{Production}
-use Rattle.js_grammar.specs.Grammar.{Tree, Leaf, Node, Absent, Row, Nil, Then, is, led, follow, over, left, takes, spell, spells, Partial, Open, Within, begins, IsPart, Stands, IsPartial}
+use Rattle.js_grammar.specs.Grammar.{Tree, Leaf, Node, Absent, Row, Nil, Then, is, led, follow, left, takes, spell, spells, Partial, Open, Within, begins, IsPartial}
 use Rattle.js_grammar.specs.Machine.{State, Table, item, opened, wrapped, placed, put, complete, feed, feeds}
-use Rattle.js_grammar.specs.Levels.{Low, Lows, LowPartial, level, Shallow}
+use Rattle.js_grammar.specs.Levels.{Low, LowPartial, level, Shallow}
 use Rattle.js_grammar.proofs.Sound.{only_some, after_is, and_true}
 use Rattle.js_grammar.proofs.Lowered.{less, no_less, lower, lower_partial}
-use Rattle.js_grammar.proofs.Quiet.{clear, not_started, quiet, quiet_row, before, calm, calm_row, calm_partial}
+use Rattle.js_grammar.proofs.Quiet.{clear, quiet, quiet_row, before, calm, calm_row, calm_partial}
 use Rattle.js_grammar.proofs.Ways.{is_none, is_nil, is_empty, Asks, Way, by_word, by_operator, by_part, Starts, IsIn, sub_kid, optional_kid, no_nil, starts, led_left, some_is, MayStart, stood, parted, LeadsPartial, leads_partial, weaker, partial_starts}
 
 module _ (T : Table) (operator : Production → Bool) (leads : Nonterminal → Production → Bool) (cost step : Production → Row → ℕ) (grows : (f : Production) (r : Row) (x : Tree) → cost f r ≤ cost f (Then r x)) where

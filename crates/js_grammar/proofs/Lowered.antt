@@ -1,8 +1,8 @@
 -- What stands higher is no deeper.
-use Rattle.std.proofs.Common.{◌≡◌, ℕ, ◌+◌, ◌≤◌, Bool, true, false, not, ◌&&◌, cond, List, [], ◌∷◌, ◌++◌, Option, Some, None, refl, sym, ap, subst, ◌∙◌, arith}
+use Rattle.std.proofs.Common.{ℕ, ◌+◌, ◌≤◌, arith}
 use Rattle.js_grammar.specs.declared.symbols.Production.{Production}
-use Rattle.js_grammar.specs.Grammar.{Tree, Leaf, Node, Absent, Row, Nil, Then, is, led, follow, over, left, takes, spell, spells, Partial, Open, Within, begins, IsPart, Stands, IsPartial}
-use Rattle.js_grammar.specs.Levels.{Low, Lows, LowPartial, level, Shallow}
+use Rattle.js_grammar.specs.Grammar.{Tree, Leaf, Node, Absent, Row, Nil, Then, Partial, Open, Within}
+use Rattle.js_grammar.specs.Levels.{Low, Lows, LowPartial}
 
 below : (a b c n : ℕ) → b ≤ a → a + c ≤ n → b + c ≤ n
 below a b c n h k = omega arith

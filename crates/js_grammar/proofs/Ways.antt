@@ -1,17 +1,14 @@
 -- How a production begins where a nonterminal is wanted, and that each tree and partial tree begins with a lexeme at which it is opened.
-use Rattle.std.proofs.Common.{◌≡◌, ℕ, ◌+◌, ◌≤◌, Bool, true, false, not, ◌&&◌, cond, List, [], ◌∷◌, ◌++◌, Option, Some, None, refl, sym, ap, subst, ◌∙◌, arith}
-use Rattle.std.proofs.lemmas.List.{append-nil}
+use Rattle.std.proofs.Common.{◌≡◌, Bool, true, false, ◌&&◌, List, [], ◌∷◌, ◌++◌, Option, Some, None, refl, ap}
 use Rattle.js_grammar.specs.declared.lexeme.Lexeme.{Lexeme}
 use Rattle.js_grammar.specs.declared.constituents.Terminals.{Terminals}
 use Rattle.js_grammar.specs.declared.symbols.Nonterminal.{Nonterminal}
 use Rattle.js_grammar.specs.declared.constituents.Constituent.{Constituent}
 use Rattle.js_grammar.specs.declared.constituents.Repetition.{Repetition}
-use Rattle.js_grammar.specs.declared.constituents.Repetition.TheVariants.{Listed}
 use Rattle.js_grammar.specs.declared.constituents.Constituent.TheVariants.{Token, Part, Optional, Further}
 use Rattle.js_grammar.specs.declared.symbols.Production.{Production}
 use Rattle.js_grammar.specs.Grammar.{Tree, Leaf, Node, Absent, Row, Nil, Then, is, led, follow, over, left, takes, spell, spells, Partial, Open, Within, begins, IsPart, Stands, IsPartial}
-use Rattle.js_grammar.specs.Machine.{State, Table, item, opened, wrapped, placed, put, complete, feed, feeds}
-use Rattle.js_grammar.specs.Levels.{Low, Lows, LowPartial, level, Shallow}
+use Rattle.js_grammar.specs.Machine.{Table}
 use Rattle.js_grammar.proofs.Sound.{only_some, after_is, and_true}
 
 abbrev pub is_none : {A : Type 0} → Option A → Bool

@@ -1,5 +1,5 @@
 -- The laws of the grammar, of its levels and of its semicolons.
-use Rattle.std.specs.Prelude.{◌≡◌, ℕ, Bool, true, false, ◌||◌, List, [], ◌∷◌, ◌++◌, Option, Some, None, map}
+use Rattle.std.specs.Prelude.{◌≡◌, ℕ, Bool, true, false, ◌||◌, List, [], ◌∷◌, ◌++◌, Option, Some, None}
 use Rattle.js_grammar.specs.declared.lexeme.Lexeme.{Lexeme}
 use Rattle.js_grammar.specs.declared.symbols.Terminal.{Terminal}
 use Rattle.js_grammar.specs.declared.symbols.Terminal.TheVariants as terminal
@@ -12,7 +12,7 @@ use Rattle.js_grammar.specs.Grammar.{Tree, Node, Row, Nil, IsSpelled, HasPartial
 use Rattle.js_grammar.specs.Machine.{State, item, feed, feeds}
 use Rattle.js_grammar.specs.Inserted.{HasTree, IsBegun, steps}
 use Rattle.js_grammar.specs.Levels.{LowPartial, Shallow, cost_of, step_of}
-use Rattle.js_grammar.specs.Flat.{Shape, Flat, fed_flat, flat_of, shape_of, laid_out}
+use Rattle.js_grammar.specs.Flat.{Shape, Flat, fed_flat, flat_of, laid_open, laid_out}
 use Rattle.js_grammar.specs.Would.{would}
 use Rattle.js_grammar.specs.Fits.{grammar, table}
 use Rattle.js_grammar.specs.Table.{plain_of}
@@ -91,7 +91,7 @@ so (Some s) = Some (flat_of s)
 
 -- the reader over flat output does what the reader of trees does
 abbrev pub Flatly : Type 0
-Flatly = (s : State) (t : Lexeme) → fed_flat (map shape_of s) (laid_out s) t ≡ so (feed table s t)
+Flatly = (s : State) (t : Lexeme) → fed_flat (laid_open s) (laid_out s) t ≡ so (feed table s t)
 
 abbrev pub is_some : Option Flat → Bool
 is_some None = false

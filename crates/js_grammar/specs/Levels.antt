@@ -37,6 +37,6 @@ cost_of f r = levels_of f
 -- how many levels its next part stands below what the production stands in: the first one may stand less deep
 abbrev pub step_of : Production → Row → ℕ
 step_of f Nil = lead_levels_of f
-step_of f (Then r (Leaf t)) = levels_of f
+step_of f (Then r (Leaf t)) = step_of f r
 step_of f (Then r (Node h q)) = levels_of f
 step_of f (Then r Absent) = step_of f r
