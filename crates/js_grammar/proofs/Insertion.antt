@@ -1,10 +1,10 @@
 -- The reader inserts a semicolon exactly where the definition does.
-use Rattle.std.proofs.Common.{◌≡◌, Bool, true, false, List, [], ◌∷◌, ◌++◌, Option, Some, None, refl, sym, ap, ◌∙◌}
+use Rattle.std.proofs.Common.{◌≡◌, Bool, true, false, cond, List, [], ◌∷◌, ◌++◌, Option, Some, None, refl, sym, ap, ◌∙◌}
 use Rattle.js_grammar.specs.declared.lexeme.Lexeme.{Lexeme}
 use Rattle.js_grammar.specs.declared.symbols.Nonterminal.{Nonterminal}
 use Rattle.js_grammar.specs.Grammar.{HasPartial, after}
 use Rattle.js_grammar.specs.Machine.{State, Table, feed, feeds}
-use Rattle.js_grammar.specs.Inserted.{Nothing, Ending, DoEnding, Choice, plain, marked, IsOffending, IsLeft, Rightly, IsBegun, pair, when, or_else, step, steps}
+use Rattle.js_grammar.specs.Inserted.{Nothing, Ending, DoEnding, Choice, plain, marked, IsOffending, Rightly, IsBegun, pair, or_else, step, steps}
 use Rattle.js_grammar.proofs.Sound.{after_is}
 
 feeds_after : (T : Table) (a b : List Lexeme) (s q : State) → feeds T s a ≡ Some q → feeds T s (a ++ b) ≡ feeds T q b
@@ -48,13 +48,6 @@ module _ (T : Table) (root : Nonterminal) (semi do_semi : Lexeme) (stands : Lexe
   one_none : (s : State) (t : Lexeme) → feed T s t ≡ None → feeds T s (t ∷ []) ≡ None
   one_none s t e = rw e refl
 
-  two_none : (s : State) (m t : Lexeme) → two m s t ≡ None → feeds T s (m ∷ t ∷ []) ≡ None
-  two_none s m t e = by (feed T s m) refl e
-    where
-      by : (o : Option State) → feed T s m ≡ o → after o (λ q. feed T q t) ≡ None → feeds T s (m ∷ t ∷ []) ≡ None
-      by None x y = rw x refl
-      by (Some q) x y = rw (x, y) refl
-
   abbrev pub Reads_as : List Lexeme → State → List Lexeme → State → Type 0
   Reads_as b s ts q = (xs : List Choice) × (plain xs ≡ ts) × Right b xs × (feeds T s (put xs) ≡ Some q)
 
@@ -64,29 +57,25 @@ module _ (T : Table) (root : Nonterminal) (semi do_semi : Lexeme) (stands : Lexe
   single : (s p : State) (t : Lexeme) → feed T s t ≡ Some p → feeds T s (t ∷ []) ≡ Some p
   single s p t h = rw h refl
 
-  left_if : (w : Bool) (b : List Lexeme) (t : Lexeme) (s : State) → feeds T from b ≡ Some s → stands t ≡ w → when T semi do_semi stands w (two semi s t) ≡ None → IsLeft T.grammar root semi do_semi stands b t
-  left_if true b t s h e n x p = refuses b (semi ∷ t ∷ []) s h (two_none s semi t n) p
-  left_if false b t s h e n x p = cc
-
-  turn : (t : Lexeme) (ts b : List Lexeme) (s q : State) (o u v : Option State) (w : Bool) → feeds T from b ≡ Some s → feed T s t ≡ o → stands t ≡ w → when T semi do_semi stands w (two semi s t) ≡ u → two do_semi s t ≡ v → Goes_on ts q → after (or_else T semi do_semi stands o (or_else T semi do_semi stands u v)) (λ p. go p ts) ≡ Some q → Reads_as b s (t ∷ ts) q
-  turn t ts b s q (Some p) u v w h e f x y ih k =
+  turn : (t : Lexeme) (ts b : List Lexeme) (s q : State) (o : Option State) (w : Bool) → feeds T from b ≡ Some s → feed T s t ≡ o → stands t ≡ w → Goes_on ts q → after (or_else T semi do_semi stands o (cond w (two semi s t) (two do_semi s t))) (λ p. go p ts) ≡ Some q → Reads_as b s (t ∷ ts) q
+  turn t ts b s q (Some p) w h e f ih k =
       let m = ih (b ++ t ∷ []) p (feeds_after T b (t ∷ []) from s h ∙ single s p t e) k in
       ((Nothing, t) ∷ m.0, ap (λ x. t ∷ x) m.1, m.2, feeds_one T s p t (put m.0) e ∙ m.3)
-  turn t ts b s q None (Some p) v false h e f x y ih k = cc
-  turn t ts b s q None (Some p) v true h e f x y ih k =
-      let both = feeds_two T s p semi t x in
-      let z = ih (b ++ semi ∷ t ∷ []) p (feeds_after T b (semi ∷ t ∷ []) from s h ∙ both) k in
-      ((Ending, t) ∷ z.0, ap (λ x. t ∷ x) z.1, (refuses b (t ∷ []) s h (one_none s t e), f, z.2), feeds_after T (semi ∷ t ∷ []) (put z.0) s p both ∙ z.3)
-  turn t ts b s q None None None w h e f x y ih k = cc
-  turn t ts b s q None None (Some p) w h e f x y ih k =
-      let both = feeds_two T s p do_semi t y in
-      let z = ih (b ++ do_semi ∷ t ∷ []) p (feeds_after T b (do_semi ∷ t ∷ []) from s h ∙ both) k in
-      ((DoEnding, t) ∷ z.0, ap (λ x. t ∷ x) z.1, (refuses b (t ∷ []) s h (one_none s t e), left_if w b t s h f x, z.2), feeds_after T (do_semi ∷ t ∷ []) (put z.0) s p both ∙ z.3)
+  turn t ts b s q None true h e f ih k =
+      let m = after_is (two semi s t) _ q k in
+      let both = feeds_two T s m.0 semi t m.1 in
+      let z = ih (b ++ semi ∷ t ∷ []) m.0 (feeds_after T b (semi ∷ t ∷ []) from s h ∙ both) m.2 in
+      ((Ending, t) ∷ z.0, ap (λ x. t ∷ x) z.1, (refuses b (t ∷ []) s h (one_none s t e), f, z.2), feeds_after T (semi ∷ t ∷ []) (put z.0) s m.0 both ∙ z.3)
+  turn t ts b s q None false h e f ih k =
+      let m = after_is (two do_semi s t) _ q k in
+      let both = feeds_two T s m.0 do_semi t m.1 in
+      let z = ih (b ++ do_semi ∷ t ∷ []) m.0 (feeds_after T b (do_semi ∷ t ∷ []) from s h ∙ both) m.2 in
+      ((DoEnding, t) ∷ z.0, ap (λ x. t ∷ x) z.1, (refuses b (t ∷ []) s h (one_none s t e), f, z.2), feeds_after T (do_semi ∷ t ∷ []) (put z.0) s m.0 both ∙ z.3)
 
   -- what is read has semicolons inserted rightly
   pub sound : (ts b : List Lexeme) (s q : State) → feeds T from b ≡ Some s → go s ts ≡ Some q → Reads_as b s ts q
   sound [] b s q h k = ([], refl, tt, k)
-  sound (t ∷ ts) b s q h k = turn t ts b s q (feed T s t) _ _ (stands t) h refl refl refl refl (λ b s h k. sound ts b s q h k) k
+  sound (t ∷ ts) b s q h k = turn t ts b s q (feed T s t) (stands t) h refl refl (λ b s h k. sound ts b s q h k) k
 
   some_good : (b us : List Lexeme) (s : State) (o : Option State) → feeds T from b ≡ Some s → feeds T s us ≡ o → (HasPartial T.grammar root (b ++ us) → ⊥) → o ≡ None
   some_good b us s None h e n = refl
@@ -99,23 +88,8 @@ module _ (T : Table) (root : Nonterminal) (semi do_semi : Lexeme) (stands : Lexe
       by None x y = refl
       by (Some q) x y = cc
 
-  feeds_pair : (s : State) (m t : Lexeme) → feeds T s (m ∷ t ∷ []) ≡ None → two m s t ≡ None
-  feeds_pair s m t e = by (feed T s m) refl e
-    where
-      last : (o : Option State) → after o (λ q. Some q) ≡ None → o ≡ None
-      last None y = refl
-      last (Some q) y = cc
-
-      by : (o : Option State) → feed T s m ≡ o → after o (λ q. feeds T q (t ∷ [])) ≡ None → after o (λ q. feed T q t) ≡ None
-      by None x y = refl
-      by (Some q) x y = last (feed T q t) y
-
   not_fed : (b : List Lexeme) (t : Lexeme) (s : State) → feeds T from b ≡ Some s → IsOffending T.grammar root semi do_semi stands b t → feed T s t ≡ None
   not_fed b t s h n = feeds_feed s t (some_good b (t ∷ []) s (feeds T s (t ∷ [])) h refl n)
-
-  not_left : (w : Bool) (b : List Lexeme) (t : Lexeme) (s : State) → feeds T from b ≡ Some s → stands t ≡ w → IsLeft T.grammar root semi do_semi stands b t → when T semi do_semi stands w (two semi s t) ≡ None
-  not_left false b t s h e n = refl
-  not_left true b t s h e n = feeds_pair s semi t (some_good b (semi ∷ t ∷ []) s (feeds T s (semi ∷ t ∷ [])) h refl (n e))
 
   pair_is : (s p q : State) (m t : Lexeme) → feed T s m ≡ Some p → feed T p t ≡ Some q → two m s t ≡ Some q
   pair_is s p q m t e f = rw (e, f) refl
@@ -129,7 +103,7 @@ module _ (T : Table) (root : Nonterminal) (semi do_semi : Lexeme) (stands : Lexe
   step_semi : (s p : State) (t : Lexeme) → feed T s t ≡ None → stands t ≡ true → two semi s t ≡ Some p → step T semi do_semi stands s t ≡ Some p
   step_semi s p t e f h = rw (e, f, h) refl
 
-  step_do : (s p : State) (t : Lexeme) → feed T s t ≡ None → when T semi do_semi stands (stands t) (two semi s t) ≡ None → two do_semi s t ≡ Some p → step T semi do_semi stands s t ≡ Some p
+  step_do : (s p : State) (t : Lexeme) → feed T s t ≡ None → stands t ≡ false → two do_semi s t ≡ Some p → step T semi do_semi stands s t ≡ Some p
   step_do s p t e f h = rw (e, f, h) refl
 
   -- where semicolons are inserted rightly, the reader does as much
@@ -147,7 +121,7 @@ module _ (T : Table) (root : Nonterminal) (semi do_semi : Lexeme) (stands : Lexe
       let m = after_is (feed T s do_semi) _ q k in
       let n = after_is (feed T m.0 t) _ q m.2 in
       let both = pair_is s m.0 n.0 do_semi t m.1 n.1 in
-      steps_by s n.0 t (plain xs) (step_do s n.0 t (not_fed b t s h r.0) (not_left (stands t) b t s h refl r.1) both) ∙ (whole xs (b ++ do_semi ∷ t ∷ []) n.0 q (feeds_after T b (do_semi ∷ t ∷ []) from s h ∙ feeds_two T s n.0 do_semi t both) r.2 n.2)
+      steps_by s n.0 t (plain xs) (step_do s n.0 t (not_fed b t s h r.0) r.1 both) ∙ (whole xs (b ++ do_semi ∷ t ∷ []) n.0 q (feeds_after T b (do_semi ∷ t ∷ []) from s h ∙ feeds_two T s n.0 do_semi t both) r.2 n.2)
 
   -- the exact place: the tokens before it have a partial tree, and with it they have none
   pub begun : (ts : List Lexeme) (q : State) → go from ts ≡ Some q → IsBegun T.grammar root semi do_semi stands ts
@@ -160,3 +134,10 @@ module _ (T : Table) (root : Nonterminal) (semi do_semi : Lexeme) (stands : Lexe
       let nothing : Option State = None in
       let w : nothing ≡ Some m.0 = sym h ∙ ap (go from) (sym i.1) ∙ k in
       cc
+
+  -- whatever right choice of semicolons there is, it is what the reader has
+  pub same : (ts : List Lexeme) (q : State) (xs : List Choice) → go from ts ≡ Some q → plain xs ≡ ts → Right [] xs → HasPartial T.grammar root (put xs) → feeds T from (put xs) ≡ Some q
+  same ts q xs h e r p =
+      let m = exact (put xs) p in
+      let k : Some m.0 ≡ Some q = sym (whole xs [] from m.0 refl r m.1) ∙ ap (go from) e ∙ h in
+      m.1 ∙ k

@@ -1,5 +1,5 @@
 -- Semicolons that are inserted, exactly where a rule stands at an offending lexeme.
-use Rattle.std.specs.Prelude.{◌≡◌, Bool, true, false, List, [], ◌∷◌, ◌++◌, Option, Some, None}
+use Rattle.std.specs.Prelude.{◌≡◌, Bool, true, false, cond, List, [], ◌∷◌, ◌++◌, Option, Some, None}
 use Rattle.js_grammar.specs.declared.lexeme.Lexeme.{Lexeme}
 use Rattle.js_grammar.specs.declared.symbols.Nonterminal.{Nonterminal}
 use Rattle.js_grammar.specs.Grammar.{Tree, Grammar, IsSpelled, HasPartial, after}
@@ -29,17 +29,13 @@ module _ (g : Grammar) (root : Nonterminal) (semi : Lexeme) (do_semi : Lexeme) (
   abbrev pub IsOffending : List Lexeme → Lexeme → Type 0
   IsOffending before t = HasPartial g root (before ++ t ∷ []) → ⊥
 
-  -- nor have they with a semicolon of the other rules
-  abbrev pub IsLeft : List Lexeme → Lexeme → Type 0
-  IsLeft before t = rule_stands t ≡ true → HasPartial g root (before ++ semi ∷ t ∷ []) → ⊥
-
-  -- each semicolon is inserted before an offending lexeme at which a rule stands
+  -- each semicolon is inserted before an offending lexeme at which a rule stands; where no other does, one that ends a do-while
   -- ECMA-262 Rules of Automatic Semicolon Insertion
   abbrev pub Rightly : List Lexeme → List Choice → Type 0
   Rightly before [] = Unit {0}
   Rightly before ((Nothing, t) ∷ xs) = Rightly (before ++ t ∷ []) xs
   Rightly before ((Ending, t) ∷ xs) = IsOffending before t × (rule_stands t ≡ true) × Rightly (before ++ semi ∷ t ∷ []) xs
-  Rightly before ((DoEnding, t) ∷ xs) = IsOffending before t × IsLeft before t × Rightly (before ++ do_semi ∷ t ∷ []) xs
+  Rightly before ((DoEnding, t) ∷ xs) = IsOffending before t × (rule_stands t ≡ false) × Rightly (before ++ do_semi ∷ t ∷ []) xs
 
   -- the relations of the definition, with semicolons inserted
   abbrev pub HasTree : List Lexeme → Tree → Type 0
@@ -52,17 +48,13 @@ module _ (T : Table) (semi : Lexeme) (do_semi : Lexeme) (rule_stands : Lexeme �
   abbrev pub pair : Lexeme → State → Lexeme → Option State
   pair m s t = after (feed T s m) (λ q. feed T q t)
 
-  abbrev pub when : Bool → Option State → Option State
-  when false o = None
-  when true o = o
-
   abbrev pub or_else : Option State → Option State → Option State
   or_else (Some q) x = Some q
   or_else None x = x
 
   -- one lexeme, with a semicolon before it where one is wanted
   abbrev pub step : State → Lexeme → Option State
-  step s t = or_else (feed T s t) (or_else (when (rule_stands t) (pair semi s t)) (pair do_semi s t))
+  step s t = or_else (feed T s t) (cond (rule_stands t) (pair semi s t) (pair do_semi s t))
 
   abbrev pub steps : State → List Lexeme → Option State
   steps s [] = Some s

@@ -10,7 +10,8 @@ use Rattle.js_grammar.specs.declared.constituents.Constituent.TheVariants.{Part}
 use Rattle.js_grammar.specs.declared.event.Event.{Event}
 use Rattle.js_grammar.specs.Grammar.{Tree, Node, Row, Nil, IsSpelled, HasPartial}
 use Rattle.js_grammar.specs.Machine.{State, item, feed, feeds}
-use Rattle.js_grammar.specs.Inserted.{HasTree, IsBegun, steps}
+use Rattle.js_grammar.specs.Inserted.{Choice, HasTree, IsBegun, Rightly, marked, steps}
+use Rattle.js_grammar.specs.Inserted as inserted
 use Rattle.js_grammar.specs.Levels.{LowPartial, Shallow, cost_of, step_of}
 use Rattle.js_grammar.specs.Flat.{Shape, Flat, fed_flat, flat_of, laid_open, laid_out}
 use Rattle.js_grammar.specs.Would.{would}
@@ -144,3 +145,13 @@ Read_inserted = (ts : List Lexeme) (r : Row) → Steps ts (Some (whole_state r))
 -- tokens have one tree at most
 abbrev pub One_tree : Type 0
 One_tree = (ts : List Lexeme) (x y : Tree) → Has ts x → Has ts y → x ≡ y
+
+-- where semicolons are inserted rightly, and the tokens with them have a partial tree, they are what the reader has
+abbrev pub Is_right : List Lexeme → List Choice → Type 0
+Is_right ts xs = (inserted.plain xs ≡ ts) × Rightly grammar nonterminal.Module semi do_semi rule_stands [] xs
+
+abbrev pub with_semicolons : List Choice → List Lexeme
+with_semicolons xs = marked grammar nonterminal.Module semi do_semi rule_stands xs
+
+abbrev pub Same_read : Type 0
+Same_read = (ts : List Lexeme) (q : State) (xs : List Choice) → Steps ts (Some q) → Is_right ts xs → HasBeginning (with_semicolons xs) → Reads (with_semicolons xs) q

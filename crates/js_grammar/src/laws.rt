@@ -1,5 +1,5 @@
 // Laws of the grammar, of its levels and of its semicolons.
-ghost use Rattle.js_grammar.specs.Laws.{Good, Exact, Read, Stands_whole, Kept, Kept_back, Low, Low_enough, Flatly, Looks_ahead, Begun, Refused, Inserted_read, Read_inserted, One_tree};
+ghost use Rattle.js_grammar.specs.Laws.{Good, Exact, Read, Stands_whole, Kept, Kept_back, Low, Low_enough, Flatly, Looks_ahead, Begun, Refused, Inserted_read, Read_inserted, One_tree, Same_read};
 
 /// The reader takes exactly the tokens that have a partial tree, and a module stands whole exactly where the tokens have a tree.
 pub fn exactly()
@@ -35,4 +35,5 @@ pub fn semicolons()
     ensures read { Inserted_read }
     ensures whole { Read_inserted }
     ensures one { One_tree }
+    ensures same { Same_read }
 {}

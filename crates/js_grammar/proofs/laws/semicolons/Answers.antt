@@ -2,7 +2,7 @@ use Rattle.js_grammar.specs.declared.symbols.Nonterminal.TheVariants as nontermi
 use Rattle.js_grammar.specs.Fits.{table}
 use Rattle.js_grammar.specs.Laws.{from, semi, do_semi, rule_stands}
 use Rattle.js_grammar.proofs.Exact.{good, exact}
-use Rattle.js_grammar.proofs.Insertion.{begun, refused}
+use Rattle.js_grammar.proofs.Insertion.{begun, refused, same}
 use Rattle.js_grammar.proofs.OneTree.{inserted_read, read_inserted, one_tree}
 use Rattle.js_grammar.proofs.laws.semicolons.Goals as goal
 
@@ -20,3 +20,6 @@ returns-clause-whole c = read_inserted
 
 pub returns-clause-one : goal.returns-clause-one
 returns-clause-one c = one_tree
+
+pub returns-clause-same : goal.returns-clause-same
+returns-clause-same c = λ ts q xs h r p. same table nonterminal.Module semi do_semi rule_stands from good exact ts q xs h r.0 r.1 p
