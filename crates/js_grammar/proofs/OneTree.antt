@@ -28,7 +28,7 @@ use Rattle.js_grammar.proofs.Insertion.{sound}
 use Rattle.js_grammar.proofs.Insertion
 
 -- what may be left of the rule of a module
-data Tail : List Constituent → Type 0 where
+pub data Tail : List Constituent → Type 0 where
   whole_rule : Tail (Token (Is terminal.Start) ∷ Optional nonterminal.ModuleItem Many ∷ Token (Is terminal.End) ∷ [])
   in_list : Tail (Optional nonterminal.ModuleItem Many ∷ Token (Is terminal.End) ∷ [])
   at_end : Tail (Token (Is terminal.End) ∷ [])
@@ -75,7 +75,7 @@ rule_module : Tail (rule_of production.Module)
 unfolding Table.rule_of
 rule_module = whole_rule
 
-left_tail : (r : Row) (qs : List Constituent) → left grammar production.Module r ≡ Some qs → Tail qs
+pub left_tail : (r : Row) (qs : List Constituent) → left grammar production.Module r ≡ Some qs → Tail qs
 left_tail Nil qs h = along _ qs rule_module h
 left_tail (Then r x) qs h =
     let m = after_is (left grammar production.Module r) _ qs h in
@@ -104,7 +104,7 @@ module_all : all (λ f. implies (may_of nonterminal.Module f) (nat_eq (place_of 
 unfolding tables
 module_all = refl
 
-only_module : (f : Production) → may_of nonterminal.Module f ≡ true → f ≡ production.Module
+pub only_module : (f : Production) → may_of nonterminal.Module f ≡ true → f ≡ production.Module
 only_module f h = same_production f production.Module (implied (may_of nonterminal.Module f) (nat_eq (place_of f) (place_of production.Module)) (each_production (λ f. implies (may_of nonterminal.Module f) (nat_eq (place_of f) (place_of production.Module))) module_all f) h)
 
 is_over : (o : Option (List Constituent)) → over grammar o ≡ true → o ≡ Some []

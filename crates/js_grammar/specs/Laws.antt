@@ -155,3 +155,7 @@ with_semicolons xs = marked grammar nonterminal.Module semi do_semi rule_stands 
 
 abbrev pub Same_read : Type 0
 Same_read = (ts : List Lexeme) (q : State) (xs : List Choice) → Steps ts (Some q) → Is_right ts xs → HasBeginning (with_semicolons xs) → Reads (with_semicolons xs) q
+
+-- what ends with the end of a source is a module that stands whole
+abbrev pub Ends_whole : Type 0
+Ends_whole = (ts : List Lexeme) (t : Lexeme) (q : State) → Reads (ts ++ t ∷ []) q → t.terminal ≡ terminal.End → (r : Row) × (q ≡ whole_state r)

@@ -1,5 +1,5 @@
 // Laws of the grammar, of its levels and of its semicolons.
-ghost use Rattle.js_grammar.specs.Laws.{Good, Exact, Read, Stands_whole, Kept, Kept_back, Low, Low_enough, Flatly, Looks_ahead, Begun, Refused, Inserted_read, Read_inserted, One_tree, Same_read};
+ghost use Rattle.js_grammar.specs.Laws.{Good, Exact, Read, Stands_whole, Kept, Kept_back, Low, Low_enough, Flatly, Looks_ahead, Begun, Refused, Inserted_read, Read_inserted, One_tree, Same_read, Ends_whole};
 
 /// The reader takes exactly the tokens that have a partial tree, and a module stands whole exactly where the tokens have a tree.
 pub fn exactly()
@@ -7,6 +7,7 @@ pub fn exactly()
     ensures exact { Exact }
     ensures read { Read }
     ensures whole { Stands_whole }
+    ensures ended { Ends_whole }
 {}
 
 /// A token whose terminal hangs on the next one, as `get` before a property name, has a partial tree exactly where it has one without regard to
