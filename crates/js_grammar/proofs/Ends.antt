@@ -1,7 +1,6 @@
 -- What ends with the end of a source is a module that stands whole.
-use Rattle.std.proofs.Common.{◌≡◌, Bool, true, false, not, ◌&&◌, ◌||◌, cond, nat_eq, List, [], ◌∷◌, ◌++◌, Option, Some, None, ◌⊎◌, inl, inr, refl, sym, ap, subst, ◌∙◌}
+use Rattle.std.proofs.Common.{◌≡◌, Bool, true, false, not, ◌&&◌, ◌||◌, nat_eq, List, [], ◌∷◌, ◌++◌, Option, Some, None, ◌⊎◌, inl, inr, refl, sym, ap, subst, ◌∙◌}
 use Rattle.js_grammar.specs.declared.lexeme.Lexeme.{Lexeme}
-use Rattle.js_grammar.specs.declared.symbols.Terminal.{Terminal}
 use Rattle.js_grammar.specs.declared.symbols.Terminal.TheVariants as terminal
 use Rattle.js_grammar.specs.declared.symbols.Nonterminal.{Nonterminal}
 use Rattle.js_grammar.specs.declared.symbols.Nonterminal.TheVariants as nonterminal
@@ -13,8 +12,8 @@ use Rattle.js_grammar.specs.declared.constituents.Terminals.{Terminals}
 use Rattle.js_grammar.specs.declared.constituents.Terminals.TheVariants.{Is}
 use Rattle.js_grammar.specs.declared.constituents.Constituent.{Constituent}
 use Rattle.js_grammar.specs.declared.constituents.Constituent.TheVariants.{Token, Part, Optional, Further}
-use Rattle.js_grammar.specs.Grammar.{Tree, Leaf, Node, Absent, Row, Nil, Then, is, after, only_if, behind, follow, left, takes, spells}
-use Rattle.js_grammar.specs.Machine.{Item, State, item, begun, opened, or_else, choose, onward, wrapped, joined, put, complete, feed, feeds}
+use Rattle.js_grammar.specs.Grammar.{Tree, Leaf, Node, Absent, Row, Nil, Then, is, only_if, behind, follow, left, takes, spells}
+use Rattle.js_grammar.specs.Machine.{State, item, begun, opened, or_else, choose, onward, wrapped, joined, put, complete, feed, feeds}
 use Rattle.js_grammar.specs.Table
 use Rattle.js_grammar.specs.Table.{rule_of, stands_of, may_of, ends_of, index_of, place_of}
 use Rattle.js_grammar.specs.Fits.{grammar, table}
