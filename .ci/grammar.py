@@ -49,14 +49,14 @@ class Table:
         self.rules, self.notation = [], []
         rules = self.body(table, "RULES")
         for line in rules:
-            row = re.fullmatch(r"(\w+) (\d+) \{ (.*) \}", line)
+            row = re.fullmatch(r"(\w+) (\d+)(?: => (\w+))? \{ (.*) \}", line)
             if not row:
-                self.notation.append((line, None, None))
+                self.notation.append((line, None, None, None))
                 continue
-            words = re.findall(r"\(\w+\)|\[\w+ [?*,]\]|\{\w+\}|\w+", row[3])
+            words = re.findall(r"\(\w+\)|\[\w+ [?*,]\]|\{\w+\}|\w+", row[4])
             self.rules.append([self.constituent(it) for it in words])
-            self.notation.append((row[1], int(row[2]), words))
-        named = [name for name, levels, _ in self.notation if levels is not None]
+            self.notation.append((row[1], int(row[2]), words, row[3]))
+        named = [name for name, levels, _, _ in self.notation if levels is not None]
         assert named == self.productions, "the rows of RULES are not in the order of Production"
         self.rows, names = [], []
         for line in self.body(table, "NONTERMINALS"):
@@ -77,7 +77,8 @@ class Table:
 
     @staticmethod
     def body(text, name):
-        block = re.search(rf"pub static {name}: .*? = \w+! \{{\n(.*?)\n\}};", text, re.S)[1]
+        begin = r"\$column! \{" if name == "RULES" else rf"pub static {name}: .*? = \w+! \{{"
+        block = re.search(begin + r"\n(.*?)\n\s*\}", text, re.S)[1]
         return [line.strip() for line in block.split("\n")]
 
     @staticmethod
@@ -269,7 +270,9 @@ one; `NoIn` stands for its parameter `[~In]`.
 In a production `A` is a part, `A?` one that may be left out, `A*` any number of them, and `A,*` any number between commas, with a comma \
 behind the last if need be; no element follows a rest element. What else stands is a token, or *one of* some. **Levels** says how many \
 levels of nesting the production is by itself; an `else`, or the arguments of `new`, make none of their own. Of {levels} levels a tree may \
-have, one more is too deep.
+have, one more is too deep. A production marked **left out** is one of ECMA-262's that the language does not have; it has no more of it than \
+what shows it, since a reader that comes to it ends there and names it. So are an assignment to a property of `super` (`super`), and a literal \
+with `__proto__: v` that is no pattern (`proto`), which no row shows (`left_out_by`).
 
 ## Productions
 """
@@ -285,11 +288,11 @@ def page(it):
         return f"`{name}`"
 
     out = PAGE.format(levels=256)
-    for name, levels, words in it.notation:
+    for name, levels, words, form in it.notation:
         if levels is None:
             out += f"\n### {name.lstrip('/ ').rstrip('.')}\n\n| Production | Constituents | Levels |\n|---|---|---|\n"
         else:
-            out += f"| {name} | {' '.join(map(word, words))} | {levels} |\n"
+            out += f"| {name} | {' '.join(map(word, words))} | {levels if form is None else f'left out: `{form.lower()}`'} |\n"
     out += "\n## Nonterminals\n\nA run `A .. B` is the productions from A to B, in the order above. Where a partial tree may have others than the "
     out += "whole one, they stand in brackets: they may yet become the first part of one of the nonterminal's own. `docs/DEFINITIONS.md` leads to "
     out += "what a tree must be beside that (covers, targets, an `else` at the nearest `if`).\n\n| Nonterminal | Productions | May begin |\n|---|---|---|\n"

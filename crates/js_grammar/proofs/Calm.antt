@@ -10,7 +10,8 @@ use Rattle.js_grammar.specs.declared.symbols.Production.{Production}
 use Rattle.js_grammar.specs.Grammar.{Tree, Leaf, Node, Absent, Row, Nil, Then, is, led, follow, behind, over, left, takes, spell, spells, Partial, Open, Within, begins, IsPart, Stands, IsPartial}
 use Rattle.js_grammar.specs.Machine.{Table}
 use Rattle.js_grammar.proofs.Sound.{only_some, after_is, and_true}
-use Rattle.js_grammar.proofs.Follows.{is_nil, is_empty, clear, not_started, quiet_row, before, calm_row, calm_partial}
+use Rattle.js_grammar.proofs.Ways.{is_nil, is_empty}
+use Rattle.js_grammar.proofs.Quiet.{clear, not_started, quiet_row, before, calm_row, calm_partial}
 
 abbrev pub implies : Bool → Bool → Bool
 implies true b = b
@@ -56,7 +57,7 @@ module _ (T : Table) (operator : Production → Bool) (harmless : Nonterminal �
   tight f Nil t = false
   tight f (Then r (Leaf u)) t = false
   tight f (Then r Absent) t = false
-  tight f (Then r (Node h q)) t = clear T operator (λ c f. true) (operator f && is_nil r) (left T.grammar f r) h t && (edge h t || tight h q t)
+  tight f (Then r (Node h q)) t = clear T operator (operator f && is_nil r) (left T.grammar f r) h t && (edge h t || tight h q t)
 
   -- what an operator's left operand may be ends before the operator
   abbrev pub Firsts : Production → List Constituent → Type 0
@@ -137,7 +138,7 @@ module _ (T : Table) (operator : Production → Bool) (harmless : Nonterminal �
 
       -- what is to be shown of a part that is a node: it is not gone on with, and it is whole
       abbrev pub Quiet : Bool → Option (List Constituent) → Production → Row → Lexeme → Type 0
-      Quiet b o h q t = (clear T operator (λ c f. true) b o h t ≡ true) × ((edge h t || tight h q t) ≡ true) × (left T.grammar h q ≡ Some [])
+      Quiet b o h q t = (clear T operator b o h t ≡ true) × ((edge h t || tight h q t) ≡ true) × (left T.grammar h q ≡ Some [])
 
       either_left : (a b : Bool) → a ≡ true → (a || b) ≡ true
       either_left a b h = rw h refl
@@ -193,7 +194,7 @@ module _ (T : Table) (operator : Production → Bool) (harmless : Nonterminal �
       or_right true b h = refl
       or_right false b h = h
 
-      gone : (e : Bool) (t : Lexeme) (b : Bool) (ps qs : List Constituent) → takes T.grammar (is T.grammar Absent) ps Absent ≡ Some qs → settles e t b ps ≡ true → comes e qs t ≡ true → (not_started T operator (λ c f. true) (Some ps) t ≡ true) × (comes e ps t ≡ true)
+      gone : (e : Bool) (t : Lexeme) (b : Bool) (ps qs : List Constituent) → takes T.grammar (is T.grammar Absent) ps Absent ≡ Some qs → settles e t b ps ≡ true → comes e qs t ≡ true → (not_started T operator (Some ps) t ≡ true) × (comes e ps t ≡ true)
       gone e t b [] qs k s c = cc
       gone e t b (Token w ∷ ps) qs k s c = cc
       gone e t b (Part d ∷ ps) qs k s c = cc
@@ -214,13 +215,13 @@ module _ (T : Table) (operator : Production → Bool) (harmless : Nonterminal �
       and_no true = refl
       and_no false = refl
 
-      first_clear : (f : Production) (h : Production) (q : Row) (t : Lexeme) → clear T operator (λ c f. true) (operator f) (Some (T.grammar.rule f)) h t ≡ true → clear T operator (λ c f. true) (operator f && true) (Some (T.grammar.rule f)) h t ≡ true
-      first_clear f h q t e = let P : Bool → Type 0 = λ b. clear T operator (λ c f. true) b (Some (T.grammar.rule f)) h t ≡ true in subst P (sym (and_yes (operator f))) e
+      first_clear : (f : Production) (h : Production) (q : Row) (t : Lexeme) → clear T operator (operator f) (Some (T.grammar.rule f)) h t ≡ true → clear T operator (operator f && true) (Some (T.grammar.rule f)) h t ≡ true
+      first_clear f h q t e = let P : Bool → Type 0 = λ b. clear T operator b (Some (T.grammar.rule f)) h t ≡ true in subst P (sym (and_yes (operator f))) e
 
-      later_clear : (f : Production) (r : Row) (y : Tree) (ps : List Constituent) (h : Production) (q : Row) (t : Lexeme) → left T.grammar f (Then r y) ≡ Some ps → clear T operator (λ c f. true) false (Some ps) h t ≡ true → clear T operator (λ c f. true) (operator f && false) (left T.grammar f (Then r y)) h t ≡ true
+      later_clear : (f : Production) (r : Row) (y : Tree) (ps : List Constituent) (h : Production) (q : Row) (t : Lexeme) → left T.grammar f (Then r y) ≡ Some ps → clear T operator false (Some ps) h t ≡ true → clear T operator (operator f && false) (left T.grammar f (Then r y)) h t ≡ true
       later_clear f r y ps h q t k e =
-          let P : Bool → Type 0 = λ b. clear T operator (λ c f. true) b (Some ps) h t ≡ true in
-          let Q : Option (List Constituent) → Type 0 = λ o. clear T operator (λ c f. true) (operator f && false) o h t ≡ true in
+          let P : Bool → Type 0 = λ b. clear T operator b (Some ps) h t ≡ true in
+          let Q : Option (List Constituent) → Type 0 = λ o. clear T operator (operator f && false) o h t ≡ true in
           subst Q (sym k) (subst P (sym (and_no (operator f))) e)
 
       -- a node as a part is whole
@@ -240,16 +241,16 @@ module _ (T : Table) (operator : Production → Bool) (harmless : Nonterminal �
       either false b X h g k = k h
 
       -- what holds of a lexeme that may come after a row: nothing in the row goes on with it
-      quiet_of : (r : Row) (b e : Bool) (t : Lexeme) (f : Production) (qs : List Constituent) → Test b e t f r → left T.grammar f r ≡ Some qs → comes e qs t ≡ true → quiet_row T operator (λ c f. true) f r t ≡ true
+      quiet_of : (r : Row) (b e : Bool) (t : Lexeme) (f : Production) (qs : List Constituent) → Test b e t f r → left T.grammar f r ≡ Some qs → comes e qs t ≡ true → quiet_row T operator f r t ≡ true
       quiet_of Nil b e t f qs s k c = refl
       quiet_of (Then r (Leaf u)) b e t f qs s k c = refl
       quiet_of (Then Nil Absent) false e t f qs s k c = cc
       quiet_of (Then (Then r y) Absent) false e t f qs s k c = cc
       quiet_of (Then r (Node h q)) false e t f qs s k c =
           let m = after_is (left T.grammar f r) _ qs k in
-          let n = and_true (clear T operator (λ c f. true) (operator f && is_nil r) (left T.grammar f r) h t) (edge h t || tight h q t) s in
+          let n = and_true (clear T operator (operator f && is_nil r) (left T.grammar f r) h t) (edge h t || tight h q t) s in
           let w = kid_whole m.0 qs h q m.2 in
-          both _ _ n.0 (either (edge h t) (tight h q t) (quiet_row T operator (λ c f. true) h q t ≡ true) n.1 (λ z. quiet_of q true true t h [] z w refl) (λ z. quiet_of q false true t h [] z w refl))
+          both _ _ n.0 (either (edge h t) (tight h q t) (quiet_row T operator h q t ≡ true) n.1 (λ z. quiet_of q true true t h [] z w refl) (λ z. quiet_of q false true t h [] z w refl))
       quiet_of (Then Nil Absent) true e t f qs s k c =
           let n = gone e t (operator f) (T.grammar.rule f) qs k s c in
           both _ true n.0 refl
@@ -259,11 +260,11 @@ module _ (T : Table) (operator : Production → Bool) (harmless : Nonterminal �
           both _ _ (rw m.1 n.0) (quiet_of (Then r y) true e t f m.0 s m.1 n.1)
       quiet_of (Then Nil (Node h q)) true e t f qs s k c =
           let n = node e t (operator f) f (T.grammar.rule f) qs h q k s c (λ o. (o, refl)) in
-          both _ _ (first_clear f h q t n.0) (either (edge h t) (tight h q t) (quiet_row T operator (λ c f. true) h q t ≡ true) n.1 (λ z. quiet_of q true true t h [] z n.2 refl) (λ z. quiet_of q false true t h [] z n.2 refl))
+          both _ _ (first_clear f h q t n.0) (either (edge h t) (tight h q t) (quiet_row T operator h q t ≡ true) n.1 (λ z. quiet_of q true true t h [] z n.2 refl) (λ z. quiet_of q false true t h [] z n.2 refl))
       quiet_of (Then (Then r y) (Node h q)) true e t f qs s k c =
           let m = after_is (left T.grammar f (Then r y)) _ qs k in
           let n = node e t false f m.0 qs h q m.2 (settles_row e t f r y m.0 s m.1) c (λ o. cc) in
-          both _ _ (later_clear f r y m.0 h q t m.1 n.0) (either (edge h t) (tight h q t) (quiet_row T operator (λ c f. true) h q t ≡ true) n.1 (λ z. quiet_of q true true t h [] z n.2 refl) (λ z. quiet_of q false true t h [] z n.2 refl))
+          both _ _ (later_clear f r y m.0 h q t m.1 n.0) (either (edge h t) (tight h q t) (quiet_row T operator h q t ≡ true) n.1 (λ z. quiet_of q true true t h [] z n.2 refl) (λ z. quiet_of q false true t h [] z n.2 refl))
 
       module _ (begun : (d : Nonterminal) (h : Production) (q : Row) (t : Lexeme) (ts : List Lexeme) → T.grammar.fits d h q ≡ true → left T.grammar h q ≡ Some [] → led T.grammar d (spells q) ≡ true → spells q ≡ t ∷ ts → is_empty (T.start d t) ≡ false) where
         not_empty : (l : List Production) → is_empty l ≡ false → not (is_empty l) ≡ true
@@ -299,12 +300,12 @@ module _ (T : Table) (operator : Production → Bool) (harmless : Nonterminal �
         part_comes e (Further d w ∷ ps) qs (Node h q) t ts k s = cc
         part_comes e (Further d w ∷ ps) qs Absent t ts k s = cc
 
-        before_of : (f : Production) (r : Row) (ts : List Lexeme) → ((t : Lexeme) (us : List Lexeme) → ts ≡ t ∷ us → quiet_row T operator (λ c f. true) f r t ≡ true) → before T operator (λ c f. true) f r ts ≡ true
+        before_of : (f : Production) (r : Row) (ts : List Lexeme) → ((t : Lexeme) (us : List Lexeme) → ts ≡ t ∷ us → quiet_row T operator f r t ≡ true) → before T operator f r ts ≡ true
         before_of f r [] h = refl
         before_of f r (t ∷ ts) h = h t ts refl
 
         -- each beginning of a production is calm
-        pub calm_of : (r : Row) (f : Production) (qs : List Constituent) → left T.grammar f r ≡ Some qs → calm_row T operator (λ c f. true) f r ≡ true
+        pub calm_of : (r : Row) (f : Production) (qs : List Constituent) → left T.grammar f r ≡ Some qs → calm_row T operator f r ≡ true
         calm_of Nil f qs k = refl
         calm_of (Then r (Leaf u)) f qs k =
             let m = after_is (left T.grammar f r) _ qs k in
@@ -330,7 +331,7 @@ module _ (T : Table) (operator : Production → Bool) (harmless : Nonterminal �
           parted p (Some (Further d w ∷ ps)) h = elim h [ ]
           parted p (Some (Optional d v ∷ ps)) h = (Optional d v ∷ ps, d, refl, h, λ t us e. or_left _ _ (not_empty (T.start d t) (partly d p t us h e)))
 
-          pub calm_partial_of : (p : Partial) (c : Nonterminal) → IsPartial T.grammar p c → calm_partial T operator (λ c f. true) p ≡ true
+          pub calm_partial_of : (p : Partial) (c : Nonterminal) → IsPartial T.grammar p c → calm_partial T operator p ≡ true
           calm_partial_of (Open f r) c h = let m = stood (left T.grammar f r) h.2 in calm_of r f m.0 m.1
           calm_partial_of (Within f r p) c h =
               let m = parted p (left T.grammar f r) h.2 in

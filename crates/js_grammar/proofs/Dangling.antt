@@ -16,7 +16,8 @@ use Rattle.js_grammar.specs.Table.{rule_of, place_of, number_of, stands_of, has_
 use Rattle.js_grammar.specs.Fits
 use Rattle.js_grammar.specs.Fits.{fits_of, refined, grammar, table, closed_row, closed, ends_with_statement, is_if, is_new, is_called_new}
 use Rattle.js_grammar.proofs.Sound.{and_true, only_some, after_is}
-use Rattle.js_grammar.proofs.Follows.{is_none, is_nil, clear}
+use Rattle.js_grammar.proofs.Ways.{is_none, is_nil}
+use Rattle.js_grammar.proofs.Quiet.{clear}
 use Rattle.js_grammar.proofs.Calm.{implies, implied, both, edge, tight, Firsts}
 use Rattle.js_grammar.proofs.Masks
 use Rattle.js_grammar.proofs.Places.{productions, terminals, terminal_at, at}
@@ -121,7 +122,7 @@ no_first : (f : Production) (d : Nonterminal) (r : Row) → Long f d → left gr
 no_first f d Nil l e = elim (l.2 (some_is (rule_of f) (Part d ∷ []) e)) [ ]
 no_first f d (Then r x) l e = and_no (operator_of f)
 
-clear_so : (b : Bool) (o : Option (List Constituent)) (d : Nonterminal) (h : Production) (t : Lexeme) → b ≡ false → o ≡ Some (Part d ∷ []) → wrap_of d h t.terminal ≡ None → clear table operator_of (λ c f. true) b o h t ≡ true
+clear_so : (b : Bool) (o : Option (List Constituent)) (d : Nonterminal) (h : Production) (t : Lexeme) → b ≡ false → o ≡ Some (Part d ∷ []) → wrap_of d h t.terminal ≡ None → clear table operator_of b o h t ≡ true
 clear_so b o d h t x y z = rw (x, y, z) refl
 
 -- such a production is gone on with only where its last part is

@@ -1,7 +1,6 @@
 -- What ends with the end of a source is a module that stands whole.
-use Rattle.std.proofs.Common.{◌≡◌, Bool, true, false, not, ◌&&◌, ◌||◌, cond, nat_eq, List, [], ◌∷◌, ◌++◌, Option, Some, None, ◌⊎◌, inl, inr, refl, sym, ap, subst, ◌∙◌}
+use Rattle.std.proofs.Common.{◌≡◌, Bool, true, false, not, ◌&&◌, ◌||◌, nat_eq, List, [], ◌∷◌, ◌++◌, Option, Some, None, ◌⊎◌, inl, inr, refl, sym, ap, subst, ◌∙◌}
 use Rattle.js_grammar.specs.declared.lexeme.Lexeme.{Lexeme}
-use Rattle.js_grammar.specs.declared.symbols.Terminal.{Terminal}
 use Rattle.js_grammar.specs.declared.symbols.Terminal.TheVariants as terminal
 use Rattle.js_grammar.specs.declared.symbols.Nonterminal.{Nonterminal}
 use Rattle.js_grammar.specs.declared.symbols.Nonterminal.TheVariants as nonterminal
@@ -13,8 +12,8 @@ use Rattle.js_grammar.specs.declared.constituents.Terminals.{Terminals}
 use Rattle.js_grammar.specs.declared.constituents.Terminals.TheVariants.{Is}
 use Rattle.js_grammar.specs.declared.constituents.Constituent.{Constituent}
 use Rattle.js_grammar.specs.declared.constituents.Constituent.TheVariants.{Token, Part, Optional, Further}
-use Rattle.js_grammar.specs.Grammar.{Tree, Leaf, Node, Absent, Row, Nil, Then, is, after, only_if, behind, follow, left, takes, spells}
-use Rattle.js_grammar.specs.Machine.{Item, State, item, begun, opened, or_else, choose, onward, wrapped, joined, put, complete, feed, feeds}
+use Rattle.js_grammar.specs.Grammar.{Tree, Leaf, Node, Absent, Row, Nil, Then, is, only_if, behind, follow, left, takes, spells}
+use Rattle.js_grammar.specs.Machine.{State, item, begun, opened, or_else, choose, onward, wrapped, joined, put, complete, feed, feeds}
 use Rattle.js_grammar.specs.Table
 use Rattle.js_grammar.specs.Table.{rule_of, stands_of, may_of, ends_of, index_of, place_of}
 use Rattle.js_grammar.specs.Fits.{grammar, table}
@@ -224,7 +223,7 @@ not_inside c g o h k = not_both (is_inside c) k (implied (may_of c production.Mo
     by (inl e) = or_left (may_of c production.Module) (may_of c production.Source) (ap (may_of c) (sym e) ∙ h)
     by (inr e) = or_right (may_of c production.Module) (may_of c production.Source) (ap (may_of c) (sym e) ∙ h)
 
-item_outer : nonterminal.StatementListItem ≡ nonterminal.StatementListItem → is_inside nonterminal.StatementListItem ≡ true
+item_outer : nonterminal.ModuleItem ≡ nonterminal.ModuleItem → is_inside nonterminal.ModuleItem ≡ true
 unfolding tables
 item_outer e = refl
 
@@ -238,7 +237,7 @@ asked_closed (Further c w ∷ ps) g ts o a h = elim a [ ]
 
 asked_tail : (ps : List Constituent) (g : Production) (ts : List Lexeme) → Outer g → Asked table production.Source ps g ts → Tail ps → ⊥
 asked_tail _ g ts o a whole_rule = elim a [ ]
-asked_tail _ g ts o a in_list = not_inside nonterminal.StatementListItem g o a.0 (item_outer refl)
+asked_tail _ g ts o a in_list = not_inside nonterminal.ModuleItem g o a.0 (item_outer refl)
 asked_tail _ g ts o a at_end = elim a [ ]
 asked_tail _ g ts o a over_it = elim a [ ]
 

@@ -12,7 +12,7 @@ use Rattle.js_grammar.specs.Machine.{State, item}
 use Rattle.js_grammar.specs.Table.{rule_of, ends_of, start_of, opens_of, guard_of, stands_of, may_of, has_of, wrap_of, pick, chosen, operators_at, firsts_of, first_in, heads_of, opens_with}
 use Rattle.js_grammar.specs.Fits.{fits_of, refined, table}
 use Rattle.js_grammar.proofs.Sound.{and_true, Below, Opens, Asked}
-use Rattle.js_grammar.proofs.Follows.{Way, by_word, by_operator, by_part}
+use Rattle.js_grammar.proofs.Ways.{Way, by_word, by_operator, by_part}
 use Rattle.js_grammar.proofs.Calm.{implies, implied, settles, edge}
 use Rattle.js_grammar.proofs.Places.{productions, terminals}
 use Rattle.js_grammar.proofs.Computed.{operator_of, harmless_of, edge_of, closes_of, lexeme, unwrapped}

@@ -1,5 +1,5 @@
 -- The reader is exact: what it takes has a partial tree, and all tokens of a partial tree are taken.
-use Rattle.std.proofs.Common.{◌≡◌, ℕ, Bool, true, false, ◌&&◌, nat_eq, List, [], ◌∷◌, ◌++◌, Option, Some, None, refl, sym, ap, ◌∙◌}
+use Rattle.std.proofs.Common.{◌≡◌, ℕ, ◌≤◌, Bool, true, false, ◌&&◌, nat_eq, List, [], ◌∷◌, ◌++◌, Option, Some, None, refl, sym, ap, ◌∙◌, arith}
 use Rattle.js_grammar.specs.declared.lexeme.Lexeme.{Lexeme}
 use Rattle.js_grammar.specs.declared.symbols.Nonterminal.{Nonterminal}
 use Rattle.js_grammar.specs.declared.symbols.Nonterminal.TheVariants as nonterminal
@@ -11,11 +11,12 @@ use Rattle.js_grammar.specs.Grammar.{Tree, Leaf, Node, Absent, Row, Nil, Then, i
 use Rattle.js_grammar.specs.Levels.{LowPartial, level, Shallow}
 use Rattle.js_grammar.specs.Machine.{State, item, feeds}
 use Rattle.js_grammar.specs.Table
-use Rattle.js_grammar.specs.Table.{rule_of, may_of, has_of, place_of, start_of, guard_of, levels_of, lead_levels_of}
+use Rattle.js_grammar.specs.Table.{rule_of, may_of, has_of, place_of, start_of, guard_of}
 use Rattle.js_grammar.specs.Fits.{fits_of, grammar, table}
 use Rattle.js_grammar.specs.Laws.{from}
 use Rattle.js_grammar.proofs.Sound.{and_true, after_is, Fine, held, feeds_comes, holds_partial}
-use Rattle.js_grammar.proofs.Follows.{is_empty, starts_row, no_nil, partial_starts, leads_partial, reads_partial, reads_closed, MayStart, Starts}
+use Rattle.js_grammar.proofs.Ways.{is_empty, starts_row, no_nil, partial_starts, leads_partial, MayStart, Starts}
+use Rattle.js_grammar.proofs.Follows.{reads_partial, reads_closed}
 use Rattle.js_grammar.proofs.Calm.{implies, implied, calm_of, calm_partial_of}
 use Rattle.js_grammar.proofs.Places.{productions}
 use Rattle.js_grammar.proofs.Computed.{operator_of, closes_of, tables}
@@ -53,28 +54,32 @@ not_empty c t x = rw x.2 refl
 first_of_row : (d : Nonterminal) (h : Production) (q : Row) (t : Lexeme) (ts : List Lexeme) → fits_of d h q ≡ true → left grammar h q ≡ Some [] → led grammar d (spells q) ≡ true → spells q ≡ t ∷ ts → is_empty (table.start d t) ≡ false
 first_of_row d h q t ts f l g e =
     let m = fits_leads d h q f in
-    let s = starts_row table operator_of may_of levels_of lead_levels_of fits_leads way q d h [] m l (no_nil table operator_of may_of levels_of lead_levels_of fits_leads way q d h m l) g in
-    let z : Starts table operator_of may_of levels_of lead_levels_of d (t ∷ ts) = rw e at s in
+    let s = starts_row table operator_of may_of fits_leads way q d h [] m l (no_nil table operator_of may_of fits_leads way q d h m l) g in
+    let z : Starts table operator_of may_of d (t ∷ ts) = rw e at s in
     not_empty d t z
 
 first_of_partial : (d : Nonterminal) (p : Partial) (t : Lexeme) (ts : List Lexeme) → IsPartial grammar p d → begins p ≡ t ∷ ts → is_empty (table.start d t) ≡ false
 first_of_partial d p t ts i e =
-    let s = partial_starts table operator_of may_of levels_of lead_levels_of fits_leads way (λ c f h. h) p d (leads_partial table operator_of may_of levels_of lead_levels_of fits_leads way (λ c f h. h) d p i) in
-    let z : MayStart table operator_of may_of levels_of lead_levels_of fits_leads way d (t ∷ ts) = rw e at s in
+    let s = partial_starts table operator_of may_of fits_leads way (λ c f h. h) p d (leads_partial table operator_of may_of fits_leads way (λ c f h. h) d p i) in
+    let z : MayStart table operator_of may_of fits_leads way d (t ∷ ts) = rw e at s in
     not_empty d t z
 
 -- all tokens of a partial tree are taken, and what is open then stands no deeper than it
-pub exact_low : (ts : List Lexeme) (h : HasPartial grammar nonterminal.Module ts) → (q : State) × (feeds table from ts ≡ Some q) × ((n : ℕ) → Shallow levels_of lead_levels_of n from → LowPartial levels_of lead_levels_of (level levels_of lead_levels_of from) n h.0 → Shallow levels_of lead_levels_of n q)
-exact_low ts h =
+pub exact_low : (cost step : Production → Row → ℕ) (grows : (f : Production) (r : Row) (x : Tree) → cost f r ≤ cost f (Then r x)) (ts : List Lexeme) (h : HasPartial grammar nonterminal.Module ts) → (q : State) × (feeds table from ts ≡ Some q) × ((n : ℕ) → Shallow cost step n from → LowPartial cost step (level cost step from) n h.0 → Shallow cost step n q)
+exact_low cost step grows ts h =
     let calm = calm_partial_of table operator_of harmless closes_of harmless_wrap (λ c f r t e k. harmless_edge c f r t e k) ending inside first first_of_row first_of_partial h.0 nonterminal.Module h.1 in
-    let m = reads_partial table operator_of may_of levels_of lead_levels_of fits_leads way (λ c f e. e) h.0 production.Source Nil (Part nonterminal.Module ∷ []) [] nonterminal.Module refl h.1 calm in
+    let m = reads_partial table operator_of may_of cost step grows fits_leads way (λ c f e. e) h.0 production.Source Nil (Part nonterminal.Module ∷ []) [] nonterminal.Module refl h.1 calm in
     (m.0, ap (feeds table from) (sym h.2) ∙ m.1, m.2)
 
+no_cost : Production → Row → ℕ
+no_cost f r = 0
+
+no_growth : (f : Production) (r : Row) (x : Tree) → no_cost f r ≤ no_cost f (Then r x)
+unfolding no_cost
+no_growth f r x = omega arith
+
 pub exact : (ts : List Lexeme) → HasPartial grammar nonterminal.Module ts → (q : State) × (feeds table from ts ≡ Some q)
-exact ts h =
-    let calm = calm_partial_of table operator_of harmless closes_of harmless_wrap (λ c f r t e k. harmless_edge c f r t e k) ending inside first first_of_row first_of_partial h.0 nonterminal.Module h.1 in
-    let m = reads_partial table operator_of may_of levels_of lead_levels_of fits_leads way (λ c f e. e) h.0 production.Source Nil (Part nonterminal.Module ∷ []) [] nonterminal.Module refl h.1 calm in
-    (m.0, ap (feeds table from) (sym h.2) ∙ m.1)
+exact ts h = let m = exact_low no_cost no_cost no_growth ts h in (m.0, m.1)
 
 sub_left : (ps : List Constituent) (x : Tree) → takes grammar (is grammar x) (Part nonterminal.Module ∷ []) x ≡ Some ps → ps ≡ []
 sub_left ps (Leaf u) h = cc
@@ -161,4 +166,4 @@ good ts q h = held_good q ts (feeds_comes table production.Source start_opens wr
 pub whole : (r : Row) (y : Tree) (u : Lexeme) → left grammar production.Module (Then (Then r y) (Leaf u)) ≡ Some [] → feeds table from (spells (Then (Then r y) (Leaf u))) ≡ Some (item production.Module (Then (Then r y) (Leaf u)) [] ∷ from)
 whole r y u e =
     let calm = calm_of table operator_of harmless closes_of harmless_wrap (λ c f r t e k. harmless_edge c f r t e k) ending inside first first_of_row (Then (Then r y) (Leaf u)) production.Module [] e in
-    reads_closed table operator_of may_of levels_of lead_levels_of fits_leads way production.Module r y u [] production.Source Nil (Part nonterminal.Module ∷ []) [] nonterminal.Module refl module_may (module_led (spells (Then r y))) e calm
+    reads_closed table operator_of may_of no_cost no_cost no_growth fits_leads way production.Module r y u [] production.Source Nil (Part nonterminal.Module ∷ []) [] nonterminal.Module refl module_may (module_led (spells (Then r y))) e calm

@@ -1,17 +1,24 @@
 -- The look ahead says what the reader does.
-use Rattle.std.proofs.Common.{◌≡◌, Bool, true, false, ◌&&◌, ◌||◌, List, [], ◌∷◌, Option, Some, None, refl}
+use Rattle.std.proofs.Common.{◌≡◌, Bool, true, false, ◌&&◌, ◌||◌, List, [], ◌∷◌, ◌++◌, Option, Some, None, refl, sym, ap, ◌∙◌, map, ◌+◌, ◌-◌, ◌≤◌, ◌<◌, length, take, get_or, arith}
+use Rattle.std.proofs.Math.Seq.{take-length}
+use Rattle.std.proofs.lemmas.List.{take_more}
 use Rattle.js_grammar.specs.declared.lexeme.Lexeme.{Lexeme}
 use Rattle.js_grammar.specs.declared.constituents.Constituent.{Constituent}
 use Rattle.js_grammar.specs.declared.constituents.Constituent.TheVariants.{Token, Part, Optional, Further}
 use Rattle.js_grammar.specs.declared.symbols.Production.{Production}
 use Rattle.js_grammar.specs.declared.summary.Summary.{Summary}
 use Rattle.js_grammar.specs.declared.event.Event.{Event}
+use Rattle.js_grammar.specs.declared.nesting.Nesting.{Nesting}
 use Rattle.js_grammar.specs.declared.event.Event.TheVariants as event
 use Rattle.js_grammar.specs.Grammar.{follow, only_if}
 use Rattle.js_grammar.specs.Table.{rule_of, ends_of, stands_of, start_of, wrap_of}
 use Rattle.js_grammar.specs.Fits.{with_node}
 use Rattle.js_grammar.specs.Flat.{fit_by, Shape, Flat, chosen_of, or_opened, joined_to, begun_flat, opened_flat, onward_flat, wrapped_flat, put_flat, complete_flat, fed_flat}
 use Rattle.js_grammar.specs.Laws.{is_some}
+use Rattle.js_grammar.specs.Looks.{put_looks}
+use Rattle.js_grammar.specs.Moves.{shapes_of, shape_in}
+use Rattle.js_grammar.specs.declared.open.OpenProduction.{OpenProduction}
+use Rattle.js_grammar.proofs.Reversed.{reverse_push}
 use Rattle.js_grammar.specs.Would.{begun_would, opened_would, or_would, onward_would, wrapped_would, joined_would, put_would, complete_would, would}
 
 only_some_is : (b : Bool) (q : Flat) → is_some (only_if b (Some q)) ≡ b
@@ -49,12 +56,12 @@ joined_is (Some f) a x w v e k = k f
 abbrev Ended : (Production → Summary → List Event → Option Flat) → (Production → Summary → Bool) → Type 0
 Ended flatly ended = (f : Production) (m : Summary) (o : List Event) → is_some (flatly f m o) ≡ ended f m
 
-onward_is : (flatly : Production → Summary → List Event → Option Flat) (ended : Production → Summary → Bool) (s : List Shape) (o : List Event) (f : Production) (m : Summary) (ps : List Constituent) (t : Lexeme) → Ended flatly ended → is_some (onward_flat flatly s o f m ps t) ≡ onward_would ended f m ps t
-onward_is flatly ended s o f m [] t e = e f m (event.Node f ∷ o)
-onward_is flatly ended s o f m (Token w ∷ ps) t e = only_some_is (stands_of w t.terminal) _
-onward_is flatly ended s o f m (Part c ∷ ps) t e = opened_is (start_of c t.terminal t.after_line) _ o t
-onward_is flatly ended s o f m (Optional c k ∷ ps) t e = or_is (start_of c t.terminal t.after_line) _ _ _ _ (onward_is flatly ended s (event.Absent ∷ o) f m ps t e) (opened_is (start_of c t.terminal t.after_line) _ o t)
-onward_is flatly ended s o f m (Further c w ∷ ps) t e = choose_is (stands_of w t.terminal) _ _ _ (onward_is flatly ended s (event.Absent ∷ o) f m ps t e)
+onward_is : (flatly : Production → Summary → List Event → Option Flat) (ended : Production → Summary → Bool) (s : List Shape) (o : List Event) (f : Production) (m : Summary) (b : Nesting) (ps : List Constituent) (t : Lexeme) → Ended flatly ended → is_some (onward_flat flatly s o f m b ps t) ≡ onward_would ended f m ps t
+onward_is flatly ended s o f m b [] t e = e f m (event.Node f ∷ o)
+onward_is flatly ended s o f m b (Token w ∷ ps) t e = only_some_is (stands_of w t.terminal) _
+onward_is flatly ended s o f m b (Part c ∷ ps) t e = opened_is (start_of c t.terminal t.after_line) _ o t
+onward_is flatly ended s o f m b (Optional c k ∷ ps) t e = or_is (start_of c t.terminal t.after_line) _ _ _ _ (onward_is flatly ended s (event.Absent ∷ o) f m b ps t e) (opened_is (start_of c t.terminal t.after_line) _ o t)
+onward_is flatly ended s o f m b (Further c w ∷ ps) t e = choose_is (stands_of w t.terminal) _ _ _ (onward_is flatly ended s (event.Absent ∷ o) f m b ps t e)
 
 wrapped_is : (f : Production) (ps : List Constituent) (s : List Shape) (o : List Event) (h : Production) (x : Summary) (t : Lexeme) → is_some (wrapped_flat f ps s o h x t) ≡ wrapped_would ps h x t
 wrapped_is f [] s o h x t = refl
@@ -67,20 +74,33 @@ wrapped_is f (Part c ∷ Optional d k ∷ ps) s o h x t = refl
 wrapped_is f (Part c ∷ Further d k ∷ ps) s o h x t = refl
 wrapped_is f (Part c ∷ Token w ∷ ps) s o h x t = only_is (fit_by c h x) (stands_of w t.terminal) _ (only_some_is (stands_of w t.terminal) _)
 
-put_is : (flatly : Production → Summary → List Event → Option Flat) (ended : Production → Summary → Bool) (s : List Shape) (o : List Event) (f : Production) (m : Summary) (ps : List Constituent) (h : Production) (x : Summary) (t : Lexeme) → Ended flatly ended → is_some (put_flat flatly s o f m ps h x t) ≡ put_would ended f m ps h x t
-put_is flatly ended s o f m [] h x t e = refl
-put_is flatly ended s o f m (Token w ∷ ps) h x t e = refl
-put_is flatly ended s o f m (Further c w ∷ ps) h x t e = refl
-put_is flatly ended s o f m (Part c ∷ ps) h x t e =
-    joined_is (wrap_of c h t.terminal) _ _ _ _ (only_is (fit_by c h x) _ _ (onward_is flatly ended s o f (with_node m h x) ps t e)) (λ u. wrapped_is u (rule_of u) _ o h x t)
-put_is flatly ended s o f m (Optional c k ∷ ps) h x t e =
-    joined_is (wrap_of c h t.terminal) _ _ _ _ (only_is (fit_by c h x) _ _ (onward_is flatly ended s o f (with_node m h x) (follow (ends_of h) c k ps) t e)) (λ u. wrapped_is u (rule_of u) _ o h x t)
+put_is : (flatly : Production → Summary → List Event → Option Flat) (ended : Production → Summary → Bool) (s : List Shape) (o : List Event) (f : Production) (m : Summary) (b : Nesting) (ps : List Constituent) (h : Production) (x : Summary) (t : Lexeme) → Ended flatly ended → is_some (put_flat flatly s o f m b ps h x t) ≡ put_would ended f m ps h x t
+put_is flatly ended s o f m b [] h x t e = refl
+put_is flatly ended s o f m b (Token w ∷ ps) h x t e = refl
+put_is flatly ended s o f m b (Further c w ∷ ps) h x t e = refl
+put_is flatly ended s o f m b (Part c ∷ ps) h x t e =
+    joined_is (wrap_of c h t.terminal) _ _ _ _ (only_is (fit_by c h x) _ _ (onward_is flatly ended s o f (with_node m h x) b ps t e)) (λ u. wrapped_is u (rule_of u) _ o h x t)
+put_is flatly ended s o f m b (Optional c k ∷ ps) h x t e =
+    joined_is (wrap_of c h t.terminal) _ _ _ _ (only_is (fit_by c h x) _ _ (onward_is flatly ended s o f (with_node m h x) b (follow (ends_of h) c k ps) t e)) (λ u. wrapped_is u (rule_of u) _ o h x t)
 
 complete_is : (s : List Shape) (t : Lexeme) → Ended (λ f m o. complete_flat s o f m t) (λ f m. complete_would s f m t)
 complete_is [] t f m o = refl
-complete_is (i ∷ s) t f m o = put_is (λ f m o. complete_flat s o f m t) (λ f m. complete_would s f m t) s o i.production i.summary i.rest f m t (complete_is s t)
+complete_is (i ∷ s) t f m o = put_is (λ f m o. complete_flat s o f m t) (λ f m. complete_would s f m t) s o i.production i.summary i.nesting i.rest f m t (complete_is s t)
 
 -- the lexeme is taken exactly where the look ahead says so
 pub would_is : (s : List Shape) (o : List Event) (t : Lexeme) → is_some (fed_flat s o t) ≡ would s t
 would_is [] o t = refl
-would_is (i ∷ s) o t = onward_is (λ f m o. complete_flat s o f m t) (λ f m. complete_would s f m t) s o i.production i.summary i.rest t (complete_is s t)
+would_is (i ∷ s) o t = onward_is (λ f m o. complete_flat s o f m t) (λ f m. complete_would s f m t) s o i.production i.summary i.nesting i.rest t (complete_is s t)
+
+-- what ends above an open production goes on below it
+completes : (below : List OpenProduction) (top : OpenProduction) (h : Production) (x : Summary) (t : Lexeme) (f : Production) (m : Summary) → ((k : Production → Summary → Bool) → put_looks top h x t k ≡ k f m) → complete_would (shapes_of (below ++ top ∷ [])) h x t ≡ complete_would (shapes_of below) f m t
+completes below top h x t f m e = ap (λ s. complete_would (map shape_in s) h x t) (reverse_push below top) ∙ e (λ f m. complete_would (shapes_of below) f m t)
+
+last_apart : (xs : List OpenProduction) (d : OpenProduction) → 1 ≤ length xs → take (length xs - 1) xs ++ get_or xs (length xs - 1) d ∷ [] ≡ xs
+last_apart xs d h =
+    let less : length xs - 1 < length xs = omega arith in
+    let same : length xs - 1 + 1 ≡ length xs = omega arith in
+    sym (take_more xs (length xs - 1) d less) ∙ ap (λ n. take n xs) same ∙ take-length xs
+
+pub completes_at : (items : List OpenProduction) (d : OpenProduction) (h : Production) (x : Summary) (t : Lexeme) (f : Production) (m : Summary) → 1 ≤ length items → ((k : Production → Summary → Bool) → put_looks (get_or items (length items - 1) d) h x t k ≡ k f m) → complete_would (shapes_of items) h x t ≡ complete_would (shapes_of (take (length items - 1) items)) f m t
+completes_at items d h x t f m p e = sym (ap (λ y. complete_would (shapes_of y) h x t) (last_apart items d p)) ∙ completes (take (length items - 1) items) (get_or items (length items - 1) d) h x t f m e

@@ -29,15 +29,15 @@ use Rattle.js_grammar.proofs.Insertion
 
 -- what may be left of the rule of a module
 pub data Tail : List Constituent → Type 0 where
-  whole_rule : Tail (Token (Is terminal.Start) ∷ Optional nonterminal.StatementListItem Many ∷ Token (Is terminal.End) ∷ [])
-  in_list : Tail (Optional nonterminal.StatementListItem Many ∷ Token (Is terminal.End) ∷ [])
+  whole_rule : Tail (Token (Is terminal.Start) ∷ Optional nonterminal.ModuleItem Many ∷ Token (Is terminal.End) ∷ [])
+  in_list : Tail (Optional nonterminal.ModuleItem Many ∷ Token (Is terminal.End) ∷ [])
   at_end : Tail (Token (Is terminal.End) ∷ [])
   over_it : Tail []
 
 along : (a b : List Constituent) → Tail a → Some a ≡ Some b → Tail b
 along a b t e = let k : a ≡ b = cc in subst Tail k t
 
-followed : (b : Bool) → Tail (cond b (Token (Is terminal.End) ∷ []) (Optional nonterminal.StatementListItem Many ∷ Token (Is terminal.End) ∷ []))
+followed : (b : Bool) → Tail (cond b (Token (Is terminal.End) ∷ []) (Optional nonterminal.ModuleItem Many ∷ Token (Is terminal.End) ∷ []))
 followed true = at_end
 followed false = in_list
 
@@ -47,7 +47,7 @@ takes_tail _ qs (Leaf u) in_list h = cc
 takes_tail _ qs (Leaf u) at_end h = along _ qs over_it (only_some (grammar.stands (Is terminal.End) u) _ qs h).1
 takes_tail _ qs (Leaf u) over_it h = cc
 takes_tail _ qs (Node f r) whole_rule h = cc
-takes_tail _ qs (Node f r) in_list h = along _ qs (followed (ends_of f)) (only_some (is grammar (Node f r) nonterminal.StatementListItem) _ qs h).1
+takes_tail _ qs (Node f r) in_list h = along _ qs (followed (ends_of f)) (only_some (is grammar (Node f r) nonterminal.ModuleItem) _ qs h).1
 takes_tail _ qs (Node f r) at_end h = cc
 takes_tail _ qs (Node f r) over_it h = cc
 takes_tail _ qs Absent whole_rule h = cc
@@ -55,7 +55,7 @@ takes_tail _ qs Absent in_list h = along _ qs at_end h
 takes_tail _ qs Absent at_end h = cc
 takes_tail _ qs Absent over_it h = cc
 
-not_over : (b : Bool) → Some (cond b (Token (Is terminal.End) ∷ []) (Optional nonterminal.StatementListItem Many ∷ Token (Is terminal.End) ∷ [])) ≡ Some [] → ⊥
+not_over : (b : Bool) → Some (cond b (Token (Is terminal.End) ∷ []) (Optional nonterminal.ModuleItem Many ∷ Token (Is terminal.End) ∷ [])) ≡ Some [] → ⊥
 not_over true h = cc
 not_over false h = cc
 
@@ -63,7 +63,7 @@ not_over false h = cc
 last_leaf : (ps : List Constituent) (x : Tree) → Tail ps → takes grammar (is grammar x) ps x ≡ Some [] → (u : Lexeme) × (x ≡ Leaf u)
 last_leaf _ (Leaf u) t h = (u, refl)
 last_leaf _ (Node f r) whole_rule h = cc
-last_leaf _ (Node f r) in_list h = absurd (not_over (ends_of f) (only_some (is grammar (Node f r) nonterminal.StatementListItem) _ [] h).1)
+last_leaf _ (Node f r) in_list h = absurd (not_over (ends_of f) (only_some (is grammar (Node f r) nonterminal.ModuleItem) _ [] h).1)
 last_leaf _ (Node f r) at_end h = cc
 last_leaf _ (Node f r) over_it h = cc
 last_leaf _ Absent whole_rule h = cc

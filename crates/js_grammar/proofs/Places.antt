@@ -17,7 +17,7 @@ at n [] = None
 at zero (x ∷ xs) = Some x
 at (suc n) (x ∷ xs) = at n xs
 
-abbrev productions_in : List (Production × ℕ × record { now : List Constituent }) → List Production
+abbrev productions_in : List (Production × record { now : List Constituent }) → List Production
 productions_in [] = []
 productions_in (x ∷ xs) = x.0 ∷ productions_in xs
 

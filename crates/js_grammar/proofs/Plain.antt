@@ -1,6 +1,6 @@
 -- A token whose terminal hangs on the next token stands wherever the plain one does: so the tokens up to and with it have a partial tree, or
 -- have none, whatever comes next.
-use Rattle.std.proofs.Common.{◌≡◌, ℕ, Bool, true, false, not, ◌&&◌, ◌||◌, List, [], ◌∷◌, ◌++◌, Option, Some, None, refl, sym, ap, subst, ◌∙◌, map, ◌⊎◌, inl, inr}
+use Rattle.std.proofs.Common.{◌≡◌, ℕ, Bool, true, false, not, ◌&&◌, ◌||◌, List, [], ◌∷◌, ◌++◌, Option, Some, None, refl, sym, ap, subst, ◌∙◌, ◌⊎◌, inl, inr}
 use Rattle.js_grammar.specs.declared.lexeme.Lexeme.{Lexeme}
 use Rattle.js_grammar.specs.declared.symbols.Terminal.{Terminal}
 use Rattle.js_grammar.specs.declared.symbols.Nonterminal.{Nonterminal}
@@ -13,16 +13,17 @@ use Rattle.js_grammar.specs.declared.constituents.Repetition.TheVariants.{Once, 
 use Rattle.js_grammar.specs.declared.constituents.Constituent.{Constituent}
 use Rattle.js_grammar.specs.declared.constituents.Constituent.TheVariants.{Token, Part, Optional, Further}
 use Rattle.js_grammar.specs.declared.summary.Summary.{Summary}
-use Rattle.js_grammar.specs.Grammar.{Tree, Leaf, Node, Absent, Row, Nil, Then, is, left, takes, only_if, follow, behind, spells}
-use Rattle.js_grammar.specs.Machine.{Item, State, item, begun, opened, or_else, choose, onward, wrapped, joined, put, complete, feed, feeds}
+use Rattle.js_grammar.specs.Grammar.{Tree, Leaf, Node, Absent, Row, Nil, Then, is, left, takes, follow, behind, spells}
+use Rattle.js_grammar.specs.Machine.{State, feed, feeds}
 use Rattle.js_grammar.specs.Table
 use Rattle.js_grammar.specs.Table.{rule_of, ends_of, stands_of, start_of, wrap_of, pick, operators_at, plain_of}
-use Rattle.js_grammar.specs.Fits.{grammar, table, with_node}
-use Rattle.js_grammar.specs.Flat.{fit_by, Shape, shape_of, laid_out}
+use Rattle.js_grammar.specs.Fits.{grammar, table, with_node, summary_of}
+use Rattle.js_grammar.specs.Flat.{fit_by, Shape, shape, nesting_on, laid_open, laid_out}
 use Rattle.js_grammar.specs.Would.{opened_would, or_would, onward_would, wrapped_would, joined_would, put_would, complete_would, would}
 use Rattle.js_grammar.specs.Laws.{from, so, is_some, plain, HasBeginning}
 use Rattle.js_grammar.proofs.Sound.{and_true, after_is, only_some, Fine, feeds_comes}
-use Rattle.js_grammar.proofs.Follows.{is_empty, is_nil}
+use Rattle.js_grammar.proofs.Ways.{is_empty, is_nil}
+use Rattle.js_grammar.proofs.Topped.{Topped, feed_tops}
 use Rattle.js_grammar.proofs.Places.{productions, terminals}
 use Rattle.js_grammar.proofs.Computed.{lexeme, tables}
 use Rattle.js_grammar.proofs.Tame.{all, each_production, each_terminal, same_productions, same_productions_is}
@@ -267,91 +268,9 @@ waits_left Nil f ps t h =
     subst P same (waits_firm t.at t.terminal (rule_of f) (rule_test f t.at).0 (steady_rule f t))
 waits_left (Then r x) f ps t h = waits_steady t.at t.terminal ps (left_steady r f x ps t h)
 
-fine_waiting : (s : State) (ts : List Lexeme) (t : Lexeme) → Fine table production.Source s ts → Waiting t.at t.terminal (map shape_of s)
+fine_waiting : (s : State) (ts : List Lexeme) (t : Lexeme) → Fine table production.Source s ts → Waiting t.at t.terminal (laid_open s)
 fine_waiting [] ts t h = tt
 fine_waiting (i ∷ s) ts t h = (waits_left i.done i.production i.rest t h.0, fine_waiting s (spells i.done ++ ts) t h.2)
-
--- the innermost open production has a part after each token
-abbrev Topped : State → Type 0
-Topped [] = ⊥
-Topped (i ∷ s) = is_nil i.done ≡ false
-
-abbrev Tops : Option State → Type 0
-Tops o = (q : State) → o ≡ Some q → Topped q
-
-tops_none : Tops None
-tops_none q e = cc
-
-tops_some : (i : Item) (s : State) → is_nil i.done ≡ false → Tops (Some (i ∷ s))
-tops_some i s h q e = let same : i ∷ s ≡ q = cc in subst Topped same h
-
-tops_if : (b : Bool) (o : Option State) → Tops o → Tops (only_if b o)
-tops_if true o h = h
-tops_if false o h = tops_none
-
-begun_tops : (f : Production) (ps : List Constituent) (s : State) (t : Lexeme) → Tops (begun table f ps s t)
-begun_tops f [] s t = tops_none
-begun_tops f (Part c ∷ ps) s t = tops_none
-begun_tops f (Optional c v ∷ ps) s t = tops_none
-begun_tops f (Further c w ∷ ps) s t = tops_none
-begun_tops f (Token w ∷ ps) s t = tops_if (grammar.stands w t) _ (tops_some (item f (Then Nil (Leaf t)) ps) s refl)
-
-opened_tops : (fs : List Production) (s : State) (t : Lexeme) → Tops (opened table fs s t)
-opened_tops [] s t = tops_none
-opened_tops (f ∷ []) s t = begun_tops f (rule_of f) s t
-opened_tops (f ∷ h ∷ fs) s t = opened_tops (h ∷ fs) (item f Nil (rule_of f) ∷ s) t
-
-or_tops : (fs : List Production) (a b : Option State) → Tops a → Tops b → Tops (or_else fs a b)
-or_tops [] a b x y = x
-or_tops (f ∷ fs) a b x y = y
-
-choose_tops : (v : Bool) (a b : Option State) → Tops a → Tops b → Tops (choose v a b)
-choose_tops true a b x y = x
-choose_tops false a b x y = y
-
-joined_tops : (o : Option Production) (a : Option State) (w : Production → Option State) → Tops a → ((u : Production) → Tops (w u)) → Tops (joined o a w)
-joined_tops None a w x y = x
-joined_tops (Some u) a w x y = y u
-
-abbrev Ends_topped : (Tree → Option State) → Type 0
-Ends_topped ended = (x : Tree) → Tops (ended x)
-
-onward_tops : (ended : Tree → Option State) (s : State) (f : Production) (r : Row) (ps : List Constituent) (t : Lexeme) → Ends_topped ended → Tops (onward table ended s f r ps t)
-onward_tops ended s f r [] t e = e (Node f r)
-onward_tops ended s f r (Token w ∷ ps) t e = tops_if (grammar.stands w t) _ (tops_some (item f (Then r (Leaf t)) ps) s refl)
-onward_tops ended s f r (Part c ∷ ps) t e = opened_tops (table.start c t) _ t
-onward_tops ended s f r (Optional c v ∷ ps) t e = or_tops (table.start c t) _ _ (onward_tops ended s f (Then r Absent) ps t e) (opened_tops (table.start c t) _ t)
-onward_tops ended s f r (Further c w ∷ ps) t e = choose_tops (grammar.stands w t) _ _ (tops_some (item f (Then r (Leaf t)) (Optional c (Listed w) ∷ ps)) s refl) (onward_tops ended s f (Then r Absent) ps t e)
-
-wrapped_tops : (f : Production) (ps : List Constituent) (s : State) (x : Tree) (t : Lexeme) → Tops (wrapped table f ps s x t)
-wrapped_tops f [] s x t = tops_none
-wrapped_tops f (Token w ∷ ps) s x t = tops_none
-wrapped_tops f (Optional c v ∷ ps) s x t = tops_none
-wrapped_tops f (Further c w ∷ ps) s x t = tops_none
-wrapped_tops f (Part c ∷ []) s x t = tops_none
-wrapped_tops f (Part c ∷ Part d ∷ ps) s x t = tops_none
-wrapped_tops f (Part c ∷ Optional d v ∷ ps) s x t = tops_none
-wrapped_tops f (Part c ∷ Further d w ∷ ps) s x t = tops_none
-wrapped_tops f (Part c ∷ Token w ∷ ps) s x t = tops_if _ _ (tops_if (grammar.stands w t) _ (tops_some (item f (Then (Then Nil x) (Leaf t)) ps) s refl))
-
-put_tops : (ended : Tree → Option State) (s : State) (f : Production) (r : Row) (ps : List Constituent) (x : Tree) (t : Lexeme) → Ends_topped ended → Tops (put table ended s f r ps x t)
-put_tops ended s f r [] x t e = tops_none
-put_tops ended s f r (Token w ∷ ps) x t e = tops_none
-put_tops ended s f r (Further c w ∷ ps) x t e = tops_none
-put_tops ended s f r (Part c ∷ ps) (Leaf u) t e = tops_none
-put_tops ended s f r (Part c ∷ ps) Absent t e = tops_none
-put_tops ended s f r (Part c ∷ ps) (Node h q) t e = joined_tops (table.wrap c h t) _ _ (tops_if _ _ (onward_tops ended s f (Then r (Node h q)) ps t e)) (λ u. wrapped_tops u (rule_of u) _ (Node h q) t)
-put_tops ended s f r (Optional c v ∷ ps) (Leaf u) t e = tops_none
-put_tops ended s f r (Optional c v ∷ ps) Absent t e = tops_none
-put_tops ended s f r (Optional c v ∷ ps) (Node h q) t e = joined_tops (table.wrap c h t) _ _ (tops_if _ _ (onward_tops ended s f (Then r (Node h q)) (follow (ends_of h) c v ps) t e)) (λ u. wrapped_tops u (rule_of u) _ (Node h q) t)
-
-complete_tops : (s : State) (t : Lexeme) → Ends_topped (λ x. complete table s x t)
-complete_tops [] t x = tops_none
-complete_tops (i ∷ s) t x = put_tops (λ y. complete table s y t) s i.production i.done i.rest x t (complete_tops s t)
-
-feed_tops : (s : State) (t : Lexeme) → Tops (feed table s t)
-feed_tops [] t = tops_none
-feed_tops (i ∷ s) t = onward_tops (λ y. complete table s y t) s i.production i.done i.rest t (complete_tops s t)
 
 -- what the reader has after some tokens: nothing yet, or a part at the top
 abbrev Ready : State → Type 0
@@ -367,16 +286,16 @@ row_steady : (r : Row) (f : Production) (ps : List Constituent) (t : Lexeme) →
 row_steady Nil f ps t n h = cc
 row_steady (Then r x) f ps t n h = left_steady r f x ps t h
 
-from_same : (t : Lexeme) → would (map shape_of from) t ≡ would (map shape_of from) (plain t)
+from_same : (t : Lexeme) → would (laid_open from) t ≡ would (laid_open from) (plain t)
 from_same t = (start_same nonterminal.Module t (each_terminal (λ k. part_same t.at nonterminal.Module k) (source_test t.at) t.terminal)).1
 
-state_same : (q : State) (t : Lexeme) → Fine table production.Source q [] → Ready q → would (map shape_of q) t ≡ would (map shape_of q) (plain t)
-state_same q t h (inl e) = let P : State → Type 0 = λ q. would (map shape_of q) t ≡ would (map shape_of q) (plain t) in subst P (sym e) (from_same t)
+state_same : (q : State) (t : Lexeme) → Fine table production.Source q [] → Ready q → would (laid_open q) t ≡ would (laid_open q) (plain t)
+state_same q t h (inl e) = let P : State → Type 0 = λ q. would (laid_open q) t ≡ would (laid_open q) (plain t) in subst P (sym e) (from_same t)
 state_same [] t h (inr n) = refl
-state_same (i ∷ s) t h (inr n) = would_same (shape_of i) (map shape_of s) t (row_steady i.done i.production i.rest t n h.0) (fine_waiting s (spells i.done ++ []) t h.2)
+state_same (i ∷ s) t h (inr n) = would_same (shape i.production (summary_of i.done) (nesting_on (laid_open s)) i.rest) (laid_open s) t (row_steady i.done i.production i.rest t n h.0) (fine_waiting s (spells i.done ++ []) t h.2)
 
-would_feed : (s : State) (t : Lexeme) → is_some (so (feed table s t)) ≡ would (map shape_of s) t
-would_feed s t = ap is_some (sym (fed_is s t)) ∙ would_is (map shape_of s) (laid_out s) t
+would_feed : (s : State) (t : Lexeme) → is_some (so (feed table s t)) ≡ would (laid_open s) t
+would_feed s t = ap is_some (sym (fed_is s t)) ∙ would_is (laid_open s) (laid_out s) t
 
 fed_some : (o : Option State) (q : State) → o ≡ Some q → is_some (so o) ≡ true
 fed_some None q e = cc

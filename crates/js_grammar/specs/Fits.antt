@@ -1,5 +1,5 @@
 -- What a tree has to be beside being built by the rules: the refinements of the cover grammars, and the whole grammar.
-use Rattle.std.specs.Prelude.{Bool, true, false, not, ◌&&◌, ◌||◌, Option, Some, None}
+use Rattle.std.specs.Prelude.{max, Bool, true, false, not, ◌&&◌, ◌||◌, cond, Option, Some, None}
 use Rattle.js_grammar.specs.declared.lexeme.Lexeme.{Lexeme}
 use Rattle.js_grammar.specs.declared.symbols.Terminal.{Terminal}
 use Rattle.js_grammar.specs.declared.symbols.Terminal.TheVariants as terminal
@@ -10,6 +10,7 @@ use Rattle.js_grammar.specs.declared.symbols.Production.{Production}
 use Rattle.js_grammar.specs.declared.symbols.Production.TheVariants as production
 use Rattle.js_grammar.specs.Grammar.{Tree, Leaf, Node, Absent, Row, Nil, Then, Grammar}
 use Rattle.js_grammar.specs.Machine.{Table}
+use Rattle.js_grammar.specs.Nesting.{height_of, first_form, forms_in}
 use Rattle.js_grammar.specs.Table.{rule_of, ends_of, stands_of, may_of, has_of, guard_of, start_of, wrap_of}
 
 -- literals, parentheses and what stands in them, which may be patterns
@@ -197,18 +198,13 @@ is_proto_first (Some t) = is_proto t.terminal
 abbrev pub ends_well : Production → Summary → Bool
 ends_well f m = not (is_parenthesized f || is_cover_comma f) || m.valued
 
--- no property `__proto__: v` stands, which the profile leaves out of literals
--- ECMA-262 __proto__ Property Names in Object Initializers
-abbrev pub is_plain : Production → Summary → Bool
-is_plain f m = not (is_property f && is_proto_first m.first)
-
 -- an expression, and no pattern alone: it has no CoverInitializedName, and its parentheses are those of an expression
 -- ECMA-262 CoverParenthesizedExpressionAndArrowParameterList, as a ParenthesizedExpression
 -- ECMA-262 ObjectLiteral, the early errors
 abbrev pub is_proper : Production → Summary → Bool
-is_proper f m = not (is_cover f) || (not (is_initialized_name f) && (ends_well f m && (is_plain f m && m.proper)))
+is_proper f m = not (is_cover f) || (not (is_initialized_name f) && (ends_well f m && m.proper))
 
--- `super.a` or `super[a]`, in parentheses too: the profile has no assignment to it
+-- `super.a` or `super[a]`, in parentheses too: the language has no assignment to it
 -- ECMA-262 SuperProperty
 abbrev pub is_super_property : Production → Summary → Bool
 is_super_property f m = (is_super f && not m.called) || (is_parenthesized f && m.super_property)
@@ -225,7 +221,7 @@ is_value_or_pattern f m = is_proper f m || (is_literal f && m.pattern)
 -- ECMA-262 AssignmentExpression, LeftHandSideExpression = AssignmentExpression
 -- ECMA-262 DestructuringAssignmentTarget
 abbrev pub is_target : Production → Summary → Bool
-is_target f m = has_of nonterminal.LeftHandSideExpression f && (not (is_super_property f m || (is_literal f && m.super_target)) && is_value_or_pattern f m)
+is_target f m = has_of nonterminal.LeftHandSideExpression f && is_value_or_pattern f m
 
 -- what may be bound
 -- ECMA-262 BindingIdentifier
@@ -262,14 +258,27 @@ ends_pattern f x = is_spread_element f || (is_spread_property f || (is_comma_ele
 abbrev pub is_closed : Production → Summary → Bool
 is_closed f x = not (ends_with_statement f) || (not (is_if f) && x.closed)
 
+-- a property `__proto__: v`, or a cover with one: the language has it in patterns alone
+-- ECMA-262 __proto__ Property Names in Object Initializers
+abbrev pub has_proto : Production → Summary → Bool
+has_proto f x = (is_property f && is_proto_first x.first) || (is_cover f && (x.proto_first || x.proto_rest))
+
+-- a literal that may be an assignment pattern
+abbrev pub is_literal_pattern : Production → Summary → Bool
+is_literal_pattern f x = is_literal f && x.pattern
+
+-- what may be assigned to in ECMA-262, and is a property of `super` or has one to assign to
+abbrev pub is_super_target : Production → Summary → Bool
+is_super_target f x = is_super_property f x || (is_literal f && x.super_target)
+
 abbrev pub empty_summary : Summary
-empty_summary = record { proper = true; valued = false; closed = true; called_new = false; pattern = true; binding = true; ended = false; target = false; bindable = false; literal = false; first_bindable = false; called = false; super_property = false; super_target = false; binding_pattern = false; initialized = false; lone = false; lacks = false; first = None }
+empty_summary = record { proper = true; valued = false; closed = true; called_new = false; pattern = true; binding = true; ended = false; target = false; bindable = false; literal = false; first_bindable = false; called = false; super_property = false; super_target = false; binding_pattern = false; initialized = false; lone = false; lacks = false; has_part = false; first_height = 0; height = 0; super_first = false; proto_value = false; proto_first = false; proto_rest = false; left_out = None; first = None }
 
 abbrev pub with_leaf : Summary → Lexeme → Summary
-with_leaf m t = record { proper = m.proper; valued = m.valued && is_closing_parenthesis t.terminal; closed = true; called_new = false; pattern = m.pattern && not (m.ended && is_comma t.terminal); binding = m.binding && not (m.ended && is_comma t.terminal); ended = m.ended; target = m.target; bindable = m.bindable; literal = m.literal; first_bindable = m.first_bindable; called = m.called; super_property = m.super_property && is_closing_parenthesis t.terminal; super_target = m.super_target; binding_pattern = m.binding_pattern; initialized = m.initialized; lone = m.lone; lacks = m.lacks; first = first_some m.first (Some t) }
+with_leaf m t = record { proper = m.proper; valued = m.valued && is_closing_parenthesis t.terminal; closed = true; called_new = false; pattern = m.pattern && not (m.ended && is_comma t.terminal); binding = m.binding && not (m.ended && is_comma t.terminal); ended = m.ended; target = m.target; bindable = m.bindable; literal = m.literal; first_bindable = m.first_bindable; called = m.called; super_property = m.super_property && is_closing_parenthesis t.terminal; super_target = m.super_target; binding_pattern = m.binding_pattern; initialized = m.initialized; lone = m.lone; lacks = m.lacks; has_part = m.has_part; first_height = m.first_height; height = m.height; super_first = m.super_first; proto_value = m.proto_value; proto_first = m.proto_first; proto_rest = m.proto_rest; left_out = m.left_out; first = first_some m.first (Some t) }
 
 abbrev pub with_node : Summary → Production → Summary → Summary
-with_node m f x = record { proper = m.proper && is_proper f x; valued = not (is_cover_rest f); closed = is_closed f x; called_new = not (is_new f); pattern = m.pattern && (not m.ended && part_pattern f x); binding = m.binding && (not m.ended && part_binding f x); ended = m.ended || ends_pattern f x; target = is_target f x; bindable = is_bindable f x; literal = is_literal f; first_bindable = if_first m.first (is_bindable f x) m.first_bindable; called = is_super_call f; super_property = is_super_property f x; super_target = m.super_target || super_part f x; binding_pattern = is_binding_pattern f; initialized = m.initialized || is_initializer f; lone = is_for_binding f && not x.initialized; lacks = m.lacks || (is_for_binding f && x.binding_pattern); first = first_some m.first x.first }
+with_node m f x = record { proper = m.proper && is_proper f x; valued = not (is_cover_rest f); closed = is_closed f x; called_new = not (is_new f); pattern = m.pattern && (not m.ended && part_pattern f x); binding = m.binding && (not m.ended && part_binding f x); ended = m.ended || ends_pattern f x; target = is_target f x; bindable = is_bindable f x; literal = is_literal f; first_bindable = if_first m.first (is_bindable f x) m.first_bindable; called = is_super_call f; super_property = is_super_property f x; super_target = m.super_target || super_part f x; binding_pattern = is_binding_pattern f; initialized = m.initialized || is_initializer f; lone = is_for_binding f && not x.initialized; lacks = m.lacks || (is_for_binding f && x.binding_pattern); has_part = true; first_height = cond m.has_part m.first_height (height_of f x); height = cond m.has_part (max m.height (height_of f x)) m.height; super_first = m.super_first || (not m.has_part && is_super_target f x); proto_value = m.proto_value || (not m.has_part && (has_proto f x && not (is_literal_pattern f x))); proto_first = m.proto_first || (not m.has_part && has_proto f x); proto_rest = m.proto_rest || (m.has_part && has_proto f x); left_out = first_form m.left_out (forms_in f x); first = first_some m.first x.first }
 
 -- what is to be known of the parts of a production
 abbrev pub summary_of : Row → Summary
@@ -311,8 +320,6 @@ refined_by nonterminal.KeyedPropertyTail f m = true
 refined_by nonterminal.CommaElement f m = true
 refined_by nonterminal.CoverCommaHead f m = not (is_cover_comma f) || m.valued
 refined_by nonterminal.AssignmentTarget f m = is_target f m
-refined_by nonterminal.SimpleTarget f m = not (is_super_property f m) && is_proper f m
-refined_by nonterminal.UpdateOperand f m = not (is_super_property f m) && is_proper f m
 refined_by nonterminal.ArrowParameters f m = is_identifier f || m.binding
 -- a pattern has an initializer
 refined_by nonterminal.VariableDeclaration f m = not m.binding_pattern

@@ -1,9 +1,10 @@
 -- The laws of the grammar, of its levels and of its semicolons.
-use Rattle.std.specs.Prelude.{◌≡◌, ℕ, Bool, true, false, ◌||◌, List, [], ◌∷◌, ◌++◌, Option, Some, None, map}
+use Rattle.std.specs.Prelude.{◌≡◌, ℕ, Bool, true, false, ◌||◌, List, [], ◌∷◌, ◌++◌, Option, Some, None}
 use Rattle.js_grammar.specs.declared.lexeme.Lexeme.{Lexeme}
 use Rattle.js_grammar.specs.declared.symbols.Terminal.{Terminal}
 use Rattle.js_grammar.specs.declared.symbols.Terminal.TheVariants as terminal
 use Rattle.js_grammar.specs.declared.symbols.Nonterminal.TheVariants as nonterminal
+use Rattle.js_grammar.specs.declared.symbols.Production.{Production}
 use Rattle.js_grammar.specs.declared.symbols.Production.TheVariants as production
 use Rattle.js_grammar.specs.declared.constituents.Constituent.TheVariants.{Part}
 use Rattle.js_grammar.specs.declared.event.Event.{Event}
@@ -11,11 +12,11 @@ use Rattle.js_grammar.specs.Grammar.{Tree, Node, Row, Nil, IsSpelled, HasPartial
 use Rattle.js_grammar.specs.Machine.{State, item, feed, feeds}
 use Rattle.js_grammar.specs.Inserted.{Choice, HasTree, IsBegun, Rightly, marked, steps}
 use Rattle.js_grammar.specs.Inserted as inserted
-use Rattle.js_grammar.specs.Levels.{LowPartial, Shallow}
-use Rattle.js_grammar.specs.Flat.{Shape, Flat, fed_flat, flat_of, shape_of, laid_out}
+use Rattle.js_grammar.specs.Levels.{LowPartial, Shallow, cost_of, step_of}
+use Rattle.js_grammar.specs.Flat.{Shape, Flat, fed_flat, flat_of, laid_open, laid_out}
 use Rattle.js_grammar.specs.Would.{would}
 use Rattle.js_grammar.specs.Fits.{grammar, table}
-use Rattle.js_grammar.specs.Table.{levels_of, lead_levels_of, plain_of}
+use Rattle.js_grammar.specs.Table.{plain_of}
 
 -- the reader begins where a source is wanted
 abbrev pub from : State
@@ -67,13 +68,17 @@ Kept = (ts : List Lexeme) (t : Lexeme) → HasBeginning (ts ++ t ∷ []) → Has
 abbrev pub Kept_back : Type 0
 Kept_back = (ts : List Lexeme) (t : Lexeme) → HasBeginning (ts ++ plain t ∷ []) → HasBeginning (ts ++ t ∷ [])
 
+-- tokens that have a partial tree of at most n levels, as some count has them
+abbrev pub HasWithin : (Production → Row → ℕ) → (Production → Row → ℕ) → ℕ → List Lexeme → Type 0
+HasWithin cost step n ts = (h : HasBeginning ts) × LowPartial cost step 0 n h.0
+
 -- tokens that have a partial tree of at most n levels
 abbrev pub HasLow : ℕ → List Lexeme → Type 0
-HasLow n ts = (h : HasBeginning ts) × LowPartial levels_of lead_levels_of 0 n h.0
+HasLow n ts = HasWithin cost_of step_of n ts
 
 -- what stands and what is open is at most n levels deep
 abbrev pub IsShallow : ℕ → State → Type 0
-IsShallow n q = Shallow levels_of lead_levels_of n q
+IsShallow n q = Shallow cost_of step_of n q
 
 abbrev pub Low : Type 0
 Low = (ts : List Lexeme) (q : State) (n : ℕ) → Reads ts q → HasLow n ts → IsShallow n q
@@ -87,7 +92,7 @@ so (Some s) = Some (flat_of s)
 
 -- the reader over flat output does what the reader of trees does
 abbrev pub Flatly : Type 0
-Flatly = (s : State) (t : Lexeme) → fed_flat (map shape_of s) (laid_out s) t ≡ so (feed table s t)
+Flatly = (s : State) (t : Lexeme) → fed_flat (laid_open s) (laid_out s) t ≡ so (feed table s t)
 
 abbrev pub is_some : Option Flat → Bool
 is_some None = false

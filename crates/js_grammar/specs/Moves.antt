@@ -27,7 +27,7 @@ abbrev pub rest_of : Remainder → List Constituent
 rest_of x = constituents_of x.next x.later.now
 
 abbrev pub shape_in : OpenProduction → Shape
-shape_in x = shape x.production x.summary (rest_of x.rest)
+shape_in x = shape x.production x.summary x.nesting (rest_of x.rest)
 
 -- the program's lists have the latest last
 abbrev pub shapes_of : List OpenProduction → List Shape
@@ -62,21 +62,21 @@ fed_at xs es t = fed_flat (shapes_of xs.items) (latest es.items) t
 
 -- a token stands in a production, before these constituents
 abbrev pub leaf_at : Vec OpenProduction → Vec Event → OpenProduction → Lexeme → Flat
-leaf_at xs es i t = flat (shape i.production (with_leaf i.summary t) (rest_of i.rest) ∷ shapes_of xs.items) (event.Leaf t ∷ latest es.items)
+leaf_at xs es i t = flat (shape i.production (with_leaf i.summary t) i.nesting (rest_of i.rest) ∷ shapes_of xs.items) (event.Leaf t ∷ latest es.items)
 
 -- a part is opened within a production
 abbrev pub part_at : Vec OpenProduction → Vec Event → OpenProduction → Opening → Lexeme → Option Flat
 part_at xs es i o t = opened_flat (forms_of o) (shape_in i ∷ shapes_of xs.items) (latest es.items) t
 
 abbrev pub onward_at : OpenProduction → Lexeme → Move
-onward_at i t s o k = onward_flat k s o i.production i.summary (rest_of i.rest) t
+onward_at i t s o k = onward_flat k s o i.production i.summary i.nesting (rest_of i.rest) t
 
 -- a whole tree stands as a part, before these constituents, or an operator goes on with it
 abbrev pub stood_at : OpenProduction → Nonterminal → Remainder → Production → Summary → Lexeme → Move
-stood_at i c r h x t s o k = joined_to (wrap_of c h t.terminal) (only_if (fit_by c h x) (onward_flat k s o i.production (with_node i.summary h x) (rest_of r) t)) (turned_flat s o i.production i.summary (rest_of i.rest) h x t)
+stood_at i c r h x t s o k = joined_to (wrap_of c h t.terminal) (only_if (fit_by c h x) (onward_flat k s o i.production (with_node i.summary h x) i.nesting (rest_of r) t)) (turned_flat s o i.production i.summary i.nesting (rest_of i.rest) h x t)
 
 abbrev pub put_at : OpenProduction → Production → Summary → Lexeme → Move
-put_at i h x t s o k = put_flat k s o i.production i.summary (rest_of i.rest) h x t
+put_at i h x t s o k = put_flat k s o i.production i.summary i.nesting (rest_of i.rest) h x t
 
 -- what a move comes to, whatever follows a whole tree: the token is taken, or refused, or a whole tree stands before it
 abbrev pub Comes : Vec OpenProduction → Vec Event → Move → Vec OpenProduction → Vec Event → Progress → Type 0

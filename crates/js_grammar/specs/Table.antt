@@ -1,9 +1,10 @@
 -- What the table says, read from the data of the program.
-use Rattle.std.specs.Prelude.{zero, suc, ℕ, Bool, true, false, not, ◌&&◌, ◌||◌, nat_eq, nat_le, cond, List, [], ◌∷◌, Option, Some, None}
+use Rattle.std.specs.Prelude.{zero, suc, ℕ, Bool, true, false, not, ◌&&◌, ◌||◌, nat_eq, nat_le, cond, get_or, List, [], ◌∷◌, Option, Some, None}
 use denote.Enum.Declared.{tag_of}
 use Rattle.js_grammar.specs.contracts.symbols.Production.{the_type as the_productions}
 use Rattle.js_grammar.specs.contracts.symbols.Nonterminal.{the_type as the_nonterminals}
 use Rattle.js_grammar.specs.contracts.symbols.Terminal.{the_type as the_terminals}
+use Rattle.js_grammar.specs.declared.left_out.LeftOut.{LeftOut}
 use Rattle.js_grammar.specs.declared.symbols.Terminal.{Terminal}
 use Rattle.js_grammar.specs.declared.symbols.Terminal.TheVariants as terminal
 use Rattle.js_grammar.specs.declared.symbols.Nonterminal.{Nonterminal}
@@ -20,7 +21,7 @@ use Rattle.js_grammar.specs.declared.constituents.Lookahead.TheVariants.{Any, No
 use Rattle.js_grammar.specs.declared.constituents.NonterminalRow.{NonterminalRow}
 use Rattle.js_grammar.specs.declared.rules.Opening.{Opening}
 use Rattle.js_grammar.specs.declared.rules.Opening.TheVariants.{Nothing, One, Both}
-use Rattle.js_grammar.specs.declared.table.TheConstants.{RULES, NONTERMINALS, LAST}
+use Rattle.js_grammar.specs.declared.table.TheConstants.{RULES, LEVELS, LEFT_OUT, NONTERMINALS, LAST}
 use Rattle.js_grammar.specs.declared.heads.TheConstants.{HEADS}
 
 -- the places of productions, nonterminals and terminals among all
@@ -34,9 +35,9 @@ abbrev pub number_of : Terminal → ℕ
 number_of k = tag_of the_terminals k
 
 -- the parts of a production
-abbrev pub parts_at : List (Production × ℕ × record { now : List Constituent }) → ℕ → List Constituent
+abbrev pub parts_at : List (Production × record { now : List Constituent }) → ℕ → List Constituent
 parts_at [] n = []
-parts_at (x ∷ xs) zero = x.2.now
+parts_at (x ∷ xs) zero = x.1.now
 parts_at (x ∷ xs) (suc n) = parts_at xs n
 
 -- ECMA-262 Grammar Summary
@@ -44,14 +45,14 @@ unfoldable pub rule_of : Production → List Constituent
 rule_of f = parts_at RULES (place_of f)
 
 -- how many levels a production is by itself
-abbrev pub levels_at : List (Production × ℕ × record { now : List Constituent }) → ℕ → ℕ
-levels_at [] n = 0
-levels_at (x ∷ xs) zero = x.1
-levels_at (x ∷ xs) (suc n) = levels_at xs n
-
 -- own: nesting is limited, and ECMA-262 has no limit
 unfoldable pub levels_of : Production → ℕ
-levels_of f = levels_at RULES (place_of f)
+levels_of f = get_or LEVELS (place_of f) 0
+
+-- the form that a production is, of those that the language leaves out of ECMA-262
+-- own: what the language leaves out is named where it stands
+unfoldable pub form_of : Production → Option LeftOut
+form_of f = get_or LEFT_OUT (place_of f) None
 
 -- how many levels its first part stands below what the production stands in: with an `else` an `if` is still one statement, and with
 -- arguments a `new` is still one operator

@@ -3,12 +3,17 @@ ghost use Rattle.std.specs.Prelude.{◌≡◌, ◌∷◌, IfOk, reverse};
 ghost use Rattle.js_grammar.specs.Flat.{fed_in};
 ghost use Rattle.js_grammar.specs.Laws.{from_flat};
 ghost use Rattle.js_grammar.specs.Moves.{flat_in, latest, begun_at, opened_at, leaf_at, part_at, stood_at, onward_at, wrapped_at, put_at, fed_at, Comes, Opens, Takes};
+ghost use Rattle.js_grammar.specs.Profile.{is_too_deep, Tells_deep, left_out, Tells_form};
 ghost use Rattle.js_grammar.specs.Would.{would};
 
 use crate::constituents::{Constituent, Repetition};
 use crate::event::Event;
+use crate::left_out::LeftOut;
 use crate::lexeme::Lexeme;
-use crate::open::{OpenProduction, Remainder, ahead, before, follow};
+use crate::nesting::{MAX_LEVELS, outermost};
+use crate::open::{
+    OpenProduction, Remainder, nesting_on, remainder_after, remainder_of, with_remainder,
+};
 use crate::prospect::is_taken;
 use crate::rules::{Opening, ends_list, is_among, openings, operator, rule};
 use crate::summary::{Summary, empty_summary, fits, with_leaf, with_node};
@@ -42,6 +47,7 @@ impl PartialTree {
         stack.push(OpenProduction {
             production: Production::Source,
             summary: empty_summary(),
+            nesting: outermost(),
             rest: Remainder {
                 next: Some(Constituent::Part(Nonterminal::Module)),
                 later: &[],
@@ -67,6 +73,36 @@ impl PartialTree {
         take_next(&mut self.stack, &mut self.events, lexeme)
     }
 
+    /// Whether no partial tree of the tokens that were taken has as few levels as a tree may have, `MAX_LEVELS`.
+    #[tactic(auto, using(crate::proofs::Told::tells_deep))]
+    pub fn is_too_deep(&self) -> bool
+        ensures told { result ≡ is_too_deep self.now }
+        ensures exactly { Tells_deep self.now result }
+    {
+        self.passes_levels()
+    }
+
+    fn passes_levels(&self) -> bool
+        ensures { result ≡ is_too_deep self.now }
+    {
+        nesting_on(&self.stack).level > MAX_LEVELS
+    }
+
+    /// The form that is left out and that each partial tree of the tokens that were taken has, if there is one.
+    #[tactic(auto, using(crate::proofs::Told::tells_form))]
+    pub fn left_out(&self) -> Option<LeftOut>
+        ensures told { result ≡ left_out self.now }
+        ensures exactly { Tells_form self.now result }
+    {
+        self.form_in()
+    }
+
+    fn form_in(&self) -> Option<LeftOut>
+        ensures { result ≡ left_out self.now }
+    {
+        nesting_on(&self.stack).left_out
+    }
+
     /// What stands, in the order of the text, each production behind its parts. What is open has no event yet.
     pub fn events(&self) -> &[Event]
         ensures { reverse result.now ≡ self.now.out }
@@ -88,7 +124,7 @@ pub enum Progress {
 
 /// What stands grows by an event.
 #[tactic(auto, using(crate::proofs::Reversed::reverse_push))]
-fn note(out: &mut Vec<Event>, event: Event) -> Result<(), AllocError>
+fn add_event(out: &mut Vec<Event>, event: Event) -> Result<(), AllocError>
     ensures { IfOk result (λ _. latest out.new.items ≡ event ∷ latest out.old.items) }
 {
     out.push(event)?;
@@ -97,7 +133,7 @@ fn note(out: &mut Vec<Event>, event: Event) -> Result<(), AllocError>
 
 /// A production takes the token as its first constituent.
 #[tactic(auto, using(crate::proofs::Reversed::reverse_push))]
-fn begin(
+fn begin_production(
     stack: &mut Vec<OpenProduction>,
     out: &mut Vec<Event>,
     production: Production,
@@ -110,11 +146,13 @@ fn begin(
             if !is_among(lexeme.terminal, *set) {
                 return Ok(false);
             }
-            note(out, Event::Leaf(lexeme))?;
+            let nesting = nesting_on(stack);
+            add_event(out, Event::Leaf(lexeme))?;
             stack.push(OpenProduction {
                 production,
                 summary: with_leaf(empty_summary(), lexeme),
-                rest: ahead(later),
+                nesting,
+                rest: remainder_of(later),
             })?;
             Ok(true)
         }
@@ -134,14 +172,16 @@ fn open_each(
 {
     match opening {
         Opening::Nothing => Ok(false),
-        Opening::One(production) => begin(stack, out, production, lexeme),
+        Opening::One(production) => begin_production(stack, out, production, lexeme),
         Opening::Both(production, inner) => {
+            let nesting = nesting_on(stack);
             stack.push(OpenProduction {
                 production,
                 summary: empty_summary(),
-                rest: ahead(rule(production)),
+                nesting,
+                rest: remainder_of(rule(production)),
             })?;
-            begin(stack, out, inner, lexeme)
+            begin_production(stack, out, inner, lexeme)
         }
     }
 }
@@ -157,10 +197,11 @@ fn put_leaf(
     ensures { let there = leaf_at stack.old out.old behind lexeme in
         IfOk result (λ _. flat_in stack.new.items out.new.items ≡ there) }
 {
-    note(out, Event::Leaf(lexeme))?;
+    add_event(out, Event::Leaf(lexeme))?;
     stack.push(OpenProduction {
         production: behind.production,
         summary: with_leaf(behind.summary, lexeme),
+        nesting: behind.nesting,
         rest: behind.rest,
     })?;
     Ok(())
@@ -183,7 +224,7 @@ fn open_part(
 
 /// A production with its parts so far, before a token.
 #[tactic(auto, using(crate::proofs::Reversed::reverse_push))]
-fn advance(
+fn advance_production(
     stack: &mut Vec<OpenProduction>,
     out: &mut Vec<Event>,
     top: OpenProduction,
@@ -194,14 +235,14 @@ fn advance(
     let later = top.rest.later;
     match top.rest.next {
         None => {
-            note(out, Event::Node(top.production))?;
+            add_event(out, Event::Node(top.production))?;
             Ok(Progress::Ended(top.production, top.summary))
         }
         Some(Constituent::Token(set)) => {
             if !is_among(lexeme.terminal, set) {
                 return Ok(Progress::Refused);
             }
-            put_leaf(stack, out, before(top, ahead(later)), lexeme)?;
+            put_leaf(stack, out, with_remainder(top, remainder_of(later)), lexeme)?;
             Ok(Progress::Taken)
         }
         Some(Constituent::Part(nonterminal)) => {
@@ -216,8 +257,13 @@ fn advance(
         Some(Constituent::Optional(nonterminal, _)) => {
             let opening = openings(nonterminal, lexeme.terminal, lexeme.after_line);
             if matches!(opening, Opening::Nothing) {
-                note(out, Event::Absent)?;
-                return advance(stack, out, before(top, ahead(later)), lexeme);
+                add_event(out, Event::Absent)?;
+                return advance_production(
+                    stack,
+                    out,
+                    with_remainder(top, remainder_of(later)),
+                    lexeme,
+                );
             }
             let taken = open_part(stack, out, top, opening, lexeme)?;
             Ok(if taken {
@@ -228,11 +274,21 @@ fn advance(
         }
         Some(Constituent::Further(nonterminal, set)) => {
             if !is_among(lexeme.terminal, set) {
-                note(out, Event::Absent)?;
-                return advance(stack, out, before(top, ahead(later)), lexeme);
+                add_event(out, Event::Absent)?;
+                return advance_production(
+                    stack,
+                    out,
+                    with_remainder(top, remainder_of(later)),
+                    lexeme,
+                );
             }
             let next = Some(Constituent::Optional(nonterminal, Repetition::Listed(set)));
-            put_leaf(stack, out, before(top, Remainder { next, later }), lexeme)?;
+            put_leaf(
+                stack,
+                out,
+                with_remainder(top, Remainder { next, later }),
+                lexeme,
+            )?;
             Ok(Progress::Taken)
         }
     }
@@ -240,7 +296,7 @@ fn advance(
 
 /// A tree becomes the first part of a production, whose second constituent is the token.
 #[tactic(auto, using(crate::proofs::Reversed::reverse_push))]
-fn wrap(
+fn wrap_tree(
     stack: &mut Vec<OpenProduction>,
     out: &mut Vec<Event>,
     outer: Production,
@@ -260,11 +316,13 @@ fn wrap(
             if !fits(*nonterminal, inner, parts) || !is_among(lexeme.terminal, *set) {
                 return Ok(false);
             }
-            note(out, Event::Leaf(lexeme))?;
+            let nesting = nesting_on(stack);
+            add_event(out, Event::Leaf(lexeme))?;
             stack.push(OpenProduction {
                 production: outer,
                 summary: with_leaf(with_node(empty_summary(), inner, parts), lexeme),
-                rest: ahead(later),
+                nesting,
+                rest: remainder_of(later),
             })?;
             Ok(true)
         }
@@ -274,7 +332,7 @@ fn wrap(
 
 /// A whole tree becomes a part of an open production, before these constituents, or of one that stands there and goes on with the token.
 #[tactic(auto, using(crate::proofs::Reversed::reverse_push))]
-fn stand(
+fn stand_part(
     stack: &mut Vec<OpenProduction>,
     out: &mut Vec<Event>,
     top: OpenProduction,
@@ -289,7 +347,7 @@ fn stand(
 {
     if let Some(outer) = operator(nonterminal, inner, lexeme.terminal) {
         stack.push(top)?;
-        let taken = wrap(stack, out, outer, inner, parts, lexeme)?;
+        let taken = wrap_tree(stack, out, outer, inner, parts, lexeme)?;
         return Ok(if taken {
             Progress::Taken
         } else {
@@ -302,14 +360,15 @@ fn stand(
     let placed = OpenProduction {
         production: top.production,
         summary: with_node(top.summary, inner, parts),
+        nesting: top.nesting,
         rest: behind,
     };
-    advance(stack, out, placed, lexeme)
+    advance_production(stack, out, placed, lexeme)
 }
 
 /// A whole tree stands where an open production wants a part.
 #[tactic(auto, using(crate::proofs::Reversed::reverse_push))]
-fn place(
+fn place_tree(
     stack: &mut Vec<OpenProduction>,
     out: &mut Vec<Event>,
     top: OpenProduction,
@@ -323,12 +382,12 @@ fn place(
     let later = top.rest.later;
     match top.rest.next {
         Some(Constituent::Part(nonterminal)) => {
-            let behind = ahead(later);
-            stand(stack, out, top, nonterminal, behind, inner, parts, lexeme)
+            let behind = remainder_of(later);
+            stand_part(stack, out, top, nonterminal, behind, inner, parts, lexeme)
         }
         Some(Constituent::Optional(nonterminal, repetition)) => {
-            let behind = follow(ends_list(inner), nonterminal, repetition, later);
-            stand(stack, out, top, nonterminal, behind, inner, parts, lexeme)
+            let behind = remainder_after(ends_list(inner), nonterminal, repetition, later);
+            stand_part(stack, out, top, nonterminal, behind, inner, parts, lexeme)
         }
         _ => Ok(Progress::Refused),
     }
@@ -346,7 +405,7 @@ fn take_next(
     let Some(top) = stack.pop() else {
         return Ok(false);
     };
-    let mut progress = advance(stack, out, top, lexeme)?;
+    let mut progress = advance_production(stack, out, top, lexeme)?;
     loop {
         match progress {
             Progress::Taken => return Ok(true),
@@ -355,7 +414,7 @@ fn take_next(
                 let Some(top) = stack.pop() else {
                     return Ok(false);
                 };
-                progress = place(stack, out, top, inner, parts, lexeme)?;
+                progress = place_tree(stack, out, top, inner, parts, lexeme)?;
             }
         }
     }

@@ -1,9 +1,11 @@
 // Open productions: those of a partial tree that are not over.
 ghost use Rattle.std.specs.Prelude.{◌≡◌};
 ghost use Rattle.js_grammar.specs.Grammar.{follow};
-ghost use Rattle.js_grammar.specs.Moves.{rest_of};
+ghost use Rattle.js_grammar.specs.Flat.{nesting_on};
+ghost use Rattle.js_grammar.specs.Moves.{rest_of, shapes_of};
 
 use crate::constituents::{Constituent, Repetition};
+use crate::nesting::{Nesting, nested, outermost};
 use crate::summary::Summary;
 use crate::symbols::{Nonterminal, Production};
 
@@ -14,27 +16,40 @@ pub struct Remainder {
     pub later: &'static [Constituent],
 }
 
-/// An open production: what is to be known of its parts that stand, and the constituents to come.
+/// An open production: what is to be known of its parts that stand and of what is open around it, and the constituents to come.
 #[derive(Clone, Copy, Drop)]
 pub struct OpenProduction {
     pub production: Production,
     pub summary: Summary,
+    pub nesting: Nesting,
     pub rest: Remainder,
 }
 
 /// The same production with its parts so far, before these constituents.
-pub fn before(top: OpenProduction, rest: Remainder) -> OpenProduction
+pub fn with_remainder(top: OpenProduction, rest: Remainder) -> OpenProduction
     ensures { result ≡ record top { rest = rest } }
 {
     OpenProduction {
         production: top.production,
         summary: top.summary,
+        nesting: top.nesting,
         rest,
     }
 }
 
+/// What is to be known around what is opened next.
+#[tactic(auto, using(crate::proofs::Reversed::reverse_push))]
+pub fn nesting_on(stack: &[OpenProduction]) -> Nesting
+    ensures { result ≡ nesting_on (shapes_of stack.now) }
+{
+    match stack {
+        [] => outermost(),
+        [.., top] => nested(top.production, top.summary, top.nesting),
+    }
+}
+
 /// The constituents as they stand in a rule.
-pub fn ahead(rule: &'static [Constituent]) -> Remainder
+pub fn remainder_of(rule: &'static [Constituent]) -> Remainder
     ensures { rest_of result ≡ rule.now }
 {
     match rule {
@@ -50,7 +65,7 @@ pub fn ahead(rule: &'static [Constituent]) -> Remainder
 }
 
 /// The constituents that are to come after an optional part that stands. `over` says that it is the last of its list.
-pub fn follow(
+pub fn remainder_after(
     over: bool,
     nonterminal: Nonterminal,
     repetition: Repetition,
@@ -62,16 +77,16 @@ pub fn follow(
         Repetition::Once => {
             if over {
                 match later {
-                    [] => ahead(later),
-                    [_, behind @ ..] => ahead(behind),
+                    [] => remainder_of(later),
+                    [_, behind @ ..] => remainder_of(behind),
                 }
             } else {
-                ahead(later)
+                remainder_of(later)
             }
         }
         Repetition::Many => {
             if over {
-                ahead(later)
+                remainder_of(later)
             } else {
                 Remainder {
                     next: Some(Constituent::Optional(nonterminal, repetition)),
@@ -81,7 +96,7 @@ pub fn follow(
         }
         Repetition::Listed(set) => {
             if over {
-                ahead(later)
+                remainder_of(later)
             } else {
                 Remainder {
                     next: Some(Constituent::Further(nonterminal, set)),

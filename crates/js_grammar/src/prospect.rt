@@ -7,7 +7,7 @@ ghost use Rattle.js_grammar.specs.Looks.{Looks_so, put_looks, stood_looks};
 
 use crate::constituents::Constituent;
 use crate::lexeme::Lexeme;
-use crate::open::{OpenProduction, Remainder, ahead, follow};
+use crate::open::{OpenProduction, Remainder, remainder_after, remainder_of};
 use crate::rules::{Opening, ends_list, is_among, openings, operator, rule};
 use crate::summary::{Summary, fits, with_node};
 use crate::symbols::{Nonterminal, Production};
@@ -70,7 +70,7 @@ fn would_advance(
         Some(Constituent::Optional(nonterminal, _)) => {
             let opened = openings(nonterminal, lexeme.terminal, lexeme.after_line);
             if matches!(opened, Opening::Nothing) {
-                return would_advance(production, summary, ahead(later), lexeme);
+                return would_advance(production, summary, remainder_of(later), lexeme);
             }
             {
                 if would_open(opened, lexeme) {
@@ -84,7 +84,7 @@ fn would_advance(
             if is_among(lexeme.terminal, set) {
                 return Prospect::Yes;
             }
-            would_advance(production, summary, ahead(later), lexeme)
+            would_advance(production, summary, remainder_of(later), lexeme)
         }
     }
 }
@@ -132,10 +132,10 @@ fn would_place(top: OpenProduction, inner: Production, parts: Summary, lexeme: L
     let later = top.rest.later;
     match top.rest.next {
         Some(Constituent::Part(nonterminal)) => {
-            would_stand(top, nonterminal, ahead(later), inner, parts, lexeme)
+            would_stand(top, nonterminal, remainder_of(later), inner, parts, lexeme)
         }
         Some(Constituent::Optional(nonterminal, repetition)) => {
-            let behind = follow(ends_list(inner), nonterminal, repetition, later);
+            let behind = remainder_after(ends_list(inner), nonterminal, repetition, later);
             would_stand(top, nonterminal, behind, inner, parts, lexeme)
         }
         _ => Prospect::No,

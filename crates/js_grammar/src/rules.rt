@@ -1,18 +1,46 @@
 // What the table says of productions, nonterminals and terminals.
 ghost use Rattle.std.specs.Prelude.{◌≡◌};
-ghost use Rattle.js_grammar.specs.Table.{rule_of, ends_of, stands_of, members_of, may_members, has_members, may_of, has_of, guards, guard_at_start, guard_of, heads_of, operators_at, firsts_of, pick, wrap_of, first_in, inner_of, opened_by, start_of, forms_of};
+ghost use Rattle.js_grammar.specs.Table.{rule_of, levels_of, lead_levels_of, form_of, ends_of, stands_of, members_of, may_members, has_members, may_of, has_of, guards, guard_at_start, guard_of, heads_of, operators_at, firsts_of, pick, wrap_of, first_in, inner_of, opened_by, start_of, forms_of};
 
 use crate::constituents::{Constituent, Lookahead, Productions, Terminals};
 use crate::heads::HEADS;
+use crate::left_out::LeftOut;
 use crate::symbols::{Nonterminal, Production, Terminal};
-use crate::table::{LAST, NONTERMINALS, RULES};
+use crate::table::{LAST, LEFT_OUT, LEVELS, NONTERMINALS, RULES};
 
 /// The parts of a production.
 #[tactic(auto, unfolding(crate::specs::Table::rule_of))]
 pub fn rule(production: Production) -> &'static [Constituent]
     ensures { result.now ≡ rule_of production }
 {
-    RULES[production as usize].2
+    RULES[production as usize].1
+}
+
+/// How many levels a production is by itself.
+#[tactic(auto, unfolding(crate::specs::Table::levels_of))]
+pub fn levels(production: Production) -> u8
+    ensures { result ≡ levels_of production }
+{
+    LEVELS[production as usize]
+}
+
+/// How many levels the first part of a production stands below what the production stands in.
+#[tactic(auto, unfolding(crate::specs::Table::lead_levels_of))]
+pub fn lead_levels(production: Production) -> u8
+    ensures { result ≡ lead_levels_of production }
+{
+    match production {
+        Production::IfElseStatement | Production::NewWithArguments => 0,
+        _ => levels(production),
+    }
+}
+
+/// The form that a production is, of those that the language leaves out.
+#[tactic(auto, unfolding(crate::specs::Table::form_of))]
+pub fn left_out_form(production: Production) -> Option<LeftOut>
+    ensures { result ≡ form_of production }
+{
+    LEFT_OUT[production as usize]
 }
 
 /// Whether a list is over after the production.

@@ -1,11 +1,13 @@
 // What is to be known of the parts of a production.
-ghost use Rattle.std.specs.Prelude.{◌≡◌, ◌&&◌, ◌||◌, not};
-ghost use Rattle.js_grammar.specs.Fits.{is_cover, is_initialized_name, is_parenthesized, is_cover_comma, is_cover_rest, is_property, is_literal, is_identifier, is_inner, is_free, is_spread_element, is_spread_property, is_assignment, is_comma_element, is_super, is_super_call, is_new, is_if, ends_with_statement, is_binding_pattern, is_initializer, is_for_binding, is_for_declaration, is_closing_parenthesis, is_comma, is_async_of, is_proto, first_some, if_first, is_async_first, is_proto_first, ends_well, is_plain, is_proper, is_super_property, super_part, is_value_or_pattern, is_target, is_bindable, rest_pattern, rest_binding, part_pattern, part_binding, ends_pattern, is_closed, empty_summary, with_leaf, with_node, is_lone_declaration, refined_by};
+ghost use Rattle.std.specs.Prelude.{◌≡◌, ◌&&◌, ◌||◌, not, cond, max};
+ghost use Rattle.js_grammar.specs.Fits.{is_cover, is_initialized_name, is_parenthesized, is_cover_comma, is_cover_rest, is_property, is_literal, is_identifier, is_inner, is_free, is_spread_element, is_spread_property, is_assignment, is_comma_element, is_super, is_super_call, is_new, is_if, ends_with_statement, is_binding_pattern, is_initializer, is_for_binding, is_for_declaration, is_closing_parenthesis, is_comma, is_async_of, is_proto, first_some, if_first, is_async_first, is_proto_first, ends_well, is_proper, is_super_property, super_part, is_value_or_pattern, is_target, is_bindable, rest_pattern, rest_binding, part_pattern, part_binding, ends_pattern, is_closed, empty_summary, with_leaf, with_node, is_lone_declaration, is_super_target, has_proto, is_literal_pattern, refined_by};
 ghost use Rattle.js_grammar.specs.Guarded.{is_guarded};
 ghost use Rattle.js_grammar.specs.Flat.{led_by, fit_by};
 
 use crate::constituents::Lookahead;
+use crate::left_out::LeftOut;
 use crate::lexeme::Lexeme;
+use crate::nesting::{deeper, first_form, forms_in, height};
 use crate::rules::{guard, guard_at_start, has_production};
 use crate::symbols::{Nonterminal, Production, Terminal};
 
@@ -48,6 +50,22 @@ pub struct Summary {
     pub lone: bool,
     /// A binding of a `for` is a pattern without an initializer.
     pub lacks: bool,
+    /// A part stands.
+    pub has_part: bool,
+    /// How many levels the first part is.
+    pub first_height: u16,
+    /// How many levels the deepest of the other parts is.
+    pub height: u16,
+    /// The first part may be assigned to in ECMA-262 alone: it is a property of `super`, or has one to assign to.
+    pub super_first: bool,
+    /// The first part has a property `__proto__: v`, and may be no assignment pattern itself.
+    pub proto_value: bool,
+    /// The first part has a property `__proto__: v`.
+    pub proto_first: bool,
+    /// Another part has a property `__proto__: v`.
+    pub proto_rest: bool,
+    /// A form that is left out and that stands in a part.
+    pub left_out: Option<LeftOut>,
     /// The first token.
     pub first: Option<Lexeme>,
 }
@@ -363,21 +381,12 @@ fn ends_well(production: Production, summary: Summary) -> bool
     !(is_parenthesized(production) || is_cover_comma(production)) || summary.valued
 }
 
-fn is_plain(production: Production, summary: Summary) -> bool
-    ensures { result ≡ is_plain production summary }
-{
-    !(is_property(production) && is_proto_first(summary.first))
-}
-
 /// Whether a tree is an expression, and no pattern alone.
 fn is_proper(production: Production, summary: Summary) -> bool
     ensures { result ≡ is_proper production summary }
 {
     !is_cover(production)
-        || !is_initialized_name(production)
-            && ends_well(production, summary)
-            && is_plain(production, summary)
-            && summary.proper
+        || !is_initialized_name(production) && ends_well(production, summary) && summary.proper
 }
 
 fn is_super_property(production: Production, summary: Summary) -> bool
@@ -409,8 +418,6 @@ fn is_target(production: Production, summary: Summary) -> bool
     ensures { result ≡ is_target production summary }
 {
     has_production(Nonterminal::LeftHandSideExpression, production)
-        && !(is_super_property(production, summary)
-            || is_literal(production) && summary.super_target)
         && is_value_or_pattern(production, summary)
 }
 
@@ -478,6 +485,14 @@ pub fn empty_summary() -> Summary
         initialized: false,
         lone: false,
         lacks: false,
+        has_part: false,
+        first_height: 0,
+        height: 0,
+        super_first: false,
+        proto_value: false,
+        proto_first: false,
+        proto_rest: false,
+        left_out: None,
         first: None,
     }
 }
@@ -506,6 +521,14 @@ pub fn with_leaf(summary: Summary, lexeme: Lexeme) -> Summary
         initialized: summary.initialized,
         lone: summary.lone,
         lacks: summary.lacks,
+        has_part: summary.has_part,
+        first_height: summary.first_height,
+        height: summary.height,
+        super_first: summary.super_first,
+        proto_value: summary.proto_value,
+        proto_first: summary.proto_first,
+        proto_rest: summary.proto_rest,
+        left_out: summary.left_out,
         first: first_some(summary.first, Some(lexeme)),
     }
 }
@@ -567,10 +590,59 @@ fn lacks_with(summary: Summary, production: Production, parts: Summary) -> bool
     summary.lacks || is_for_binding(production) && parts.binding_pattern
 }
 
+fn first_height_with(summary: Summary, deep: u16) -> u16
+    ensures { result ≡ cond summary.has_part summary.first_height deep }
+{
+    if summary.has_part {
+        summary.first_height
+    } else {
+        deep
+    }
+}
+
+fn height_with(summary: Summary, deep: u16) -> u16
+    ensures { result ≡ cond summary.has_part (max summary.height deep) summary.height }
+{
+    if summary.has_part {
+        deeper(summary.height, deep)
+    } else {
+        summary.height
+    }
+}
+
+fn is_super_target(production: Production, parts: Summary) -> bool
+    ensures { result ≡ is_super_target production parts }
+{
+    is_super_property(production, parts) || is_literal(production) && parts.super_target
+}
+
+fn super_first_with(summary: Summary, production: Production, parts: Summary) -> bool
+    ensures { let led = not summary.has_part && is_super_target production parts in
+        result ≡ (summary.super_first || led) }
+{
+    summary.super_first || !summary.has_part && is_super_target(production, parts)
+}
+
+fn has_proto(production: Production, parts: Summary) -> bool
+    ensures { result ≡ has_proto production parts }
+{
+    is_property(production) && is_proto_first(parts.first)
+        || is_cover(production) && (parts.proto_first || parts.proto_rest)
+}
+
+fn proto_value_with(summary: Summary, proto: bool, production: Production, parts: Summary) -> bool
+    ensures { let value = proto && not (is_literal_pattern production parts) in
+        result ≡ (summary.proto_value || (not summary.has_part && value)) }
+{
+    summary.proto_value || !summary.has_part && proto && !(is_literal(production) && parts.pattern)
+}
+
 /// The summary of some parts and a tree.
 pub fn with_node(summary: Summary, production: Production, parts: Summary) -> Summary
     ensures { result ≡ with_node summary production parts }
 {
+    let deep = height(production, parts);
+    let proto = has_proto(production, parts);
     Summary {
         proper: proper_with(summary, production, parts),
         valued: !is_cover_rest(production),
@@ -594,6 +666,14 @@ pub fn with_node(summary: Summary, production: Production, parts: Summary) -> Su
         initialized: initialized_with(summary, production),
         lone: lone_node(production, parts),
         lacks: lacks_with(summary, production, parts),
+        has_part: true,
+        first_height: first_height_with(summary, deep),
+        height: height_with(summary, deep),
+        super_first: super_first_with(summary, production, parts),
+        proto_value: proto_value_with(summary, proto, production, parts),
+        proto_first: summary.proto_first || !summary.has_part && proto,
+        proto_rest: summary.proto_rest || summary.has_part && proto,
+        left_out: first_form(summary.left_out, forms_in(production, parts)),
         first: first_some(summary.first, parts.first),
     }
 }
@@ -606,7 +686,7 @@ fn is_lone_declaration(production: Production, summary: Summary) -> bool
 
 /// Whether a tree is what a nonterminal asks for, beside being of one of its productions.
 #[tactic(auto, unfolding(crate::specs::Fits::refined_by))]
-fn refined(nonterminal: Nonterminal, production: Production, summary: Summary) -> bool
+fn is_refined(nonterminal: Nonterminal, production: Production, summary: Summary) -> bool
     ensures { result ≡ refined_by nonterminal production summary }
 {
     match nonterminal {
@@ -622,9 +702,6 @@ fn refined(nonterminal: Nonterminal, production: Production, summary: Summary) -
         | Nonterminal::CommaElement => true,
         Nonterminal::CoverCommaHead => !is_cover_comma(production) || summary.valued,
         Nonterminal::AssignmentTarget => is_target(production, summary),
-        Nonterminal::SimpleTarget | Nonterminal::UpdateOperand => !is_super_property(
-            production, summary,
-        ) && is_proper(production, summary),
         Nonterminal::ArrowParameters => is_identifier(production) || summary.binding,
         Nonterminal::VariableDeclaration | Nonterminal::VariableDeclarationNoIn =>
             !summary.binding_pattern,
@@ -640,7 +717,7 @@ fn refined(nonterminal: Nonterminal, production: Production, summary: Summary) -
 
 /// Whether a tree begins as a nonterminal may.
 #[tactic(auto, using(crate::proofs::Pushed::led_unguarded))]
-fn led(nonterminal: Nonterminal, first: Option<Lexeme>) -> bool
+fn begins_as_asked(nonterminal: Nonterminal, first: Option<Lexeme>) -> bool
     ensures { result ≡ led_by nonterminal first }
 {
     if !is_guarded(nonterminal) {
@@ -657,6 +734,6 @@ pub fn fits(nonterminal: Nonterminal, production: Production, summary: Summary) 
     ensures { result ≡ fit_by nonterminal production summary }
 {
     has_production(nonterminal, production)
-        && refined(nonterminal, production, summary)
-        && led(nonterminal, summary.first)
+        && is_refined(nonterminal, production, summary)
+        && begins_as_asked(nonterminal, summary.first)
 }
