@@ -120,7 +120,7 @@ module _ {R S : Type 0} (names : Naming R S) (objects : List (Object R S)) (h : 
   me = object_at objects i
 
   -- another object in its place, with the same prototype and slot
-  kept : (o : Object R S) → o.prototype ≡ me.prototype → o.slot ≡ me.slot → ChainsEnd names (slice_set objects i o)
+  pub kept : (o : Object R S) → o.prototype ≡ me.prototype → o.slot ≡ me.slot → ChainsEnd names (slice_set objects i o)
   kept o prototype slot =
       ends_kept names objects (slice_set objects i o) (length-set objects i o)
       (λ j. on_test (nat_eq j i) ((object_at (slice_set objects i o) j).prototype ≡ (object_at objects j).prototype)
@@ -157,7 +157,7 @@ module _ {R S : Type 0} (names : Naming R S) (objects : List (Object R S)) (h : 
   deleted key None = h
   deleted key (Some d) = taken_out key (configurable_of d)
 
-  each : (x : asks.Ask R S) → After (verdict names (makes_cycle names objects (Own i)) me x)
+  pub each : (x : asks.Ask R S) → After (verdict names (makes_cycle names objects (Own i)) me x)
   each ask.GetPrototypeOf = h
   each (ask.SetPrototypeOf p) = both After (same_option names.same me.prototype p) (unchanged (flag true)) (set_prototype_if me p me.extensible (makes_cycle names objects (Own i) p)) h (prototype_set p me.extensible (makes_cycle names objects (Own i) p) refl)
   each ask.IsExtensible = h

@@ -18,7 +18,7 @@ use js_text::value::Key;
 use lava_base::memory::OutOfMemory;
 
 /// Defines a property, if the definition is not refused (ECMA-262, OrdinaryDefineOwnProperty). An object of the common part takes only what it is already.
-pub(crate) fn ordinary_define_own_property<S: Store>(
+pub fn ordinary_define_own_property<S: Store>(
     store: &mut S,
     common: &FrozenStore,
     target: Target,
