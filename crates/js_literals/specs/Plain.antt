@@ -10,7 +10,6 @@ abbrev pub is_itself : Delimiter → ℕ → Bool
 is_itself (Quote quote) c = not (c == quote || c == 92)
 is_itself Template c = not (c == 96 || c == 92 || c == 36 || c == 13)
 
--- such a character of ASCII
--- ECMA-262 UTF16EncodeCodePoint, step 2
+-- such a character of ASCII, which is one byte and one unit
 abbrev pub is_plain : Delimiter → ℕ → Bool
 is_plain delimiter c = nat_lt c 128 && is_itself delimiter c

@@ -12,7 +12,7 @@ use js_text::text::Text;
 use js_text::utf8::from_utf8;
 use std::alloc::Global;
 
-/// The text of a name without escapes, in UTF-16 (ECMA-262, "Static Semantics: StringValue" of an IdentifierName).
+/// The text of a name without escapes, in UTF-16 (ECMA-262, "Static Semantics: StringValue").
 ///
 /// `NotUtf8` and `TooLong` come as `from_utf8` of `js_text` says.
 pub fn identifier_text(alloc: Global, name: &[u8]) -> Result<Text, TextFault>
