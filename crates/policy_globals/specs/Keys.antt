@@ -1,5 +1,5 @@
 -- What the keys of a row say together: a key counts as its first two names.
-use Rattle.std.specs.Prelude.{ℕ, ◌==◌, ◌&&◌, Bool, List, [], ◌∷◌, length, nat_lt, Option, Some, None, bytes_eq, fold, if◌then◌else◌}
+use Rattle.std.specs.Prelude.{ℕ, ◌==◌, Bool, List, [], length, nat_lt, Option, Some, None, bytes_eq, fold, if◌then◌else◌}
 use Rattle.std.specs.List.{before_first, after_first, position_or_len}
 use Rattle.policy_row.specs.Rows.{Entries, raised}
 use Rattle.policy_row.specs.declared.grade.Grade.{Grade}

@@ -17,7 +17,6 @@ use policy_row::grade::Grade;
 use policy_row::row::grade_at;
 use std::alloc::Global;
 
-
 /// The globals that keys grant, in byte order.
 pub(crate) fn globals_of_keys(
     alloc: Global,
@@ -193,11 +192,7 @@ fn live_members_of(
 }
 
 /// Appends a name, if it is granted.
-fn push_live(
-    granted: &mut List<(Name, bool)>,
-    name: &Name,
-    grade: Grade,
-) -> Result<(), OutOfMemory>
+fn push_live(granted: &mut List<(Name, bool)>, name: &Name, grade: Grade) -> Result<(), OutOfMemory>
     ensures { let member = live_member name.now grade in
         OnOk result (granted.new ≡ granted.old ++ option_to_list member) }
 {
@@ -238,10 +233,7 @@ fn builtin_grant_of(
 }
 
 /// The list of the built-in modules that are granted.
-fn list_of_builtin(
-    alloc: Global,
-    grant: Option<Grant>,
-) -> Result<List<(Name, Grant)>, OutOfMemory>
+fn list_of_builtin(alloc: Global, grant: Option<Grant>) -> Result<List<(Name, Grant)>, OutOfMemory>
     ensures { IfOk result (λ grants. grants ≡ builtin_list grant) }
 {
     let mut builtins = List::new(alloc);

@@ -37,7 +37,12 @@ fn put_first(
     ensures { let old = by_bytes map.old.entries in let new = by_bytes map.new.entries in
         OnOk result (new ≡ with_first old (key.now, grade)) }
 {
-    raise_entry(alloc, map, first_of(key), grade_of_whole(second_of(key), grade))
+    raise_entry(
+        alloc,
+        map,
+        first_of(key),
+        grade_of_whole(second_of(key), grade),
+    )
 }
 
 /// The grade of a key for its first name alone.

@@ -60,7 +60,10 @@ fn push_whole(
 ) -> Result<(), OutOfMemory>
     ensures { OnOk result (grants.new ≡ grants.old ++ whole_grant object ∷ []) }
 {
-    grants.push((Name::of(alloc, object.name())?, Grant::Whole(object.number())))
+    grants.push((
+        Name::of(alloc, object.name())?,
+        Grant::Whole(object.number()),
+    ))
 }
 
 /// A start with these grants alone.

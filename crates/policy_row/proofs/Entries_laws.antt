@@ -1,5 +1,5 @@
 -- A map by strings is one by their bytes, in byte order.
-use Rattle.std.proofs.Common.{◌≡◌, ℕ, List, [], ◌∷◌, ◌++◌, Bool, true, false, ◌&&◌, cond, Option, Some, None, String, Global, string_bytes, string_cmp, map, bytes_eq, length, take, drop, refl, sym, ap, ◌∙◌, append_assoc, append-nil, Bor, zero, suc, ◌+◌, ◌<◌, get_or, add-one, drop-cons}
+use Rattle.std.proofs.Common.{◌≡◌, ℕ, List, [], ◌∷◌, ◌++◌, Bool, true, false, cond, Option, Some, None, String, Global, string_bytes, string_cmp, bytes_eq, length, drop, refl, sym, ap, ◌∙◌, append_assoc, append-nil, Bor, suc, ◌+◌, ◌<◌, get_or, add-one, drop-cons}
 use Rattle.std.proofs.lemmas.Cmp.{nat_list_cmp_total}
 use Rattle.std.proofs.lemmas.Map.Text.{is_eq-slice_cmp}
 use Rattle.std.specs.BTreeMap.{insert_entry, is_at}
@@ -9,7 +9,7 @@ use Rattle.std.specs.List.{AllByRecursion, list_all}
 use Rattle.std.specs.List.Sorted.{IsStrictlySortedBy}
 use Rattle.std.specs.Map.{keys_of, lookup}
 use Rattle.std.specs.Option.{IfSome, option_copied}
-use Rattle.std.specs.Ordering.{match_ordering, nat_cmp, is_lt, is_eq, ordering_reverse}
+use Rattle.std.specs.Ordering.{match_ordering, nat_cmp, is_lt, ordering_reverse}
 use Rattle.std.specs.declared.cmp.Ordering.{Ordering}
 use Rattle.std.specs.declared.cmp.Ordering.TheVariants.{Less, Equal, Greater}
 use Rattle.policy_row.specs.declared.grade.Grade.{Grade}
@@ -114,10 +114,10 @@ passed_at name es i e lt here h = sym (ap (at_name name) (from_place es i e lt h
 pub all_found : {K X : Type 0} (p : X → Bool) (test : K → Bool) (es : List (K × X)) → list_all (λ e. p e.1) es ≡ true → IfSome (lookup test es) (λ x. p x ≡ true)
 all_found p test [] h = record {}
 all_found p test (e ∷ es) h = by_test (test e.0) (first_so (p e.1) _ h) (all_found p test es (second_so (p e.1) _ h))
-    where
-      by_test : (b : Bool) → p e.1 ≡ true → IfSome (lookup test es) (λ x. p x ≡ true) → IfSome (cond b (Some e.1) (lookup test es)) (λ x. p x ≡ true)
-      by_test true here there = here
-      by_test false here there = there
+  where
+    by_test : (b : Bool) → p e.1 ≡ true → IfSome (lookup test es) (λ x. p x ≡ true) → IfSome (cond b (Some e.1) (lookup test es)) (λ x. p x ≡ true)
+    by_test true here there = here
+    by_test false here there = there
 
 -- the same behind a reference
 pub kept_found : {X : Type 0} (p : X → Bool) (o : Option (Bor X)) → IfSome (option_copied o) (λ x. p x ≡ true) → IfSome o (λ x. p x.now ≡ true)

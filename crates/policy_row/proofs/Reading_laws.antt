@@ -1,9 +1,9 @@
 -- What is read member by member.
-use Rattle.std.proofs.Common.{◌≡◌, ℕ, Bool, true, false, ◌&&◌, List, [], ◌∷◌, ◌++◌, Option, Some, None, Result, Ok, Err, IfErr, refl, sym, ap, ◌∙◌, inr, append_assoc, append-nil}
+use Rattle.std.proofs.Common.{◌≡◌, ℕ, Bool, true, false, ◌&&◌, List, [], ◌∷◌, ◌++◌, Some, None, Result, Ok, Err, IfErr, refl, sym, ap, ◌∙◌, inr, append_assoc, append-nil}
 use Rattle.std.specs.Cmp.{first_so, second_so}
 use Rattle.std.specs.List.{list_all}
 use Rattle.std.specs.Map.{keys_of}
-use Rattle.serde_json.specs.Data.{Data, null, boolean, number, string, array, object, Members, no_members, member}
+use Rattle.serde_json.specs.Data.{Data, null, boolean, number, string, array, object, Members, member}
 use Rattle.policy_row.specs.Reading.{Answers, Tells, IsJson, IsRefused, truth_grade, text_grade, grade_of, entry_key, bad_value, before_entries, first_entry, entries_in, before_rows, first_row, row_of, rows_in, policy_of}
 use Rattle.policy_row.specs.Rows.{Entries, Rows, may_stand}
 use Rattle.policy_row.specs.declared.fault.PolicyFault.{PolicyFault}

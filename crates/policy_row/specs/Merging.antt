@@ -1,5 +1,5 @@
 -- An override's rows over those of a policy.
-use Rattle.std.specs.Prelude.{List, [], fold, Option, Some, None}
+use Rattle.std.specs.Prelude.{[], fold, Option, Some, None}
 use Rattle.policy_row.specs.Rows.{Entries, Rows, at_name, with_entry}
 use Rattle.policy_row.specs.declared.row.Row.{Row}
 

@@ -8,7 +8,6 @@ use Rattle.policy_row.specs.Rows.{Entries, Rows}
 use Rattle.policy_row.specs.declared.fault.PolicyFault.{PolicyFault}
 use Rattle.policy_row.specs.declared.fault.PolicyFault.TheVariants.{Bad, OutOfMemory}
 use Rattle.policy_row.specs.declared.fault.PolicyFile.{PolicyFile}
-use Rattle.policy_row.specs.declared.fault.PolicyWhat.{PolicyWhat}
 use Rattle.policy_row.specs.declared.fault.PolicyWhat.TheVariants.{Json, Value}
 use Rattle.policy_row.specs.declared.grade.Grade.{Grade}
 use Rattle.policy_row.specs.declared.grade.Grade.TheVariants.{No, Yes, Write}

@@ -221,13 +221,7 @@ fn entries_of_members(
 }
 
 /// The refusal of an entry's value.
-fn bad_entry_at(
-    alloc: Global,
-    file: PolicyFile,
-    row: &str,
-    kind: Kind,
-    key: &str,
-) -> PolicyFault
+fn bad_entry_at(alloc: Global, file: PolicyFile, row: &str, kind: Kind, key: &str) -> PolicyFault
     ensures { let key = entry_key kind key.now in
         Tells result (bad_value file row.now key) }
 {

@@ -1,5 +1,5 @@
 -- One member more.
-use Rattle.std.proofs.Common.{◌≡◌, List, ℕ, Bor, ap, ◌∙◌}
+use Rattle.std.proofs.Common.{List, ℕ, Bor, ap, ◌∙◌}
 use Rattle.std.proofs.lemmas.List.{take_all}
 use Rattle.std.specs.List.{filter_map}
 use Rattle.policy_globals.specs.Starts.{host_member, member_if_granted}

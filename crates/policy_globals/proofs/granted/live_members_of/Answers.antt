@@ -1,5 +1,5 @@
 -- One name more.
-use Rattle.std.proofs.Common.{◌≡◌, ◌<◌, List, length, get_or, ap, subst, ◌∙◌}
+use Rattle.std.proofs.Common.{◌≡◌, ◌<◌, length, get_or, ap, subst, ◌∙◌}
 use Rattle.policy_globals.specs.Starts.{member_if_live}
 use Rattle.policy_globals.proofs.Lists.{picked_more}
 use Rattle.policy_globals.proofs.granted.live_members_of.Goals as goal

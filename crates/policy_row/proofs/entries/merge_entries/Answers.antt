@@ -1,5 +1,5 @@
 -- A list in order that is put into an empty map stays as it is.
-use Rattle.std.proofs.Common.{◌≡◌, ◌&&◌, Bool, true, refl, ap, ◌∙◌}
+use Rattle.std.proofs.Common.{◌≡◌, true, ap, ◌∙◌}
 use Rattle.std.specs.Cmp.{first_so, second_so}
 use Rattle.std.specs.List.{list_all}
 use Rattle.policy_row.specs.Merging.{merged_entries}

@@ -1,5 +1,5 @@
 -- An entry goes behind those before it.
-use Rattle.std.proofs.Common.{◌≡◌, List, [], ◌∷◌, ◌++◌, true, String, Global, string_bytes, Some, Ok, rules, append-nil, ap, sym, ◌∙◌}
+use Rattle.std.proofs.Common.{◌≡◌, [], ◌∷◌, ◌++◌, string_bytes, Some, rules, append-nil, ap, sym, ◌∙◌}
 use Rattle.std.specs.List.{list_all}
 use Rattle.std.specs.Map.{keys_of}
 use Rattle.serde_json.specs.View.{view, members_view}
@@ -23,12 +23,11 @@ loop-key-preserved c =
     let names = keys_of (by_bytes left) in
     let steps : l.key-iterator ≡ (c.in-Some.key.now, c.in-Some.value.now) ∷ left = c.in-Some.ensures.steps in
     let before : keys_of l.entries ++ key ∷ names ≡ keys_of (by_bytes c.into_iter-key-iterator.result) =
-      sym (ap (λ es. keys_of l.entries ++ keys_of (by_bytes es)) steps) ∙ l.invariant.1 in
+    sym (ap (λ es. keys_of l.entries ++ keys_of (by_bytes es)) steps) ∙ l.invariant.1 in
     let text : c.in_ok-of-in-Some-grade_of_value.field-0 ≡ key = c.in_ok-of-in-Some-grade_of_value.ensures ∙ c.as_str-in-Some-grade_of_value.ensures.value in
     let pushed : c.push.new.self ≡ l.entries ++ (key, grade) ∷ [] =
-      c.in_ok-push-in-Some-grade_of_value.ensures.ok ∙ ap (λ n. l.entries ++ (n, grade) ∷ []) text in
-    let read : grade_of kind d ≡ Some grade = sym c.in-Some-grade_of_value.ensures in
-    (
+    c.in_ok-push-in-Some-grade_of_value.ensures.ok ∙ ap (λ n. l.entries ++ (n, grade) ∷ []) text in
+    let read : grade_of kind d ≡ Some grade = sym c.in-Some-grade_of_value.ensures in (
       ap (λ es. behind es (entries_in file row kind (members_view left))) pushed ∙ entry_read file row kind l.entries key d (members_view left) grade (entries_in file row kind (members_view c.into_iter-key-iterator.result)) read (sym (ap (λ es. behind l.entries (entries_in file row kind (members_view es))) steps) ∙ l.invariant.0),
       ap (λ es. keys_of es ++ names) pushed ∙ names_step l.entries key grade names (keys_of (by_bytes c.into_iter-key-iterator.result)) before,
       ap (λ es. list_all (λ e. may_stand kind e.1) es) pushed ∙ all_pushed (may_stand kind) l.entries key grade l.invariant.2 (graded_may_stand kind d grade read),

@@ -1,6 +1,5 @@
 -- The first entry of the name is the one that is found.
 use Rattle.std.proofs.Common.{◌≡◌, ◌∙◌, sym, ap, bytes_eq, true, false, subst, ◌<◌, length, get_or}
-use Rattle.policy_row.specs.Rows.{at_name}
 use Rattle.policy_row.proofs.Entries_laws.{found_at, passed_at}
 use Rattle.policy_row.proofs.row.grade_at.Goals as goal
 
