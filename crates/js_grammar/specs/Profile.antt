@@ -53,3 +53,10 @@ left_out x = (nesting_on x.items).left_out
 abbrev pub Tells_form : Flat → Option LeftOut → Type 0
 Tells_form x None = (ts : List Lexeme) → Holds ts x → HasWithout any_form ts
 Tells_form x (Some f) = (ts : List Lexeme) → Holds ts x → HasWithout (is_form f) ts → ⊥
+
+-- what the program tells of any partial tree is so
+abbrev pub Deep_told : Type 0
+Deep_told = (x : Flat) → Tells_deep x (is_too_deep x)
+
+abbrev pub Form_told : Type 0
+Form_told = (x : Flat) → Tells_form x (left_out x)

@@ -1,5 +1,6 @@
 // Laws of the grammar, of its levels and of its semicolons.
 ghost use Rattle.js_grammar.specs.Laws.{Good, Exact, Read, Stands_whole, Kept, Kept_back, Low, Low_enough, Flatly, Looks_ahead, Begun, Refused, Inserted_read, Read_inserted, One_tree, Same_read, Ends_whole};
+ghost use Rattle.js_grammar.specs.Profile.{Deep_told, Form_told};
 
 /// The reader takes exactly the tokens that have a partial tree, and a module stands whole exactly where the tokens have a tree.
 pub fn exactly()
@@ -37,4 +38,10 @@ pub fn semicolons()
     ensures whole { Read_inserted }
     ensures one { One_tree }
     ensures same { Same_read }
+{}
+
+/// What the program tells of levels and of forms that are left out is so of all tokens that it may have taken.
+pub fn limits()
+    ensures deep { Deep_told }
+    ensures forms { Form_told }
 {}

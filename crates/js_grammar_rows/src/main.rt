@@ -4,13 +4,13 @@
 mod reading;
 mod words;
 
-use crate::reading::answer;
+use crate::reading::answer_to;
 use std::io;
 
 fn main(rt: HostRuntime) -> io::Result<()> {
     for line in rt.lines(rt.alloc()) {
         let line = line?;
-        match answer(rt.alloc(), line.as_str()) {
+        match answer_to(rt.alloc(), line.as_str()) {
             Ok(answer) => println!(rt; "{answer}: {}", line.as_str())?,
             Err(_) => println!(rt; "out of memory: {}", line.as_str())?,
         }

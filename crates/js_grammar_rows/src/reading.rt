@@ -57,7 +57,7 @@ fn name_of(form: LeftOut) -> &'static str {
 }
 
 /// What comes of the tokens of a line, behind the start of a source.
-pub fn answer(alloc: Global, line: &str) -> Result<Answer, AllocError> {
+pub fn answer_to(alloc: Global, line: &str) -> Result<Answer, AllocError> {
     let mut tree = PartialTree::new(alloc)?;
     tree.take(lexeme(Terminal::Start))?;
     let mut count: usize = 0;

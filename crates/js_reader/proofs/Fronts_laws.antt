@@ -11,9 +11,9 @@ use Rattle.js_grammar.specs.Laws.{from, plain, semi, do_semi, rule_stands, is_cl
 use Rattle.js_lexer.specs.declared.token.Token.{Token}
 use Rattle.js_reader.specs.Terminals.{terminal_of}
 use Rattle.js_reader.specs.Steps.{lexeme_of, start}
-use Rattle.js_reader.specs.Reading.{lexemes, HasPartialTree}
+use Rattle.js_reader.specs.Reading.{lexemes, ahead, HasPartialTree}
 use Rattle.js_reader.proofs.Terminals_laws.{one_ahead, plain_terminal, closing_plain}
-use Rattle.js_reader.proofs.Steps_laws.{stepping, going, on, ahead, place_of}
+use Rattle.js_reader.proofs.Steps_laws.{stepping, going, on, place_of}
 
 abbrev pub Is_taken : Option State → Type 0
 Is_taken o = (q : State) × (o ≡ Some q)
@@ -133,7 +133,7 @@ nearer source x (y ∷ b) v r = one_ahead source x y (b ++ v ∷ r) (b ++ v ∷ 
 abbrev with_terminal : ℕ → Token → Terminal → Lexeme
 with_terminal at t k = record { terminal = k; after_line = t.after_line; at = at }
 
-ahead_last : (source : List ℕ) (at : ℕ) (b : List Token) (v : Token) (r : List Token) → ahead source at (b ++ v ∷ []) r ≡ ahead source at b (v ∷ []) ++ lexeme_of source (place_of at b) v r ∷ []
+pub ahead_last : (source : List ℕ) (at : ℕ) (b : List Token) (v : Token) (r : List Token) → ahead source at (b ++ v ∷ []) r ≡ ahead source at b (v ∷ []) ++ lexeme_of source (place_of at b) v r ∷ []
 ahead_last source at [] v r = refl
 ahead_last source at (x ∷ b) v r =
     let k : with_terminal at x (terminal_of source x ((b ++ v ∷ []) ++ r)) ≡ with_terminal at x (terminal_of source x (b ++ v ∷ [])) = ap (with_terminal at x) (near source x b v r) in

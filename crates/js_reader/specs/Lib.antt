@@ -1,4 +1,5 @@
 pub mod Terminals
+pub mod Halts
 pub mod Steps
 pub mod Reading
 pub mod Sources

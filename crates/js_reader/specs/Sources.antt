@@ -1,5 +1,5 @@
 -- What a source is by the grammars: its tree, or what is wrong with it.
-use Rattle.std.specs.Prelude.{◌≡◌, ℕ, List, ◌⊎◌, Result, MatchResult}
+use Rattle.std.specs.Prelude.{◌≡◌, ℕ, List, ◌⊎◌}
 use Rattle.lava_base.specs.declared.place.Place.{Place}
 use Rattle.js_fault.specs.declared.fault.SyntaxFault.{SyntaxFault}
 use Rattle.js_fault.specs.declared.fault.SyntaxFault.TheVariants as fault
@@ -9,16 +9,16 @@ use Rattle.js_grammar.specs.Grammar.{Row}
 use Rattle.js_lexer.specs.Answers.{IsFault}
 use Rattle.js_lexer.specs.Sources.{IsTokens, end_place}
 use Rattle.js_lexer.specs.declared.token.Token.{Token}
-use Rattle.js_reader.specs.Reading.{IsTree, HasReason, events_of}
+use Rattle.js_reader.specs.Reading.{IsTree, IsInLanguage, HasReason, events_of}
 
--- the tokens of a source have the tree of a module
+-- the tokens of a source have the tree of a module within the language
 -- ECMA-262 ParseText, with Module as the goal
 abbrev pub HasSourceTree : List ℕ → Type 0
-HasSourceTree source = (ts : List Token) × (parts : Row) × IsTokens source ts × IsTree source ts parts
+HasSourceTree source = (ts : List Token) × (parts : Row) × IsTokens source ts × IsTree source ts parts × IsInLanguage source ts
 
 -- what stands is the tree of the source's tokens
 abbrev pub IsReading : List ℕ → Flat → Type 0
-IsReading source q = (ts : List Token) × (parts : Row) × IsTokens source ts × IsTree source ts parts × (q.out ≡ events_of parts)
+IsReading source q = (ts : List Token) × (parts : Row) × IsTokens source ts × IsTree source ts parts × IsInLanguage source ts × (q.out ≡ events_of parts)
 
 -- what is wrong with a source, and at which place: by the lexical grammar, or by the syntactic grammar where it has tokens
 -- own: which of several faults is told, and where
@@ -31,7 +31,3 @@ IsSyntaxFault source place what =
 abbrev pub HasSyntaxCause : List ℕ → SyntaxFault → Type 0
 HasSyntaxCause source (fault.At place what) = IsSyntaxFault source place what
 HasSyntaxCause source fault.OutOfMemory = Unit {0}
-
--- the refusal is this one, or want of memory
-abbrev pub IsRefusalOf : Place → SyntaxWhat → SyntaxFault → Type 0
-IsRefusalOf place what f = (f ≡ fault.At place what) ⊎ (f ≡ fault.OutOfMemory)

@@ -10,7 +10,10 @@ use Rattle.js_grammar.specs.Laws.{semi, do_semi, rule_stands}
 use Rattle.js_lexer.specs.declared.token.Token.{Token}
 use Rattle.js_fault.specs.declared.fault.SyntaxFault.{SyntaxFault}
 use Rattle.js_fault.specs.declared.fault.SyntaxFault.TheVariants as fault
-use Rattle.js_fault.specs.declared.fault.SyntaxWhat.TheVariants as what
+use Rattle.js_reader.specs.declared.halt.HaltCause.{HaltCause}
+use Rattle.js_reader.specs.declared.halt.HaltCause.TheVariants as cause
+use Rattle.js_reader.specs.declared.halt.Halt.{Halt}
+use Rattle.js_reader.specs.Halts.{halt, told_of, IsFaultOf}
 use Rattle.js_reader.specs.Terminals.{terminal_of}
 
 -- the start and the end of a source
@@ -40,14 +43,18 @@ or_so None o = o
 abbrev pub stepped_in : Flat → Lexeme → Option Flat
 stepped_in q t = or_so (fed_in q t) (cond (rule_stands t) (paired_in semi q t) (paired_in do_semi q t))
 
--- what comes of some tokens: all are taken, or one is refused, which stands at this place
+-- what comes of some tokens: all are taken, or the reading stops at one
 pub data Course : Type 0 where
   Through : Flat → Course
-  Stuck : Place → Course
+  Stuck : Halt → Course
+
+abbrev pub unless : Place → Option HaltCause → Course → Course
+unless p None c = c
+unless p (Some s) c = Stuck (halt p s)
 
 abbrev pub after_step : Place → Option Flat → (Flat → Course) → Course
-after_step place None go = Stuck place
-after_step place (Some q) go = go q
+after_step p None go = Stuck (halt p cause.Unexpected)
+after_step p (Some q) go = unless p (told_of q) (go q)
 
 abbrev pub course : List ℕ → ℕ → Flat → List Token → Course
 course source at q [] = Through q
@@ -55,21 +62,21 @@ course source at q (t ∷ ts) = after_step t.start (stepped_in q (lexeme_of sour
 
 abbrev pub to_end : Place → Course → Course
 to_end place (Through q) = after_step place (stepped_in q end) (λ p. Through p)
-to_end place (Stuck there) = Stuck there
+to_end place (Stuck h) = Stuck h
 
 -- the tokens of a source from its start to its end, which stands at this place
 abbrev pub source_course : List ℕ → Flat → List Token → Place → Course
 source_course source q ts place = after_step place (stepped_in q start) (λ p. to_end place (course source 0 p ts))
 
--- what the program comes to: the place where a token is refused, or none
-abbrev pub Reaches : Course → Flat → Option Place → Type 0
+-- what the program comes to: where it stops, if it does
+abbrev pub Reaches : Course → Flat → Option Halt → Type 0
 Reaches (Through q) new None = new ≡ q
-Reaches (Stuck p) new (Some place) = place ≡ p
+Reaches (Stuck p) new (Some h) = h ≡ p
 Reaches _ new _ = ⊥
 
 -- the answer for a course: what stands, or the refusal of a token; want of memory may come anywhere
 abbrev pub Answers_course : Course → Result Flat SyntaxFault → Type 0
 Answers_course (Through q) (Ok r) = r ≡ q
-Answers_course (Stuck p) (Ok r) = ⊥
+Answers_course (Stuck h) (Ok r) = ⊥
 Answers_course (Through q) (Err f) = f ≡ fault.OutOfMemory
-Answers_course (Stuck p) (Err f) = (f ≡ fault.At p what.Unexpected) ⊎ (f ≡ fault.OutOfMemory)
+Answers_course (Stuck h) (Err f) = IsFaultOf h.place h.cause f ⊎ (f ≡ fault.OutOfMemory)

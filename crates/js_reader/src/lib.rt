@@ -4,6 +4,7 @@
 //! after the other, with the semicolons that are inserted, and answers what stands as a list of events, or the first token that is impossible.
 #![tactic(auto)]
 
+pub mod halt;
 pub mod laws;
 pub mod reading;
 pub mod source;

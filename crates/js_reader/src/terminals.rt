@@ -267,7 +267,7 @@ fn mark_terminal(mark: Punctuator) -> Terminal
         Punctuator::AddAssign => Terminal::AssignmentOperator,
         Punctuator::SubtractAssign => Terminal::AssignmentOperator,
         Punctuator::MultiplyAssign => Terminal::AssignmentOperator,
-        Punctuator::DivideAssign => Terminal::AssignmentOperator,
+        Punctuator::DivideAssign => Terminal::SlashEquals,
         Punctuator::RemainderAssign => Terminal::AssignmentOperator,
         Punctuator::ExponentiateAssign => Terminal::AssignmentOperator,
         Punctuator::ShiftLeftAssign => Terminal::AssignmentOperator,
