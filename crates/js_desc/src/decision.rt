@@ -35,7 +35,10 @@ pub enum Decision<N, R = Ref, S = MadeSymbol> {
         next: N,
     },
     /// A value is made a number first (ECMA-262, ToNumber); then the decision goes on with the number, which comes as `Reply::Value`. The value is no integer, since that is its own number.
-    Number { value: Value<R, S>, next: N },
+    Number {
+        value: Value<R, S>,
+        next: N,
+    },
     /// A body runs, and what it gives is the answer. The new target is there for Construct alone.
     Run {
         body: BodyId,

@@ -54,6 +54,7 @@ read {R} {S} (Some (Data (value.Int (pos n)) w e c)) l h = by_test (nat_lt n LEN
   where
     unpacked : (k : ArrayLength) → Some k ≡ Some l → k ≡ l
     unpacked k h = cc
+
     by_test : (b : Bool) → nat_lt n LENGTH_LIMIT ≡ b → option_map (λ m. record { count = m; writable = w; enumerable = e; configurable = c }) (cond b (Some n) None) ≡ Some l → IsRead {R = R} {S = S} (Some (Data (value.Int (pos n)) w e c)) l
     by_test true t h = subst (λ k. IsRead {R = R} {S = S} (Some (Data (value.Int (pos n)) w e c)) k) (unpacked (record { count = n; writable = w; enumerable = e; configurable = c }) h) (record { property = refl; within = t })
     by_test false t h = absurd cc
@@ -74,7 +75,6 @@ weaker n m (key.Text t) le h = refl
 weaker n m (key.Symbol s) le h = refl
 
 module _ {R S : Type 0} (made : S → S → Bool) where
-
   pub below_written : (n : ℕ) (k : Key S) (d : Descriptor R S) (ps : Properties R S) → is_below n k ≡ true → AllBelow n ps → AllBelow n (written made k d ps)
   below_written n k d [] h all = (h, tt)
   below_written n k d (p ∷ ps) h all = by_tests (same_key made k p.0) (goes_before k p.0) (below_written n k d ps h all.1)
@@ -136,6 +136,7 @@ module _ {R S : Type 0} (made : S → S → Bool) where
       by_test : (i : ℕ) (d : Descriptor R S) (b : Bool) → ordinary_get_own_property made (key.Text t) (filter (λ q. is_below n q.0) ps) ≡ ordinary_get_own_property made (key.Text t) ps → ordinary_get_own_property made (key.Text t) (cond b ((key.Index i, d) ∷ filter (λ q. is_below n q.0) ps) (filter (λ q. is_below n q.0) ps)) ≡ ordinary_get_own_property made (key.Text t) ps
       by_test i d true rest = rest
       by_test i d false rest = rest
+
       by_key : (k : Key S) (d : Descriptor R S) → ordinary_get_own_property made (key.Text t) (filter (λ q. is_below n q.0) ps) ≡ ordinary_get_own_property made (key.Text t) ps → ordinary_get_own_property made (key.Text t) (cond (is_below n k) ((k, d) ∷ filter (λ q. is_below n q.0) ps) (filter (λ q. is_below n q.0) ps)) ≡ cond (same_key made (key.Text t) k) (Some d) (ordinary_get_own_property made (key.Text t) ps)
       by_key (key.Index i) d rest = by_test i d (nat_lt i n) rest
       by_key (key.Text u) d rest = ap (λ r. cond (same_key made (key.Text t) (key.Text u)) (Some d) r) rest

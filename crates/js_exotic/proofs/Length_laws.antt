@@ -72,17 +72,17 @@ module _ {R S : Type 0} (names : Naming R S) (decides : IsSameness names.same) (
 
   pub length_appended : (l : ArrayLength) (n : ℕ) (c : Change R S) → Some h.number ≡ Some l → l.count ≤ n → nat_lt (n + 1) LENGTH_LIMIT ≡ true → HasLength names (element_appended names n c l o)
   length_appended l n c same past within =
-    let sl : h.number ≡ l = cc in
-    let other : same_key names.same_symbol length_key (key.Index n) ≡ false = refl in
-    let ps = after names.same_symbol (key.Index n) c o.properties in
-    let there : ordinary_get_own_property names.same_symbol length_key ps ≡ Some (length_property h.number h.number.count) = other_own (key.Index n) c other ∙ own_is.property in
-    let more : AllBelow (n + 1) o.properties = below_more names.same_symbol h.number.count (n + 1) o.properties (let e : h.number.count ≡ l.count = ap (λ (x : ArrayLength). x.count) sl in omega arith) h.is_above in
-    record {
-      number = record l { count = n + 1 };
-      is_own = ap array_length_of (found_replaced names.same_symbol length_key (length_property l (n + 1)) (length_property h.number h.number.count) ps there) ∙ says R S (n + 1) l.writable l.enumerable l.configurable within;
-      is_fixed = sym (ap (λ (x : ArrayLength). x.configurable) sl) ∙ h.is_fixed;
-      is_above = below_replaced names.same_symbol (n + 1) length_key (length_property l (n + 1)) ps (below_after names.same_symbol (n + 1) (key.Index n) c o.properties (grind (arith, nat_tests)) more);
-    }
+      let sl : h.number ≡ l = cc in
+      let other : same_key names.same_symbol length_key (key.Index n) ≡ false = refl in
+      let ps = after names.same_symbol (key.Index n) c o.properties in
+      let there : ordinary_get_own_property names.same_symbol length_key ps ≡ Some (length_property h.number h.number.count) = other_own (key.Index n) c other ∙ own_is.property in
+      let more : AllBelow (n + 1) o.properties = below_more names.same_symbol h.number.count (n + 1) o.properties (let e : h.number.count ≡ l.count = ap (λ (x : ArrayLength). x.count) sl in omega arith) h.is_above in
+      record {
+        number = record l { count = n + 1 };
+        is_own = ap array_length_of (found_replaced names.same_symbol length_key (length_property l (n + 1)) (length_property h.number h.number.count) ps there) ∙ says R S (n + 1) l.writable l.enumerable l.configurable within;
+        is_fixed = sym (ap (λ (x : ArrayLength). x.configurable) sl) ∙ h.is_fixed;
+        is_above = below_replaced names.same_symbol (n + 1) length_key (length_property l (n + 1)) ps (below_after names.same_symbol (n + 1) (key.Index n) c o.properties (grind (arith, nat_tests)) more);
+      }
 
   -- THE LENGTH ITSELF
 
@@ -103,30 +103,30 @@ module _ {R S : Type 0} (names : Naming R S) (decides : IsSameness names.same) (
   left_fixed : (d : PartialDescriptor R S) (c : Change R S) → change_at names o length_key d ≡ Some c
       → (after_change (Some there) c ≡ Some (Data (unwrap_or d.value (value.Int (pos h.number.count))) (unwrap_or d.writable w) (unwrap_or d.enumerable e) false))
   left_fixed d c taken =
-    let fixed : length_property {R = R} {S = S} h.number h.number.count ≡ Data (value.Int (pos h.number.count)) w e false = ap (λ b. Data (value.Int (pos h.number.count)) w e b) h.is_fixed in
-    let taken' = subst (λ x. validate_and_apply_property_descriptor names.same names.same_symbol x o.extensible d ≡ Some c) (own_is.property ∙ ap (λ x. Some x) fixed) taken in
-    let a = accepted decides decides_made (Data (value.Int (pos h.number.count)) w e false) o.extensible d c taken' in
-    let one = and_parts (keeps beq d.configurable false) (keeps beq d.enumerable e && keeps_kind names.same names.same_symbol (Data (value.Int (pos h.number.count)) w e false) d) a.0 in
-    let two = and_parts (keeps beq d.enumerable e) (keeps_kind names.same names.same_symbol (Data (value.Int (pos h.number.count)) w e false) d) one.1 in
-    let three = and_parts (not (is_accessor_descriptor d)) (keeps_data names.same names.same_symbol (value.Int (pos h.number.count)) w d) two.1 in
-    ap (λ x. after_change (Some x) c) fixed
-    ∙ (a.1
-    ∙ (ap (λ b. Some (cond b (accessor_with d None None e false) (data_with d (value.Int (pos h.number.count)) w e false))) (not_false (is_accessor_descriptor d) three.0)
-    ∙ ap (λ b. Some (Data (unwrap_or d.value (value.Int (pos h.number.count))) (unwrap_or d.writable w) (unwrap_or d.enumerable e) b)) (truth_kept d.configurable false one.0)))
+      let fixed : length_property {R = R} {S = S} h.number h.number.count ≡ Data (value.Int (pos h.number.count)) w e false = ap (λ b. Data (value.Int (pos h.number.count)) w e b) h.is_fixed in
+      let taken' = subst (λ x. validate_and_apply_property_descriptor names.same names.same_symbol x o.extensible d ≡ Some c) (own_is.property ∙ ap (λ x. Some x) fixed) taken in
+      let a = accepted decides decides_made (Data (value.Int (pos h.number.count)) w e false) o.extensible d c taken' in
+      let one = and_parts (keeps beq d.configurable false) (keeps beq d.enumerable e && keeps_kind names.same names.same_symbol (Data (value.Int (pos h.number.count)) w e false) d) a.0 in
+      let two = and_parts (keeps beq d.enumerable e) (keeps_kind names.same names.same_symbol (Data (value.Int (pos h.number.count)) w e false) d) one.1 in
+      let three = and_parts (not (is_accessor_descriptor d)) (keeps_data names.same names.same_symbol (value.Int (pos h.number.count)) w d) two.1 in
+      ap (λ x. after_change (Some x) c) fixed
+      ∙ (a.1
+      ∙ (ap (λ b. Some (cond b (accessor_with d None None e false) (data_with d (value.Int (pos h.number.count)) w e false))) (not_false (is_accessor_descriptor d) three.0)
+      ∙ ap (λ b. Some (Data (unwrap_or d.value (value.Int (pos h.number.count))) (unwrap_or d.writable w) (unwrap_or d.enumerable e) b)) (truth_kept d.configurable false one.0)))
 
   -- a definition of the length that is accepted, and gives this number or none
   pub length_defined : (d : PartialDescriptor R S) (c : Change R S) (n : ℕ) → change_at names o length_key d ≡ Some c
       → unwrap_or d.value (value.Int (pos h.number.count)) ≡ value.Int (pos n) → h.number.count ≤ n → nat_lt n LENGTH_LIMIT ≡ true
       → HasLength names (with_change names.same_symbol length_key c o)
   length_defined d c n taken given past within =
-    record {
-      number = record { count = n; writable = unwrap_or d.writable w; enumerable = unwrap_or d.enumerable e; configurable = false };
-      is_own =
-        ap array_length_of (own_after c ∙ (ap (λ x. after_change x c) own_is.property ∙ (left_fixed d c taken ∙ ap (λ v. Some (Data v (unwrap_or d.writable w) (unwrap_or d.enumerable e) false)) given)))
-        ∙ says R S n (unwrap_or d.writable w) (unwrap_or d.enumerable e) false within;
-      is_fixed = refl;
-      is_above = below_after names.same_symbol n length_key c o.properties refl (below_more names.same_symbol h.number.count n o.properties past h.is_above);
-    }
+      record {
+        number = record { count = n; writable = unwrap_or d.writable w; enumerable = unwrap_or d.enumerable e; configurable = false };
+        is_own =
+            ap array_length_of (own_after c ∙ (ap (λ x. after_change x c) own_is.property ∙ (left_fixed d c taken ∙ ap (λ v. Some (Data v (unwrap_or d.writable w) (unwrap_or d.enumerable e) false)) given)))
+            ∙ says R S n (unwrap_or d.writable w) (unwrap_or d.enumerable e) false within;
+        is_fixed = refl;
+        is_above = below_after names.same_symbol n length_key c o.properties refl (below_more names.same_symbol h.number.count n o.properties past h.is_above);
+      }
 
   -- what the property is after a change
   now_is : (l : ArrayLength) (c : Change R S) → Some h.number ≡ Some l → after_change (Some there) c ≡ Some (changed_length l c)
@@ -137,18 +137,18 @@ module _ {R S : Type 0} (names : Naming R S) (decides : IsSameness names.same) (
       → change_at names o length_key d ≡ Some c → least ≤ l.count
       → HasLength names (with_replaced names.same_symbol length_key (final_length (kept_length least o.properties) writable (changed_length l c)) (without_elements (kept_length least o.properties) o))
   length_lowered l d c least writable same taken le =
-    let sl : h.number ≡ l = cc in
-    let stop : ℕ = kept_length least o.properties in
-    let le' : least ≤ h.number.count = (let q : h.number.count ≡ l.count = ap (λ (x : ArrayLength). x.count) sl in omega arith) in
-    let bound : stop ≤ h.number.count = kept_below names.same_symbol least h.number.count o.properties le' h.is_above in
-    let inside = own_is.within in
-    let within : nat_lt stop LENGTH_LIMIT ≡ true = grind (arith, nat_tests) in
-    let now : Some (changed_length l c) ≡ Some (Data (unwrap_or d.value (value.Int (pos h.number.count))) (unwrap_or d.writable w) (unwrap_or d.enumerable e) false) = sym (now_is l c same) ∙ left_fixed d c taken in
-    let is_data : changed_length l c ≡ Data (unwrap_or d.value (value.Int (pos h.number.count))) (unwrap_or d.writable w) (unwrap_or d.enumerable e) false = some_same now in
-    let found = found_replaced names.same_symbol length_key (final_length stop writable (changed_length l c)) there (without_elements stop o).properties (found_left names.same_symbol stop (codes "length") o.properties ∙ own_is.property) in
-    record {
-      number = record { count = stop; writable = writable; enumerable = unwrap_or d.enumerable e; configurable = false };
-      is_own = ap array_length_of (found ∙ ap (λ x. Some (final_length stop writable x)) is_data) ∙ says R S stop writable (unwrap_or d.enumerable e) false within;
-      is_fixed = refl;
-      is_above = below_replaced names.same_symbol stop length_key (final_length stop writable (changed_length l c)) (without_elements stop o).properties (below_left names.same_symbol stop o.properties);
-    }
+      let sl : h.number ≡ l = cc in
+      let stop : ℕ = kept_length least o.properties in
+      let le' : least ≤ h.number.count = (let q : h.number.count ≡ l.count = ap (λ (x : ArrayLength). x.count) sl in omega arith) in
+      let bound : stop ≤ h.number.count = kept_below names.same_symbol least h.number.count o.properties le' h.is_above in
+      let inside = own_is.within in
+      let within : nat_lt stop LENGTH_LIMIT ≡ true = grind (arith, nat_tests) in
+      let now : Some (changed_length l c) ≡ Some (Data (unwrap_or d.value (value.Int (pos h.number.count))) (unwrap_or d.writable w) (unwrap_or d.enumerable e) false) = sym (now_is l c same) ∙ left_fixed d c taken in
+      let is_data : changed_length l c ≡ Data (unwrap_or d.value (value.Int (pos h.number.count))) (unwrap_or d.writable w) (unwrap_or d.enumerable e) false = some_same now in
+      let found = found_replaced names.same_symbol length_key (final_length stop writable (changed_length l c)) there (without_elements stop o).properties (found_left names.same_symbol stop (codes "length") o.properties ∙ own_is.property) in
+      record {
+        number = record { count = stop; writable = writable; enumerable = unwrap_or d.enumerable e; configurable = false };
+        is_own = ap array_length_of (found ∙ ap (λ x. Some (final_length stop writable x)) is_data) ∙ says R S stop writable (unwrap_or d.enumerable e) false within;
+        is_fixed = refl;
+        is_above = below_replaced names.same_symbol stop length_key (final_length stop writable (changed_length l c)) (without_elements stop o).properties (below_left names.same_symbol stop o.properties);
+      }

@@ -82,6 +82,7 @@ module _ {R S : Type 0} where
         by_last : (i : ℕ) → PrecedesAll made (key.Index i) ps → (o : Option ℕ) → last_index ps ≡ o → Some (unwrap_or o i) ≡ Some n → (last_index ps ≡ Some n → AllUpTo n ps) → (i ≤ n) × AllUpTo n ps
         by_last i before None e h rest = let same : i ≡ n = cc in (omega arith, none_up_to n ps e)
         by_last i before (Some m) e h rest = let same : m ≡ n = cc in let there : last_index ps ≡ Some n = e ∙ ap (λ x. Some x) same in let lt = last_above i n ps before there in (omega arith, rest there)
+
         by_key : (k : Key S) → PrecedesAll made k ps → index_before k (last_index ps) ≡ Some n → (last_index ps ≡ Some n → AllUpTo n ps) → IsUpTo n k × AllUpTo n ps
         by_key (key.Index i) before h rest = by_last i before (last_index ps) refl h rest
         by_key (key.Text t) before h rest = (tt, rest h)
@@ -97,6 +98,7 @@ module _ {R S : Type 0} where
         stays (key.Index i) h = grind (arith, nat_tests)
         stays (key.Text t) h = refl
         stays (key.Symbol s) h = refl
+
         by_test : (b : Bool) → b ≡ true → filter (below count) ps ≡ ps → cond b (p ∷ filter (below count) ps) (filter (below count) ps) ≡ p ∷ ps
         by_test true e rest = ap (λ l. p ∷ l) rest
         by_test false e rest = absurd cc
@@ -143,6 +145,7 @@ module _ {R S : Type 0} where
             ends : (i : ℕ) (c : Bool) → i < n → end_by {S = S} (key.Index i) c ≤ n
             ends i true lt = omega arith
             ends i false lt = omega arith
+
         head : (k : Key S) (d : Descriptor R S) → PrecedesAll made k ps → IsUpTo n k → is_configurable (cond (same_key made (key.Index n) k) (Some d) (ordinary_get_own_property made (key.Index n) ps)) ≡ true
             → (is_configurable (ordinary_get_own_property made (key.Index n) ps) ≡ true → kept_length least ps ≤ max least n)
             → max (end_by k (configurable_of d)) (kept_length least ps) ≤ max least n
@@ -164,6 +167,7 @@ module _ {R S : Type 0} where
             let end : end_by {S = S} (key.Index i) (configurable_of d) ≡ suc i = ap (λ b. cond b 0 (suc i)) may' in
             omega arith
         by_test i d false e may' rest = let r = rest may' in omega arith
+
         head : (k : Key S) (d : Descriptor R S) → is_configurable (cond (same_key made (key.Index n) k) (Some d) (ordinary_get_own_property made (key.Index n) ps)) ≡ false
             → (is_configurable (ordinary_get_own_property made (key.Index n) ps) ≡ false → suc n ≤ kept_length least ps)
             → suc n ≤ max (end_by k (configurable_of d)) (kept_length least ps)
@@ -183,12 +187,14 @@ module _ {R S : Type 0} where
       where
         max_zero : (m : ℕ) → m ≡ max 0 m
         max_zero m = grind (arith)
+
         by_test : (i : ℕ) (d : Descriptor R S) (b : Bool)
             → is_configurable (cond b (Some d) (ordinary_get_own_property made (key.Index n) ps)) ≡ true
             → (is_configurable (ordinary_get_own_property made (key.Index n) ps) ≡ true → kept_length least (without made (key.Index n) ps) ≡ kept_length least ps)
             → kept_length least (cond b ps ((key.Index i, d) ∷ without made (key.Index n) ps)) ≡ max (end_by {S = S} (key.Index i) (configurable_of d)) (kept_length least ps)
         by_test i d true may' rest = max_zero (kept_length least ps) ∙ ap (λ b. max (cond b 0 (suc i)) (kept_length least ps)) (sym may')
         by_test i d false may' rest = ap (λ m. max (end_by {S = S} (key.Index i) (configurable_of d)) m) (rest may')
+
         head : (k : Key S) (d : Descriptor R S) → is_configurable (cond (same_key made (key.Index n) k) (Some d) (ordinary_get_own_property made (key.Index n) ps)) ≡ true
             → (is_configurable (ordinary_get_own_property made (key.Index n) ps) ≡ true → kept_length least (without made (key.Index n) ps) ≡ kept_length least ps)
             → kept_length least (cond (same_key made (key.Index n) k) ps ((k, d) ∷ without made (key.Index n) ps)) ≡ max (end_by k (configurable_of d)) (kept_length least ps)
@@ -204,6 +210,7 @@ module _ {R S : Type 0} where
             → filter (below count) (cond b ps ((key.Index i, d) ∷ without made (key.Index n) ps)) ≡ cond (nat_lt i count) ((key.Index i, d) ∷ filter (below count) ps) (filter (below count) ps)
         by_test i d true e rest = let gone : nat_lt i count ≡ false = grind (arith, nat_tests) in sym (ap (λ b. cond b ((key.Index i, d) ∷ filter (below count) ps) (filter (below count) ps)) gone)
         by_test i d false e rest = ap (λ l. cond (nat_lt i count) ((key.Index i, d) ∷ l) l) rest
+
         head : (k : Key S) (d : Descriptor R S) → filter (below count) (without made (key.Index n) ps) ≡ filter (below count) ps
             → filter (below count) (cond (same_key made (key.Index n) k) ps ((k, d) ∷ without made (key.Index n) ps)) ≡ cond (is_below count k) ((k, d) ∷ filter (below count) ps) (filter (below count) ps)
         head (key.Index i) d rest = by_test i d (nat_eq n i) refl rest
@@ -223,6 +230,7 @@ module _ {R S : Type 0} where
             by_test : (b : Bool) → length (without made (key.Index n) ps) < length ps → length (cond b ps ((key.Index i, d) ∷ without made (key.Index n) ps)) < suc (length ps)
             by_test true r = omega arith
             by_test false r = omega arith
+
         head : (k : Key S) (d : Descriptor R S) → index_before k (last_index ps) ≡ Some n → (last_index ps ≡ Some n → length (without made (key.Index n) ps) < length ps)
             → length (cond (same_key made (key.Index n) k) ps ((k, d) ∷ without made (key.Index n) ps)) < suc (length ps)
         head (key.Index i) d h rest = by_last i d (last_index ps) refl h rest
@@ -258,16 +266,18 @@ lowered_step {R} {S} made least id n old middle new h lt le last order may next 
     let same : object_at new id ≡ without_property made (key.Index n) o = ap (λ os. object_at os id) next ∙ get_or-set_same middle id (without_property made (key.Index n) o) _ lt in
     let k : ℕ = kept_length least (object_at old id).properties in
     let bound : kept_length least o.properties ≤ max least n = kept_under made n least o.properties order (up_to made n o.properties order last) may in
-    let under : k ≤ n = let e = h.kept in omega arith in
-    (record {
-      kept = ap (λ (x : Object R S). kept_length least x.properties) same ∙ (kept_without made n least o.properties may ∙ h.kept);
-      left = ap (λ os. at_place os id (without_elements k)) next
-        ∙ (set-set middle id (without_property made (key.Index n) o) (without_elements k (object_at (at_place middle id (without_property made (key.Index n))) id))
-        ∙ (ap (λ x. slice_set middle id (without_elements k x)) (get_or-set_same middle id (without_property made (key.Index n) o) _ lt)
-        ∙ (ap (λ ps. slice_set middle id (record o { properties = ps })) (cut_without made n k o.properties under)
-        ∙ h.left)));
-      count = ap length next ∙ (length-set middle id (without_property made (key.Index n) o) ∙ h.count);
-    }, subst (λ (x : Object R S). length x.properties < length o.properties) (sym same) (fewer_left made n o.properties last))
+    let under : k ≤ n = let e = h.kept in omega arith in (
+      record {
+        kept = ap (λ (x : Object R S). kept_length least x.properties) same ∙ (kept_without made n least o.properties may ∙ h.kept);
+        left = ap (λ os. at_place os id (without_elements k)) next
+            ∙ (set-set middle id (without_property made (key.Index n) o) (without_elements k (object_at (at_place middle id (without_property made (key.Index n))) id))
+            ∙ (ap (λ x. slice_set middle id (without_elements k x)) (get_or-set_same middle id (without_property made (key.Index n) o) _ lt)
+            ∙ (ap (λ ps. slice_set middle id (record o { properties = ps })) (cut_without made n k o.properties under)
+            ∙ h.left)));
+        count = ap length next ∙ (length-set middle id (without_property made (key.Index n) o) ∙ h.count);
+      },
+      subst (λ (x : Object R S). length x.properties < length o.properties) (sym same) (fewer_left made n o.properties last),
+    )
 
 -- what stands at the end
 pub record IsCutDown {R S : Type 0} (least id count : ℕ) (old new : List (Object R S)) : Type 0 where
@@ -282,9 +292,9 @@ lowered_end {R} {S} least id count old new h stop whole =
     record {
       count_is = k;
       objects_are =
-        sym (set-get_or new id _)
-        ∙ (ap (λ ps. slice_set new id (record (object_at new id) { properties = ps })) (sym whole)
-        ∙ subst (λ n. at_place new id (without_elements n) ≡ at_place old id (without_elements n)) (sym k) h.left);
+          sym (set-get_or new id _)
+          ∙ (ap (λ ps. slice_set new id (record (object_at new id) { properties = ps })) (sym whole)
+          ∙ subst (λ n. at_place new id (without_elements n) ≡ at_place old id (without_elements n)) (sym k) h.left);
     }
 
 pub lowered_none : {R S : Type 0} (least id : ℕ) (old new : List (Object R S)) → IsLowered least id old new → last_index (object_at new id).properties ≡ None → IsCutDown least id least old new

@@ -87,10 +87,10 @@ module _ {R S : Type 0} (names : Naming R S) (decides : IsSameness names.same) (
       let len = sound.array arr in
       on_test (same_key names.same_symbol length_key k) (HasLength names _)
       (λ is. absurd (
-        let k_is : length_key ≡ k = (same_key_decides decides_made length_key k).0 is in
-        let found : Some d ≡ Some _ = sym (subst (λ m. own_property names o m ≡ Some d) (sym k_is) own) ∙ (own_is names decides decides_made o len).property in
-        let d_is : d ≡ _ = some_same found in
-        not_both (configurable_of d) e (ap configurable_of d_is ∙ len.is_fixed)))
+      let k_is : length_key ≡ k = (same_key_decides decides_made length_key k).0 is in
+      let found : Some d ≡ Some _ = sym (subst (λ m. own_property names o m ≡ Some d) (sym k_is) own) ∙ (own_is names decides decides_made o len).property in
+      let d_is : d ≡ _ = some_same found in
+      not_both (configurable_of d) e (ap configurable_of d_is ∙ len.is_fixed)))
       (λ apart. length_without names decides decides_made o len k apart))
     where
       some_same : {X : Type 0} {a b : X} → Some a ≡ Some b → a ≡ b

@@ -281,7 +281,11 @@ fn open_length(descriptor: &PartialDescriptor) -> Result<PartialDescriptor, OutO
         enumerable,
         configurable,
     } = copy_partial(descriptor)?;
-    let writable = if stays_writable(writable) { writable } else { Some(true) };
+    let writable = if stays_writable(writable) {
+        writable
+    } else {
+        Some(true)
+    };
     Ok(PartialDescriptor {
         value,
         writable,

@@ -3,8 +3,8 @@
 ghost use Rattle.std.specs.Prelude.{◌≡◌};
 ghost use Rattle.js_reader.specs.Halts.{form_name, IsFaultOf};
 
-use js_grammar::left_out::LeftOut;
 use js_fault::fault::{SyntaxFault, SyntaxWhat};
+use js_grammar::left_out::LeftOut;
 use lava_base::memory::OutOfMemory;
 use lava_base::name::Name;
 use lava_base::place::Place;

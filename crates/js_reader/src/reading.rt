@@ -13,13 +13,13 @@ ghost use Rattle.js_fault.specs.declared.fault.SyntaxWhat.{SyntaxWhat};
 
 use crate::halt::{Halt, HaltCause, fault_of};
 use crate::terminals::terminal_of;
+use js_fault::fault::SyntaxFault;
 use js_grammar::event::Event;
 use js_grammar::laws;
 use js_grammar::lexeme::Lexeme;
 use js_grammar::machine::PartialTree;
 use js_grammar::symbols::Terminal;
 use js_lexer::token::Token;
-use js_fault::fault::{SyntaxFault};
 use lava_base::place::Place;
 use std::alloc::{AllocError, Global};
 use std::marker::Model;

@@ -2,11 +2,11 @@
 // more, with ` = ` and `ok` with a `;` for each semicolon that is inserted, or the refusal with its place.
 #![tactic(auto)]
 
+use js_fault::fault::{SyntaxFault, SyntaxWhat};
 use js_grammar::event::Event;
 use js_grammar::symbols::Terminal;
 use js_lexer::lexer::tokens;
 use js_reader::reading::module_reading;
-use js_fault::fault::{SyntaxFault, SyntaxWhat};
 use lava_base::place::Place;
 use std::alloc::{AllocError, Global};
 use std::io;

@@ -4,9 +4,9 @@
 // s a string, w a whole template, h the head of one, m a middle and t a tail. `^` stands before one behind a line terminator.
 // A refusal is written as its place, a line and a unit, and its cause.
 
+use js_fault::fault::{SyntaxFault, SyntaxWhat};
 use js_lexer::lexer::tokens;
 use js_lexer::token::{TemplatePart, Token, TokenKind};
-use js_fault::fault::{SyntaxFault, SyntaxWhat};
 use lava_base::place::Place;
 use std::alloc::Global;
 use std::fmt::Write;

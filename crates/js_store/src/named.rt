@@ -212,11 +212,7 @@ fn take_out(few: &mut Vec<(Key, Descriptor)>, at: usize)
 }
 
 /// Appends a property to the first ones.
-fn push(
-    few: &mut Vec<(Key, Descriptor)>,
-    key: Key,
-    property: Descriptor,
-) -> Result<(), OutOfMemory>
+fn push(few: &mut Vec<(Key, Descriptor)>, key: Key, property: Descriptor) -> Result<(), OutOfMemory>
     ensures ok { OnOk result (few.new.items ≡ few.old.items ++ (key, property) ∷ []) }
     ensures err { OnErr result (few.new.items ≡ few.old.items) }
 {

@@ -35,7 +35,10 @@ pub struct Text {
 #[derive(Drop)]
 pub(crate) enum Node {
     /// Units of its own, with their fingerprint.
-    Whole { units: Vec<u16>, fingerprint: u32 },
+    Whole {
+        units: Vec<u16>,
+        fingerprint: u32,
+    },
     /// The units of a shared list from one place up to another.
     Part {
         units: Rc<Vec<u16>>,

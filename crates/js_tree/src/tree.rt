@@ -1,8 +1,9 @@
 // Syntax trees: a variant for each form of the language. A place is that of the form's first token.
 
-use crate::operator::{AssignmentOperator, BinaryOperator, LogicalOperator, UnaryOperator, UpdateOperator};
+use crate::operator::{
+    AssignmentOperator, BinaryOperator, LogicalOperator, UnaryOperator, UpdateOperator,
+};
 use js_text::text::Text;
-
 use lava_base::place::Place;
 use sqlite_items::{Boxed, Items};
 
@@ -36,15 +37,28 @@ pub enum Expr {
     /// IdentifierReference.
     Name(Identifier),
     /// `this`
-    This { place: Place },
+    This {
+        place: Place,
+    },
     /// `null`
-    Null { place: Place },
+    Null {
+        place: Place,
+    },
     /// `true`, `false`
-    Bool { place: Place, value: bool },
+    Bool {
+        place: Place,
+        value: bool,
+    },
     /// NumericLiteral: a safe integer, or none where it writes no safe integer.
-    Number { place: Place, value: Option<i64> },
+    Number {
+        place: Place,
+        value: Option<i64>,
+    },
     /// StringLiteral, by its value.
-    String { place: Place, value: Text },
+    String {
+        place: Place,
+        value: Text,
+    },
     /// TemplateLiteral: the cooked values of its strings, one more than there are substitutions.
     Template {
         place: Place,
@@ -66,9 +80,14 @@ pub enum Expr {
     /// ClassExpression.
     Class(Boxed<Class>),
     /// ParenthesizedExpression.
-    Parenthesized { place: Place, inner: Boxed<Expr> },
+    Parenthesized {
+        place: Place,
+        inner: Boxed<Expr>,
+    },
     /// `new.target`
-    NewTarget { place: Place },
+    NewTarget {
+        place: Place,
+    },
     /// MemberExpression `.` IdentifierName.
     Member {
         place: Place,
@@ -82,9 +101,15 @@ pub enum Expr {
         key: Boxed<Expr>,
     },
     /// `super` `.` IdentifierName.
-    SuperMember { place: Place, name: Identifier },
+    SuperMember {
+        place: Place,
+        name: Identifier,
+    },
     /// `super` `[` Expression `]`.
-    SuperIndex { place: Place, key: Boxed<Expr> },
+    SuperIndex {
+        place: Place,
+        key: Boxed<Expr>,
+    },
     /// CallExpression.
     Call {
         place: Place,
@@ -198,13 +223,22 @@ pub enum PropertyKey {
 #[derive(Drop)]
 pub enum Property {
     /// With a value; a name alone is the key and the value.
-    Valued { key: PropertyKey, value: Boxed<Expr> },
+    Valued {
+        key: PropertyKey,
+        value: Boxed<Expr>,
+    },
     /// A method, getter or setter, as its function says.
-    Defined { key: PropertyKey, function: Boxed<Function> },
+    Defined {
+        key: PropertyKey,
+        function: Boxed<Function>,
+    },
     /// `...`
     SpreadProperty(Boxed<Expr>),
     /// CoverInitializedName, which only a literal that becomes a pattern has.
-    Initialized { name: Identifier, default: Boxed<Expr> },
+    Initialized {
+        name: Identifier,
+        default: Boxed<Expr>,
+    },
 }
 
 /// A link of a chain of members and calls in which there is a `?.` (ECMA-262, OptionalChain).
@@ -350,7 +384,10 @@ pub enum ForInit {
 #[derive(Drop)]
 pub enum ForTarget {
     /// ForDeclaration and `var` ForBinding.
-    ForBinding { kind: DeclarationKind, pattern: Boxed<Pattern> },
+    ForBinding {
+        kind: DeclarationKind,
+        pattern: Boxed<Pattern>,
+    },
     /// LeftHandSideExpression.
     ForAssignment(Boxed<Pattern>),
 }
@@ -386,7 +423,9 @@ pub enum Stmt {
         body: Items<Boxed<Stmt>>,
     },
     /// EmptyStatement.
-    Empty { place: Place },
+    Empty {
+        place: Place,
+    },
     If {
         place: Place,
         test: Boxed<Expr>,
@@ -422,10 +461,22 @@ pub enum Stmt {
         object: Boxed<Expr>,
         body: Boxed<Stmt>,
     },
-    Continue { place: Place, label: Option<Identifier> },
-    Break { place: Place, label: Option<Identifier> },
-    Return { place: Place, value: Option<Boxed<Expr>> },
-    Throw { place: Place, value: Boxed<Expr> },
+    Continue {
+        place: Place,
+        label: Option<Identifier>,
+    },
+    Break {
+        place: Place,
+        label: Option<Identifier>,
+    },
+    Return {
+        place: Place,
+        value: Option<Boxed<Expr>>,
+    },
+    Throw {
+        place: Place,
+        value: Boxed<Expr>,
+    },
     Switch {
         place: Place,
         value: Boxed<Expr>,
@@ -441,5 +492,7 @@ pub enum Stmt {
         label: Identifier,
         body: Boxed<Stmt>,
     },
-    Debugger { place: Place },
+    Debugger {
+        place: Place,
+    },
 }

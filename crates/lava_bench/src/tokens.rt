@@ -2,9 +2,9 @@
 
 use crate::fault::Fault;
 use crate::mixed;
+use js_fault::fault::SyntaxFault;
 use js_lexer::lexer::tokens;
 use js_lexer::token::Token;
-use js_fault::fault::SyntaxFault;
 use lava_base::list::List;
 use std::alloc::Global;
 

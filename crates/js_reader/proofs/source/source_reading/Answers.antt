@@ -6,15 +6,15 @@ use Rattle.js_reader.proofs.source.source_reading.Goals as goal
 pub returns-in-Ok-clause-only : goal.returns-in-Ok-clause-only
 returns-in-Ok-clause-only c =
     ok_only c.args.source.now c.as_slice.result.now c.module_reading.result
-        (λ us k. c.as_slice.ensures ∙ c.in-Ok.ensures.only us k)
-        c.module_reading.ensures.only
+    (λ us k. c.as_slice.ensures ∙ c.in-Ok.ensures.only us k)
+    c.module_reading.ensures.only
 
 pub returns-in-Ok-clause-refused : goal.returns-in-Ok-clause-refused
 returns-in-Ok-clause-refused c =
     ok_refused c.args.source.now c.as_slice.result.now c.module_reading.result c.end_of.result (c.end_of.ensures c.in-Ok.ensures.tokens.0)
-        (λ us k. c.as_slice.ensures ∙ c.in-Ok.ensures.only us k)
-        (λ p w u. c.in-Ok.ensures.refused p w u)
-        c.module_reading.ensures.refused
+    (λ us k. c.as_slice.ensures ∙ c.in-Ok.ensures.only us k)
+    (λ p w u. c.in-Ok.ensures.refused p w u)
+    c.module_reading.ensures.refused
 
 pub returns-in-Err-clause-only : goal.returns-in-Err-clause-only
 returns-in-Err-clause-only c = err_only c.args.source.now c.in-Err.fault (λ ts k. c.in-Err.ensures.only ts k)
