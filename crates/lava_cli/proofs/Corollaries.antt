@@ -10,7 +10,10 @@ use Rattle.lava_cli.specs.declared.outcome.Outcome.{Outcome}
 use Rattle.lava_cli.specs.declared.outcome.Outcome.TheVariants as outcome
 use Rattle.lava_base.specs.declared.place.Place.{Place}
 use Rattle.js_fault.specs.declared.fault.SyntaxWhat.{SyntaxWhat}
-use Rattle.js_reader.specs.Sources.{HasSourceTree, IsSyntaxFault}
+use Rattle.js_fault.specs.declared.fault.SyntaxFault.TheVariants as faults
+use Rattle.js_fault.specs.declared.fault.SyntaxWhat.TheVariants as what
+use Rattle.js_reader.specs.Reading.{IsRefusal}
+use Rattle.js_reader.specs.Sources.{IsSyntaxFault}
 use Rattle.lava_cli.specs.Answers.{directory_of, file_of, IsFileOf, IsFirstForm, IsNoFirstForm, IsRefused, IsOnlyFault, IsUnsupported, HasNoFault, ComesIn, Comes, status_of, Writes, WritesOrLacks, Reports, Answers, IsDone, SomeFailed, StopsEarly, MissingComes, SyntaxComes, UnsupportedComes, RunComes}
 
 -- a folder that tells its files told what was read
@@ -19,6 +22,21 @@ told_is told d r files e h = subst (λ t. IsFileOf t d r) e h
 
 absent_is_bytes : (bytes : List ℕ) → Bytes bytes ≡ Absent → ⊥
 absent_is_bytes bytes e = cc
+
+-- a refusal stands at the place of the fault
+refusal_place : (place at : Place) (what said : SyntaxWhat) → IsRefusal place what (faults.At at said) → at ≡ place
+refusal_place place at what.NotUtf8 said (inl e) = cc
+refusal_place place at what.NotUtf8 said (inr e) = absurd cc
+refusal_place place at what.BadToken said (inl e) = cc
+refusal_place place at what.BadToken said (inr e) = absurd cc
+refusal_place place at (what.Unsupported name) said (inl (other, e)) = cc
+refusal_place place at (what.Unsupported name) said (inr e) = absurd cc
+refusal_place place at what.Unexpected said (inl e) = cc
+refusal_place place at what.Unexpected said (inr e) = absurd cc
+refusal_place place at what.TooDeep said (inl e) = cc
+refusal_place place at what.TooDeep said (inr e) = absurd cc
+refusal_place place at (what.Early name) said (inl e) = cc
+refusal_place place at (what.Early name) said (inr e) = absurd cc
 
 module _ (words : List (List ℕ)) (before after : Outside) (status : ℕ) where
   abbrev Reported : Outcome → Type 0
@@ -96,6 +114,12 @@ module _ (words : List (List ℕ)) (before after : Outside) (status : ℕ) where
   cause_at : (d : List ℕ) (o : Outcome) → directory_of words ≡ Some d → Comes (directory_of words) before after o → ComesIn d before after o
   cause_at d o at c = subst (λ x. Comes x before after o) at c
 
+  -- the fault of a file is told
+  abbrev Told : Place → SyntaxWhat → Type 0
+  Told place what =
+      ((said : SyntaxWhat) × IsRefusal place what (faults.At place said) × Writes (outcome.Syntax place said) before.errors after.errors status)
+      ⊎ StopsEarly before after status
+
   -- how the run of a program of the first form ends
   abbrev RunEnds : Type 0
   RunEnds =
@@ -132,23 +156,22 @@ module _ (words : List (List ℕ)) (before after : Outside) (status : ℕ) where
     unsupported_in s e u outcome.OutputFailed c r = absurd (not_both c.1.1.0 c.1.1.1 s e u c.1.1.2 c.1.1.3)
     unsupported_in s e u outcome.OutOfMemory c r = inr (inr r)
 
-    -- one fault at most is told of a file
-    same_fault : (bytes other : List ℕ) (place at : Place) (what fault : SyntaxWhat) → Bytes other ≡ Bytes bytes → IsOnlyFault other at fault → IsRefused bytes place what → (place ≡ at) × (what ≡ fault)
-    same_fault bytes other place at what fault same only refused = only.1 place what (subst (λ b. IsSyntaxFault b place what) (let z : bytes ≡ other = cc in z) refused.1)
+    -- the fault that is told is that of the file
+    told : (place at : Place) (what said : SyntaxWhat) → IsRefusal place what (faults.At at said) → WritesOrLacks (outcome.Syntax at said) before.errors after.errors status → Told place what
+    told place at what said is (inl r) =
+        let same = refusal_place place at what said is in
+        inl (said, subst (λ p. IsRefusal place what (faults.At p said)) same is, subst (λ p. Writes (outcome.Syntax p said) before.errors after.errors status) same r)
+    told place at what said is (inr r) = inr (inr r)
 
-    told : (place at : Place) (what fault : SyntaxWhat) → place ≡ at → what ≡ fault → WritesOrLacks (outcome.Syntax at fault) before.errors after.errors status → Writes (outcome.Syntax place what) before.errors after.errors status ⊎ StopsEarly before after status
-    told place at what fault e w (inl r) = inl (subst (λ p. Writes (outcome.Syntax p what) before.errors after.errors status) (sym e) (subst (λ f. Writes (outcome.Syntax at f) before.errors after.errors status) (sym w) r))
-    told place at what fault e w (inr r) = inr (inr r)
-
-    syntax_in : (bytes : List ℕ) (place : Place) (what : SyntaxWhat) → file_of files d ≡ Bytes bytes → IsRefused bytes place what → (o : Outcome) → ComesIn d before after o → Reported o → Writes (outcome.Syntax place what) before.errors after.errors status ⊎ StopsEarly before after status
+    syntax_in : (bytes : List ℕ) (place : Place) (what : SyntaxWhat) → file_of files d ≡ Bytes bytes → IsRefused bytes place what → (o : Outcome) → ComesIn d before after o → Reported o → Told place what
     syntax_in bytes place what e is outcome.Finished c r =
         let same : Bytes bytes ≡ Bytes c.1.1.0 = sym (read_is d files (Bytes c.1.1.0) (Bytes bytes) tells e c.1.1.2) in
         absurd (is.0 c.1.1.1 (subst (λ b. IsFirstForm b c.1.1.1) (let z : c.1.1.0 ≡ bytes = cc in z) c.1.1.3))
     syntax_in bytes place what e is outcome.Usage c r = elim c [ ]
     syntax_in bytes place what e is outcome.Missing c r = absurd (absent_is_bytes bytes (sym (read_is d files Absent (Bytes bytes) tells e c.1)))
-    syntax_in bytes place what e is (outcome.Syntax at fault) c r =
-        let same = same_fault bytes c.1.0 place at what fault (read_is d files (Bytes c.1.0) (Bytes bytes) tells e c.1.1) c.1.3 is in
-        told place at what fault same.0 same.1 r
+    syntax_in bytes place what e is (outcome.Syntax at said) c r =
+        let same : Bytes bytes ≡ Bytes c.1.0 = sym (read_is d files (Bytes c.1.0) (Bytes bytes) tells e c.1.1) in
+        told place at what said (c.1.3.1 place what (subst (λ b. IsSyntaxFault b place what) (let z : bytes ≡ c.1.0 = cc in z) is.1)) r
     syntax_in bytes place what e is outcome.Unsupported c r = absurd (subst HasNoFault (read_is d files c.1.0 (Bytes bytes) tells e c.1.1) c.1.3 place what is.1)
     syntax_in bytes place what e is outcome.FolderFailed c r = inr (inl (c.0, r))
     syntax_in bytes place what e is outcome.OutputFailed c r =

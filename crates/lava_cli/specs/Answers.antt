@@ -3,6 +3,8 @@ use Rattle.std.specs.Prelude.{◌≡◌, ℕ, List, [], ◌∷◌, ◌++◌, ◌
 use Rattle.lava_base.specs.declared.place.Place.{Place}
 use Rattle.js_text.specs.Texts.{same_units}
 use Rattle.js_fault.specs.declared.fault.SyntaxWhat.{SyntaxWhat}
+use Rattle.js_fault.specs.declared.fault.SyntaxFault.TheVariants as faults
+use Rattle.js_reader.specs.Reading.{IsRefusal}
 use Rattle.js_reader.specs.Sources.{HasSourceTree, IsSyntaxFault}
 use Rattle.lava_streams.specs.Counts.{ForTold}
 use Rattle.lava_streams.specs.Files.{Files}
@@ -62,11 +64,11 @@ IsNoFirstForm bytes = (program : List Statement) → IsFirstForm bytes program �
 abbrev pub IsRefused : (bytes : List ℕ) → Place → SyntaxWhat → Type 0
 IsRefused bytes place what = IsNoFirstForm bytes × IsSyntaxFault bytes place what
 
--- no other fault is told of these bytes, and they have no tree
+-- no other fault is told of these bytes, but for another form that is left out at the same token, and they have no tree
 abbrev pub IsOnlyFault : (bytes : List ℕ) → Place → SyntaxWhat → Type 0
 IsOnlyFault bytes place what =
     (HasSourceTree bytes → ⊥)
-    × ((other : Place) (fault : SyntaxWhat) → IsSyntaxFault bytes other fault → (other ≡ place) × (fault ≡ what))
+    × ((other : Place) (w : SyntaxWhat) → IsSyntaxFault bytes other w → IsRefusal other w (faults.At place what))
 
 -- a file that is too long, or has a tree and is no program of the first form
 abbrev pub IsUnsupported : FileRead → Type 0
@@ -243,11 +245,12 @@ MissingComes words before after status =
     Tells words before Absent
     → Writes outcome.Missing before.errors after.errors status ⊎ StopsEarly before after status
 
--- where the folder tells a file that is no source of the language, its fault is the answer, unless the folder failed or memory ran out
+-- where the folder tells a file that is no source of the language, its fault is the answer (of several forms that are left out at one token one of them), unless the folder failed or memory ran out
 abbrev pub SyntaxComes : (words : List (List ℕ)) → (before after : Outside) → (status : ℕ) → Type 0
 SyntaxComes words before after status =
     (bytes : List ℕ) (place : Place) (what : SyntaxWhat) → Tells words before (Bytes bytes) → IsRefused bytes place what
-    → Writes (outcome.Syntax place what) before.errors after.errors status ⊎ StopsEarly before after status
+    → ((said : SyntaxWhat) × IsRefusal place what (faults.At place said) × Writes (outcome.Syntax place said) before.errors after.errors status)
+    ⊎ StopsEarly before after status
 
 -- where the folder tells a file that is too long, or has a tree and is not of the first form, that is the answer, unless the folder failed or memory ran out
 abbrev pub UnsupportedComes : (words : List (List ℕ)) → (before after : Outside) → (status : ℕ) → Type 0
