@@ -1,10 +1,11 @@
 // How a property of an array is defined.
 
 ghost use Rattle.std.specs.Prelude.{◌≡◌, ◌<◌, length, IfOk, OnOk, OnErr};
+ghost use Rattle.js_text.specs.Length.{is_length};
 ghost use Rattle.js_text.specs.Naming.{naming_of};
 ghost use Rattle.js_store.specs.Objects.{at_place};
 ghost use Rattle.js_ordinary.specs.Targets.{IsSeen, object_seen};
-ghost use Rattle.js_exotic.specs.ArrayDefineOwnProperty.{array_define_own_property, define_element_by, define_own_property, element_appended, element_written, is_array, ordinary_verdict};
+ghost use Rattle.js_exotic.specs.ArrayDefineOwnProperty.{array_define_own_property, define_element_by, define_named, define_own_property, element_appended, element_written, is_array, ordinary_verdict};
 ghost use Rattle.js_exotic.specs.Targets.{IsWithin, changed_at, verdict_at};
 
 use crate::array_length::{ArrayLength, array_length, length_property};
@@ -83,13 +84,32 @@ fn array_define_own_property<S: Store>(
             let current = array_length(store, common, target);
             define_element(store, common, target, *index, descriptor, current)
         }
-        _ => {
-            if is_length(key) {
-                array_set_length(store, common, me, target, descriptor)
-            } else {
-                define_as_ordinary(store, common, target, key, descriptor)
-            }
-        }
+        _ => define_named(store, common, me, target, key, descriptor),
+    }
+}
+
+/// Defines a property that is no element: the length, or another one.
+fn define_named<S: Store>(
+    store: &mut S,
+    common: &FrozenStore,
+    me: Ref,
+    target: Target,
+    key: &Key,
+    descriptor: &PartialDescriptor,
+) -> Result<Decision<Next>, OutOfMemory>
+    requires { IsSeen (S.objects store.old) common.now target }
+    ensures ok { let names = naming_of (S.owner store.old).0 in
+        let o = object_seen (S.objects store.old) common.now target in
+        let verdict = define_named names me o key.now descriptor.now (is_length key.now) in
+        let decision = verdict_at (S.objects store.old) target verdict in
+        IfOk result (λ d. (d, S.objects store.new) ≡ decision) }
+    ensures err { OnErr result (S.objects store.new ≡ S.objects store.old) }
+    ensures party { S.owner store.new ≡ S.owner store.old }
+{
+    if is_length(key) {
+        array_set_length(store, common, me, target, descriptor)
+    } else {
+        define_as_ordinary(store, common, target, key, descriptor)
     }
 }
 

@@ -7,7 +7,7 @@ ghost use Rattle.js_desc.specs.declared.decision.Decision.TheVariants.{Number};
 ghost use Rattle.js_store.specs.Objects.{object_at};
 ghost use Rattle.js_ordinary.specs.Targets.{IsSeen, object_seen};
 ghost use Rattle.js_exotic.specs.ArrayLengths.{array_length};
-ghost use Rattle.js_exotic.specs.ArrayDefineOwnProperty.{array_set_length, array_set_length_to, changed_length, cut_down, final_length, lower_length, lower_open, open_length, ordinary_verdict, set_length_by, stays_writable, with_number};
+ghost use Rattle.js_exotic.specs.ArrayDefineOwnProperty.{array_set_length, array_set_length_to, change_at, changed_length, cut_down, final_length, lower_by, lower_length, lower_open, open_length, ordinary_verdict, set_length_by, stays_writable, with_number};
 ghost use Rattle.js_exotic.specs.Targets.{IsOfCommonPart, verdict_at};
 ghost use Rattle.js_exotic.specs.Verdicts.{exotic_carried_out};
 ghost use Rattle.js_exotic.specs.declared.next.Next.TheVariants.{Length};
@@ -228,13 +228,51 @@ fn lower<S: Store>(
 {
     let key = copy_key(store.length_key())?;
     let open = open_length(descriptor)?;
+    let change = change_at(store, id, &key, &open)?;
+    Ok(lower_by(store, id, key, descriptor, least, current, change))
+}
+
+/// What a definition makes of an own property, or None where it is refused.
+fn change_at<S: Store>(
+    store: &S,
+    id: ObjId,
+    key: &Key,
+    descriptor: &PartialDescriptor,
+) -> Result<Option<Change>, OutOfMemory>
+    requires { id.0 < length (S.objects store.now) }
+    ensures { let names = naming_of (S.owner store.now).0 in
+        let o = object_at (S.objects store.now) id.0 in
+        IfOk result (λ change. change ≡ change_at names o key.now descriptor.now) }
+{
     let extensible = store.extensible(id);
-    match validate_apply(store.own(id, &key), extensible, &open)? {
-        None => Ok(Decision::Done(Reply::Flag(false))),
+    validate_apply(store.own(id, key), extensible, descriptor)
+}
+
+/// Lowers a length as a definition of it says, which may be refused.
+fn lower_by<S: Store>(
+    store: &mut S,
+    id: ObjId,
+    key: Key,
+    descriptor: &PartialDescriptor,
+    least: u32,
+    current: ArrayLength,
+    change: Option<Change>,
+) -> Decision<Next>
+    requires within { id.0 < length (S.objects store.old) }
+    requires key { key ≡ length_key }
+    ensures decision { let names = naming_of (S.owner store.old).0 in
+        let o = object_at (S.objects store.old) id.0 in
+        let verdict = lower_by names o descriptor.now least current change in
+        let decision = exotic_carried_out (S.objects store.old) (Own id.0) verdict in
+        (result, S.objects store.new) ≡ decision }
+    ensures party { S.owner store.new ≡ S.owner store.old }
+{
+    match change {
+        None => Decision::Done(Reply::Flag(false)),
         Some(change) => {
             let writable = stays_writable(descriptor.writable);
             let property = changed_length(current, change);
-            Ok(cut_down(store, id, key, least, writable, property))
+            cut_down(store, id, key, least, writable, property)
         }
     }
 }

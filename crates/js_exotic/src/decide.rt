@@ -5,7 +5,7 @@ ghost use Rattle.js_text.specs.Naming.{naming_of};
 ghost use Rattle.js_ordinary.specs.Origins.{there};
 ghost use Rattle.js_ordinary.specs.Targets.{IsSeen};
 ghost use Rattle.js_exotic.specs.Decided.{after_number, decided, exotic_resumed, length_set_there};
-ghost use Rattle.js_exotic.specs.Targets.{decided_seen};
+ghost use Rattle.js_exotic.specs.Targets.{decided_seen, ordinary_seen};
 
 use crate::array_define_own_property::define_own_property;
 use crate::array_set_length::array_set_length_to;
@@ -97,11 +97,27 @@ fn decide_exotic<S: Store>(
         | Ask::Slot { .. }
         | Ask::Make { .. }
         | Ask::Queue
-        | Ask::Turn => {
-            let decision = decide::decide_at(alloc, store, common, target, ask)?;
-            Ok(as_exotic(decision))
-        }
+        | Ask::Turn => decide_as_ordinary(alloc, store, common, target, ask),
     }
+}
+
+/// What an object decides of an ask as an ordinary one.
+fn decide_as_ordinary<S: Store>(
+    alloc: Global,
+    store: &mut S,
+    common: &FrozenStore,
+    target: Target,
+    ask: &Ask,
+) -> Result<Decision<Next>, OutOfMemory>
+    requires { IsSeen (S.objects store.old) common.now target }
+    ensures ok { let names = naming_of (S.owner store.old).0 in
+        let decision = ordinary_seen names (S.objects store.old) common.now target ask.now in
+        IfOk result (λ d. (d, S.objects store.new) ≡ decision) }
+    ensures err { OnErr result (S.objects store.new ≡ S.objects store.old) }
+    ensures party { S.owner store.new ≡ S.owner store.old }
+{
+    let decision = decide::decide_at(alloc, store, common, target, ask)?;
+    Ok(as_exotic(decision))
 }
 
 /// How a decision that waits goes on with the answer to what came with it. A throw goes on as it is. An answer of another kind does not come; it would be the fault `wrong kind`. After want of memory nothing has changed.

@@ -41,7 +41,7 @@ struct World {
 }
 
 /// A world without objects of the party.
-fn world(alloc: Global) -> Result<World, Fault> {
+fn empty_world(alloc: Global) -> Result<World, Fault> {
     Ok(World {
         alloc,
         store: FlatStore::empty(alloc, PARTY),
@@ -135,7 +135,7 @@ fn open(value: u32) -> PartialDescriptor {
 
 /// Gets one of four names in each round, one after the other, from so many objects above it.
 pub fn gets(alloc: Global, depth: u32, count: u32) -> Result<u32, Fault> {
-    let mut world = world(alloc)?;
+    let mut world = empty_world(alloc)?;
     let keys = chain(&mut world, depth)?;
     let mut checksum = 0;
     for key in keys.iter().cycle().take(count as usize) {
@@ -151,7 +151,7 @@ pub fn gets(alloc: Global, depth: u32, count: u32) -> Result<u32, Fault> {
 
 /// Sets one of four names of an object in each round.
 pub fn sets(alloc: Global, count: u32) -> Result<u32, Fault> {
-    let mut world = world(alloc)?;
+    let mut world = empty_world(alloc)?;
     let keys = chain(&mut world, 0)?;
     let mut checksum = 0;
     for (round, key) in (0..count).zip(keys.iter().cycle()) {
@@ -168,7 +168,7 @@ pub fn sets(alloc: Global, count: u32) -> Result<u32, Fault> {
 
 /// Defines one of four names of an object again in each round.
 pub fn defines(alloc: Global, count: u32) -> Result<u32, Fault> {
-    let mut world = world(alloc)?;
+    let mut world = empty_world(alloc)?;
     let keys = chain(&mut world, 0)?;
     let mut checksum = 0;
     for (round, key) in (0..count).zip(keys.iter().cycle()) {
@@ -184,7 +184,7 @@ pub fn defines(alloc: Global, count: u32) -> Result<u32, Fault> {
 
 /// Appends an element to an array in each round.
 pub fn pushes(alloc: Global, count: u32) -> Result<u32, Fault> {
-    let mut world = world(alloc)?;
+    let mut world = empty_world(alloc)?;
     make_array(&mut world)?;
     let mut checksum = 0;
     for round in 0..count {
