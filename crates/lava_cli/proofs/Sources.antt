@@ -61,7 +61,12 @@ pub refused : {A : Type 0} (bytes : List ℕ) (place : Place) (what : SyntaxWhat
     → (HasSourceTree bytes → MatchResult answer (λ r. Unit {0}) (λ f. f ≡ faults.OutOfMemory))
     → ((p : Place) (w : SyntaxWhat) → IsSyntaxFault bytes p w → MatchResult answer (λ r. ⊥) (IsRefusal p w))
     → IsSourceOf (Bytes bytes) (source.Refused place what)
-refused {A} bytes place what answer e no cause only other =
-    (bytes, refl, (no, subst (λ (a : Result A SyntaxFault). IfErr a (HasSyntaxCause bytes)) e cause),
-    (λ tree. no_want place what (subst (λ (a : Result A SyntaxFault). MatchResult a (λ r. Unit {0}) (λ f. f ≡ faults.OutOfMemory)) e (only tree)),
-    λ p w h. subst (λ (a : Result A SyntaxFault). MatchResult a (λ r. ⊥) (IsRefusal p w)) e (other p w h)))
+refused {A} bytes place what answer e no cause only other = (
+  bytes,
+  refl,
+  (no, subst (λ (a : Result A SyntaxFault). IfErr a (HasSyntaxCause bytes)) e cause),
+  (
+    λ tree. no_want place what (subst (λ (a : Result A SyntaxFault). MatchResult a (λ r. Unit {0}) (λ f. f ≡ faults.OutOfMemory)) e (only tree)),
+    λ p w h. subst (λ (a : Result A SyntaxFault). MatchResult a (λ r. ⊥) (IsRefusal p w)) e (other p w h),
+  ),
+)

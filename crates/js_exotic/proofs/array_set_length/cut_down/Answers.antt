@@ -15,10 +15,10 @@ returns-clause-decision g c =
     let old = g.S.Store.objects c.args.store.now in
     let o = object_at old c.args.id.0 in
     let objects =
-      in_turn old (g.S.Store.objects c.delete_elements.new.store) (g.S.Store.objects c.replace.new.self) c.args.id.0
-      (without_elements c.delete_elements.result) (with_replaced same_made_symbol length_key (final_length c.delete_elements.result c.args.writable c.args.property))
-      c.requires.within c.delete_elements.ensures.objects
-      (c.replace.ensures.objects ∙ (λ j. at_place (g.S.Store.objects c.delete_elements.new.store) c.args.id.0 (with_replaced same_made_symbol (c.requires.key j) (c.final_length.ensures j))))
-      ∙ ap (λ n. slice_set old c.args.id.0 (with_replaced same_made_symbol length_key (final_length n c.args.writable c.args.property) (without_elements n o))) c.delete_elements.ensures.count
+    in_turn old (g.S.Store.objects c.delete_elements.new.store) (g.S.Store.objects c.replace.new.self) c.args.id.0
+    (without_elements c.delete_elements.result) (with_replaced same_made_symbol length_key (final_length c.delete_elements.result c.args.writable c.args.property))
+    c.requires.within c.delete_elements.ensures.objects
+    (c.replace.ensures.objects ∙ (λ j. at_place (g.S.Store.objects c.delete_elements.new.store) c.args.id.0 (with_replaced same_made_symbol (c.requires.key j) (c.final_length.ensures j))))
+    ∙ ap (λ n. slice_set old c.args.id.0 (with_replaced same_made_symbol length_key (final_length n c.args.writable c.args.property) (without_elements n o))) c.delete_elements.ensures.count
     in
     λ j. (Done (Flag (nat_eq (c.delete_elements.ensures.count j) c.args.least)), objects j)
