@@ -1,13 +1,5 @@
 -- What is found where a program is looked for.
-use Rattle.std.proofs.Common.{◌≡◌, ℕ, List, true, false, Option, Some, None, Result, Err, refl, sym, ap, ◌∙◌, subst}
-use Rattle.std.specs.Result.{IfErr, MatchResult}
-use Rattle.lava_base.specs.declared.place.Place.{Place}
-use Rattle.js_fault.specs.declared.fault.SyntaxFault.{SyntaxFault}
-use Rattle.js_fault.specs.declared.fault.SyntaxFault.TheVariants as faults
-use Rattle.js_fault.specs.declared.fault.SyntaxWhat.{SyntaxWhat}
-use Rattle.js_reader.specs.Sources.{HasSourceTree, IsSyntaxFault, HasSyntaxCause}
-use Rattle.js_reader.specs.Reading.{IsRefusal}
-use Rattle.lava_streams.specs.declared.folder.FileRead.TheVariants.{Bytes}
+use Rattle.std.proofs.Common.{◌≡◌, ℕ, List, true, false, Option, Some, None, sym, ap, ◌∙◌, subst}
 use Rattle.std.specs.Option.{IfNone, IfSome, is_some}
 use Rattle.lava_streams.specs.Counts.{ForTold}
 use Rattle.lava_streams.specs.Files.{Files}
@@ -21,7 +13,7 @@ use Rattle.lava_cli.specs.declared.source.TheConstants.{FILE_LIMIT}
 use Rattle.lava_cli.specs.declared.source.Source.{Source}
 use Rattle.lava_cli.specs.declared.source.Source.TheVariants as source
 use Rattle.lava_cli.specs.Printed.{lines_text}
-use Rattle.lava_cli.specs.Answers.{IsFileOf, path_of, IsNoFirstForm, IsSource, IsSourceOf, Runs}
+use Rattle.lava_cli.specs.Answers.{IsFileOf, path_of, IsSource, Runs}
 use Rattle.lava_cli.proofs.Sound.{prints_lines}
 use Rattle.lava_cli.proofs.Ruled.{rules_are}
 
@@ -51,22 +43,3 @@ runs_lines told directory s lines e is =
     let found : IsSource told directory (source.Lines lines) = subst (λ t. IsSource told directory t) e is in
     let k = found.2 in
     (k.0, k.1, subst (λ r. IsFileOf told directory r) k.2 found.1, k.3, λ common. prints_lines common k.1 lines k.4)
-
-no_want : (place : Place) (what : SyntaxWhat) → faults.At place what ≡ faults.OutOfMemory → ⊥
-no_want place what e = cc
-
--- what is refused has this fault, no other one, and no tree
-pub refused : {A : Type 0} (bytes : List ℕ) (place : Place) (what : SyntaxWhat) (answer : Result A SyntaxFault)
-    → answer ≡ Err (faults.At place what) → IsNoFirstForm bytes → IfErr answer (HasSyntaxCause bytes)
-    → (HasSourceTree bytes → MatchResult answer (λ r. Unit {0}) (λ f. f ≡ faults.OutOfMemory))
-    → ((p : Place) (w : SyntaxWhat) → IsSyntaxFault bytes p w → MatchResult answer (λ r. ⊥) (IsRefusal p w))
-    → IsSourceOf (Bytes bytes) (source.Refused place what)
-refused {A} bytes place what answer e no cause only other = (
-  bytes,
-  refl,
-  (no, subst (λ (a : Result A SyntaxFault). IfErr a (HasSyntaxCause bytes)) e cause),
-  (
-    λ tree. no_want place what (subst (λ (a : Result A SyntaxFault). MatchResult a (λ r. Unit {0}) (λ f. f ≡ faults.OutOfMemory)) e (only tree)),
-    λ p w h. subst (λ (a : Result A SyntaxFault). MatchResult a (λ r. ⊥) (IsRefusal p w)) e (other p w h),
-  ),
-)
