@@ -1,5 +1,0 @@
-pub mod Array_laws
-pub mod Length_laws
-pub mod Lowering_laws
-pub mod Renamed
-pub mod Sound_laws
