@@ -61,7 +61,7 @@ joined_is None a x w v e k = e
 joined_is (Some f) a x w v e k = k f
 
 abbrev Ended : (Tree → Option State) → (Production → Summary → List Event → Option Flat) → List Event → Type 0
-Ended ended flatly o = (f : Production) (r : Row) → flatly f (summary_of r) (event.Node f ∷ laid r o) ≡ so (ended (Node f r))
+Ended ended flatly o = (f : Production) (r : Row) → flatly f (summary_of r) (event.Node f (summary_of r).parts ∷ laid r o) ≡ so (ended (Node f r))
 
 onward_is : (ended : Tree → Option State) (flatly : Production → Summary → List Event → Option Flat) (s : State) (f : Production) (r : Row) (ps : List Constituent) (t : Lexeme) → Ended ended flatly (laid_out s) → onward_flat flatly (laid_open s) (laid r (laid_out s)) f (summary_of r) (nesting_on (laid_open s)) ps t ≡ so (onward table ended s f r ps t)
 onward_is ended flatly s f r [] t e = e f r
@@ -73,7 +73,7 @@ onward_is ended flatly s f r (Further c w ∷ ps) t e = choose_is (stands_of w t
 only_is : (b c : Bool) (x : Option Flat) (a : Option State) → b ≡ c → x ≡ so a → only_if b x ≡ so (only_if c a)
 only_is b c x a e k = rw (e, k) (so_only c a)
 
-wrapped_is : (f : Production) (ps : List Constituent) (s : State) (h : Production) (r : Row) (t : Lexeme) → wrapped_flat f ps (laid_open s) (event.Node h ∷ laid r (laid_out s)) h (summary_of r) t ≡ so (wrapped table f ps s (Node h r) t)
+wrapped_is : (f : Production) (ps : List Constituent) (s : State) (h : Production) (r : Row) (t : Lexeme) → wrapped_flat f ps (laid_open s) (event.Node h (summary_of r).parts ∷ laid r (laid_out s)) h (summary_of r) t ≡ so (wrapped table f ps s (Node h r) t)
 wrapped_is f [] s h r t = refl
 wrapped_is f (Token w ∷ ps) s h r t = refl
 wrapped_is f (Optional c k ∷ ps) s h r t = refl
@@ -84,7 +84,7 @@ wrapped_is f (Part c ∷ Optional d k ∷ ps) s h r t = refl
 wrapped_is f (Part c ∷ Further d k ∷ ps) s h r t = refl
 wrapped_is f (Part c ∷ Token w ∷ ps) s h r t = only_is (fit_by c h (summary_of r)) (fit grammar c (Node h r)) _ _ (fit_is c h r) (so_only (stands_of w t.terminal) (Some (item f (Then (Then Nil (Node h r)) (Leaf t)) ps ∷ s)))
 
-put_is : (ended : Tree → Option State) (flatly : Production → Summary → List Event → Option Flat) (s : State) (f : Production) (r : Row) (ps : List Constituent) (h : Production) (x : Row) (t : Lexeme) → Ended ended flatly (laid_out s) → put_flat flatly (laid_open s) (event.Node h ∷ laid x (laid r (laid_out s))) f (summary_of r) (nesting_on (laid_open s)) ps h (summary_of x) t ≡ so (put table ended s f r ps (Node h x) t)
+put_is : (ended : Tree → Option State) (flatly : Production → Summary → List Event → Option Flat) (s : State) (f : Production) (r : Row) (ps : List Constituent) (h : Production) (x : Row) (t : Lexeme) → Ended ended flatly (laid_out s) → put_flat flatly (laid_open s) (event.Node h (summary_of x).parts ∷ laid x (laid r (laid_out s))) f (summary_of r) (nesting_on (laid_open s)) ps h (summary_of x) t ≡ so (put table ended s f r ps (Node h x) t)
 put_is ended flatly s f r [] h x t e = refl
 put_is ended flatly s f r (Token w ∷ ps) h x t e = refl
 put_is ended flatly s f r (Further c w ∷ ps) h x t e = refl

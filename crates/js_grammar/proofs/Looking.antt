@@ -12,7 +12,7 @@ use Rattle.js_grammar.specs.declared.nesting.Nesting.{Nesting}
 use Rattle.js_grammar.specs.declared.event.Event.TheVariants as event
 use Rattle.js_grammar.specs.Grammar.{follow, only_if}
 use Rattle.js_grammar.specs.Table.{rule_of, ends_of, stands_of, start_of, wrap_of}
-use Rattle.js_grammar.specs.Fits.{with_node}
+use Rattle.js_grammar.specs.Fits.{with_node, with_absent}
 use Rattle.js_grammar.specs.Flat.{fit_by, Shape, Flat, chosen_of, or_opened, joined_to, begun_flat, opened_flat, onward_flat, wrapped_flat, put_flat, complete_flat, fed_flat}
 use Rattle.js_grammar.specs.Laws.{is_some}
 use Rattle.js_grammar.specs.Looks.{put_looks}
@@ -41,6 +41,14 @@ opened_is [] s o t = refl
 opened_is (f ∷ []) s o t = begun_is f (rule_of f) s o t
 opened_is (f ∷ h ∷ fs) s o t = opened_is (h ∷ fs) _ o t
 
+-- what no production opens
+pub not_opened : (fs : List Production) (s : List Shape) (o : List Event) (t : Lexeme) → opened_would fs t ≡ false → opened_flat fs s o t ≡ None
+not_opened fs s o t h = go (opened_flat fs s o t) (opened_is fs s o t ∙ h)
+  where
+    go : (x : Option Flat) → is_some x ≡ false → x ≡ None
+    go None e = refl
+    go (Some q) e = cc
+
 or_is : (fs : List Production) (a b : Option Flat) (x y : Bool) → is_some a ≡ x → is_some b ≡ y → is_some (or_opened fs a b) ≡ or_would fs x y
 or_is [] a b x y e k = e
 or_is (f ∷ fs) a b x y e k = k
@@ -57,11 +65,11 @@ abbrev Ended : (Production → Summary → List Event → Option Flat) → (Prod
 Ended flatly ended = (f : Production) (m : Summary) (o : List Event) → is_some (flatly f m o) ≡ ended f m
 
 onward_is : (flatly : Production → Summary → List Event → Option Flat) (ended : Production → Summary → Bool) (s : List Shape) (o : List Event) (f : Production) (m : Summary) (b : Nesting) (ps : List Constituent) (t : Lexeme) → Ended flatly ended → is_some (onward_flat flatly s o f m b ps t) ≡ onward_would ended f m ps t
-onward_is flatly ended s o f m b [] t e = e f m (event.Node f ∷ o)
+onward_is flatly ended s o f m b [] t e = e f m (event.Node f m.parts ∷ o)
 onward_is flatly ended s o f m b (Token w ∷ ps) t e = only_some_is (stands_of w t.terminal) _
 onward_is flatly ended s o f m b (Part c ∷ ps) t e = opened_is (start_of c t.terminal t.after_line) _ o t
-onward_is flatly ended s o f m b (Optional c k ∷ ps) t e = or_is (start_of c t.terminal t.after_line) _ _ _ _ (onward_is flatly ended s (event.Absent ∷ o) f m b ps t e) (opened_is (start_of c t.terminal t.after_line) _ o t)
-onward_is flatly ended s o f m b (Further c w ∷ ps) t e = choose_is (stands_of w t.terminal) _ _ _ (onward_is flatly ended s (event.Absent ∷ o) f m b ps t e)
+onward_is flatly ended s o f m b (Optional c k ∷ ps) t e = or_is (start_of c t.terminal t.after_line) _ _ _ _ (onward_is flatly ended s (event.Absent ∷ o) f (with_absent m) b ps t e) (opened_is (start_of c t.terminal t.after_line) _ o t)
+onward_is flatly ended s o f m b (Further c w ∷ ps) t e = choose_is (stands_of w t.terminal) _ _ _ (onward_is flatly ended s (event.Absent ∷ o) f (with_absent m) b ps t e)
 
 wrapped_is : (f : Production) (ps : List Constituent) (s : List Shape) (o : List Event) (h : Production) (x : Summary) (t : Lexeme) → is_some (wrapped_flat f ps s o h x t) ≡ wrapped_would ps h x t
 wrapped_is f [] s o h x t = refl

@@ -17,7 +17,7 @@ use Rattle.js_grammar.specs.Grammar.{Tree, Leaf, Node, Absent, Row, Nil, Then, i
 use Rattle.js_grammar.specs.Machine.{State, feed, feeds}
 use Rattle.js_grammar.specs.Table
 use Rattle.js_grammar.specs.Table.{rule_of, ends_of, stands_of, start_of, wrap_of, pick, operators_at, plain_of}
-use Rattle.js_grammar.specs.Fits.{grammar, table, with_node, summary_of}
+use Rattle.js_grammar.specs.Fits.{with_absent, grammar, table, with_node, summary_of}
 use Rattle.js_grammar.specs.Flat.{fit_by, Shape, shape, nesting_on, laid_open, laid_out}
 use Rattle.js_grammar.specs.Would.{opened_would, or_would, onward_would, wrapped_would, joined_would, put_would, complete_would, would}
 use Rattle.js_grammar.specs.Laws.{from, so, is_some, plain, HasBeginning}
@@ -131,11 +131,11 @@ onward_same k l f m (Part c ∷ ps) t h e = (start_same c t (and_true (part_same
 onward_same k l f m (Optional c v ∷ ps) t h e =
     let a = and_true (steady_at t.at t.terminal (Optional c v)) (steady t.at t.terminal ps) h in
     let b = start_same c t (part_of t.at t.terminal c v a.0) in
-    or_same (start_of c t.terminal t.after_line) (start_of c (plain_of t.terminal) t.after_line) _ _ _ _ b.0 (onward_same k l f m ps t a.1 e) b.1
+    or_same (start_of c t.terminal t.after_line) (start_of c (plain_of t.terminal) t.after_line) _ _ _ _ b.0 (onward_same k l f (with_absent m) ps t a.1 e) b.1
 onward_same k l f m (Further c w ∷ ps) t h e =
     let a = and_true (part_same t.at c t.terminal && set_same w t.terminal) (steady t.at t.terminal ps) h in
     let b = and_true (part_same t.at c t.terminal) (set_same w t.terminal) a.0 in
-    either_same _ _ _ _ (same_is _ _ b.1) (onward_same k l f m ps t a.1 e)
+    either_same _ _ _ _ (same_is _ _ b.1) (onward_same k l f (with_absent m) ps t a.1 e)
 
 steady_behind : (n : ℕ) (k : Terminal) (ps : List Constituent) → steady n k ps ≡ true → steady n k (behind ps) ≡ true
 steady_behind n k [] h = refl

@@ -1,9 +1,10 @@
 -- What a tree has to be beside being built by the rules: the refinements of the cover grammars, and the whole grammar.
-use Rattle.std.specs.Prelude.{max, Bool, true, false, not, ◌&&◌, ◌||◌, cond, Option, Some, None}
+use Rattle.std.specs.Prelude.{ℕ, ◌+◌, max, nat_lt, Bool, true, false, not, ◌&&◌, ◌||◌, cond, Option, Some, None}
 use Rattle.js_grammar.specs.declared.lexeme.Lexeme.{Lexeme}
 use Rattle.js_grammar.specs.declared.symbols.Terminal.{Terminal}
 use Rattle.js_grammar.specs.declared.symbols.Terminal.TheVariants as terminal
 use Rattle.js_grammar.specs.declared.summary.Summary.{Summary}
+use Rattle.js_grammar.specs.declared.summary.TheConstants.{MAX_PARTS}
 use Rattle.js_grammar.specs.declared.symbols.Nonterminal.{Nonterminal}
 use Rattle.js_grammar.specs.declared.symbols.Nonterminal.TheVariants as nonterminal
 use Rattle.js_grammar.specs.declared.symbols.Production.{Production}
@@ -271,21 +272,28 @@ is_literal_pattern f x = is_literal f && x.pattern
 abbrev pub is_super_target : Production → Summary → Bool
 is_super_target f x = is_super_property f x || (is_literal f && x.super_target)
 
+-- one more part, as far as parts are counted
+abbrev pub one_more : ℕ → ℕ
+one_more n = cond (nat_lt n MAX_PARTS) (1 + n) n
+
 abbrev pub empty_summary : Summary
-empty_summary = record { proper = true; valued = false; closed = true; called_new = false; pattern = true; binding = true; ended = false; target = false; bindable = false; literal = false; first_bindable = false; called = false; super_property = false; super_target = false; binding_pattern = false; initialized = false; lone = false; lacks = false; has_part = false; first_height = 0; height = 0; super_first = false; proto_value = false; proto_first = false; proto_rest = false; left_out = None; first = None }
+empty_summary = record { proper = true; valued = false; closed = true; called_new = false; pattern = true; binding = true; ended = false; target = false; bindable = false; literal = false; first_bindable = false; called = false; super_property = false; super_target = false; binding_pattern = false; initialized = false; lone = false; lacks = false; has_part = false; first_height = 0; height = 0; super_first = false; proto_value = false; proto_first = false; proto_rest = false; left_out = None; parts = 0; first = None }
 
 abbrev pub with_leaf : Summary → Lexeme → Summary
-with_leaf m t = record { proper = m.proper; valued = m.valued && is_closing_parenthesis t.terminal; closed = true; called_new = false; pattern = m.pattern && not (m.ended && is_comma t.terminal); binding = m.binding && not (m.ended && is_comma t.terminal); ended = m.ended; target = m.target; bindable = m.bindable; literal = m.literal; first_bindable = m.first_bindable; called = m.called; super_property = m.super_property && is_closing_parenthesis t.terminal; super_target = m.super_target; binding_pattern = m.binding_pattern; initialized = m.initialized; lone = m.lone; lacks = m.lacks; has_part = m.has_part; first_height = m.first_height; height = m.height; super_first = m.super_first; proto_value = m.proto_value; proto_first = m.proto_first; proto_rest = m.proto_rest; left_out = m.left_out; first = first_some m.first (Some t) }
+with_leaf m t = record { proper = m.proper; valued = m.valued && is_closing_parenthesis t.terminal; closed = true; called_new = false; pattern = m.pattern && not (m.ended && is_comma t.terminal); binding = m.binding && not (m.ended && is_comma t.terminal); ended = m.ended; target = m.target; bindable = m.bindable; literal = m.literal; first_bindable = m.first_bindable; called = m.called; super_property = m.super_property && is_closing_parenthesis t.terminal; super_target = m.super_target; binding_pattern = m.binding_pattern; initialized = m.initialized; lone = m.lone; lacks = m.lacks; has_part = m.has_part; first_height = m.first_height; height = m.height; super_first = m.super_first; proto_value = m.proto_value; proto_first = m.proto_first; proto_rest = m.proto_rest; left_out = m.left_out; parts = one_more m.parts; first = first_some m.first (Some t) }
 
 abbrev pub with_node : Summary → Production → Summary → Summary
-with_node m f x = record { proper = m.proper && is_proper f x; valued = not (is_cover_rest f); closed = is_closed f x; called_new = not (is_new f); pattern = m.pattern && (not m.ended && part_pattern f x); binding = m.binding && (not m.ended && part_binding f x); ended = m.ended || ends_pattern f x; target = is_target f x; bindable = is_bindable f x; literal = is_literal f; first_bindable = if_first m.first (is_bindable f x) m.first_bindable; called = is_super_call f; super_property = is_super_property f x; super_target = m.super_target || super_part f x; binding_pattern = is_binding_pattern f; initialized = m.initialized || is_initializer f; lone = is_for_binding f && not x.initialized; lacks = m.lacks || (is_for_binding f && x.binding_pattern); has_part = true; first_height = cond m.has_part m.first_height (height_of f x); height = cond m.has_part (max m.height (height_of f x)) m.height; super_first = m.super_first || (not m.has_part && is_super_target f x); proto_value = m.proto_value || (not m.has_part && (has_proto f x && not (is_literal_pattern f x))); proto_first = m.proto_first || (not m.has_part && has_proto f x); proto_rest = m.proto_rest || (m.has_part && has_proto f x); left_out = first_form m.left_out (forms_in f x); first = first_some m.first x.first }
+with_node m f x = record { proper = m.proper && is_proper f x; valued = not (is_cover_rest f); closed = is_closed f x; called_new = not (is_new f); pattern = m.pattern && (not m.ended && part_pattern f x); binding = m.binding && (not m.ended && part_binding f x); ended = m.ended || ends_pattern f x; target = is_target f x; bindable = is_bindable f x; literal = is_literal f; first_bindable = if_first m.first (is_bindable f x) m.first_bindable; called = is_super_call f; super_property = is_super_property f x; super_target = m.super_target || super_part f x; binding_pattern = is_binding_pattern f; initialized = m.initialized || is_initializer f; lone = is_for_binding f && not x.initialized; lacks = m.lacks || (is_for_binding f && x.binding_pattern); has_part = true; first_height = cond m.has_part m.first_height (height_of f x); height = cond m.has_part (max m.height (height_of f x)) m.height; super_first = m.super_first || (not m.has_part && is_super_target f x); proto_value = m.proto_value || (not m.has_part && (has_proto f x && not (is_literal_pattern f x))); proto_first = m.proto_first || (not m.has_part && has_proto f x); proto_rest = m.proto_rest || (m.has_part && has_proto f x); left_out = first_form m.left_out (forms_in f x); parts = one_more m.parts; first = first_some m.first x.first }
+
+abbrev pub with_absent : Summary → Summary
+with_absent m = record m { parts = one_more m.parts }
 
 -- what is to be known of the parts of a production
 abbrev pub summary_of : Row → Summary
 summary_of Nil = empty_summary
 summary_of (Then r (Leaf t)) = with_leaf (summary_of r) t
 summary_of (Then r (Node f q)) = with_node (summary_of r) f (summary_of q)
-summary_of (Then r Absent) = summary_of r
+summary_of (Then r Absent) = with_absent (summary_of r)
 
 abbrev pub closed_row : Row → Bool
 closed_row r = (summary_of r).closed

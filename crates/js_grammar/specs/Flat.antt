@@ -14,7 +14,7 @@ use Rattle.js_grammar.specs.Grammar.{Leaf, Node, Absent, Row, Nil, Then, only_if
 use Rattle.js_grammar.specs.Machine.{State}
 use Rattle.js_grammar.specs.Table.{rule_of, ends_of, stands_of, has_of, guard_of, start_of, wrap_of}
 use Rattle.js_grammar.specs.Nesting.{outermost, nested}
-use Rattle.js_grammar.specs.Fits.{refined_by, empty_summary, with_leaf, with_node, summary_of}
+use Rattle.js_grammar.specs.Fits.{refined_by, empty_summary, with_leaf, with_node, with_absent, summary_of}
 
 abbrev pub led_by : Nonterminal → Option Lexeme → Bool
 led_by c None = true
@@ -68,11 +68,11 @@ opened_flat (f ∷ []) s o t = begun_flat f (rule_of f) s o t
 opened_flat (f ∷ h ∷ fs) s o t = opened_flat (h ∷ fs) (shape f empty_summary (nesting_on s) (rule_of f) ∷ s) o t
 
 abbrev pub onward_flat : (Production → Summary → List Event → Option Flat) → List Shape → List Event → Production → Summary → Nesting → List Constituent → Lexeme → Option Flat
-onward_flat ended s o f m b [] t = ended f m (event.Node f ∷ o)
+onward_flat ended s o f m b [] t = ended f m (event.Node f m.parts ∷ o)
 onward_flat ended s o f m b (Token w ∷ ps) t = only_if (stands_of w t.terminal) (Some (flat (shape f (with_leaf m t) b ps ∷ s) (event.Leaf t ∷ o)))
 onward_flat ended s o f m b (Part c ∷ ps) t = opened_flat (start_of c t.terminal t.after_line) (shape f m b (Part c ∷ ps) ∷ s) o t
-onward_flat ended s o f m b (Optional c k ∷ ps) t = or_opened (start_of c t.terminal t.after_line) (onward_flat ended s (event.Absent ∷ o) f m b ps t) (opened_flat (start_of c t.terminal t.after_line) (shape f m b (Optional c k ∷ ps) ∷ s) o t)
-onward_flat ended s o f m b (Further c w ∷ ps) t = chosen_of (stands_of w t.terminal) (Some (flat (shape f (with_leaf m t) b (Optional c (Listed w) ∷ ps) ∷ s) (event.Leaf t ∷ o))) (onward_flat ended s (event.Absent ∷ o) f m b ps t)
+onward_flat ended s o f m b (Optional c k ∷ ps) t = or_opened (start_of c t.terminal t.after_line) (onward_flat ended s (event.Absent ∷ o) f (with_absent m) b ps t) (opened_flat (start_of c t.terminal t.after_line) (shape f m b (Optional c k ∷ ps) ∷ s) o t)
+onward_flat ended s o f m b (Further c w ∷ ps) t = chosen_of (stands_of w t.terminal) (Some (flat (shape f (with_leaf m t) b (Optional c (Listed w) ∷ ps) ∷ s) (event.Leaf t ∷ o))) (onward_flat ended s (event.Absent ∷ o) f (with_absent m) b ps t)
 
 abbrev pub wrapped_flat : Production → List Constituent → List Shape → List Event → Production → Summary → Lexeme → Option Flat
 wrapped_flat f (Part c ∷ Token w ∷ ps) s o h x t = only_if (fit_by c h x) (only_if (stands_of w t.terminal) (Some (flat (shape f (with_leaf (with_node empty_summary h x) t) (nesting_on s) ps ∷ s) (event.Leaf t ∷ o))))
@@ -103,7 +103,7 @@ abbrev pub laid : Row → List Event → List Event
 laid Nil o = o
 laid (Then r (Leaf t)) o = event.Leaf t ∷ laid r o
 laid (Then r Absent) o = event.Absent ∷ laid r o
-laid (Then r (Node h q)) o = event.Node h ∷ laid q (laid r o)
+laid (Then r (Node h q)) o = event.Node h (summary_of q).parts ∷ laid q (laid r o)
 
 abbrev pub laid_out : State → List Event
 laid_out [] = []

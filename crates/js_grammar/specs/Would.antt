@@ -7,7 +7,7 @@ use Rattle.js_grammar.specs.declared.symbols.Production.{Production}
 use Rattle.js_grammar.specs.declared.summary.Summary.{Summary}
 use Rattle.js_grammar.specs.Grammar.{follow}
 use Rattle.js_grammar.specs.Table.{rule_of, ends_of, stands_of, start_of, wrap_of}
-use Rattle.js_grammar.specs.Fits.{with_node}
+use Rattle.js_grammar.specs.Fits.{with_node, with_absent}
 use Rattle.js_grammar.specs.Flat.{fit_by, Shape}
 
 abbrev pub begun_would : List Constituent → Lexeme → Bool
@@ -27,8 +27,8 @@ abbrev pub onward_would : (Production → Summary → Bool) → Production → S
 onward_would ended f m [] t = ended f m
 onward_would ended f m (Token w ∷ ps) t = stands_of w t.terminal
 onward_would ended f m (Part c ∷ ps) t = opened_would (start_of c t.terminal t.after_line) t
-onward_would ended f m (Optional c k ∷ ps) t = or_would (start_of c t.terminal t.after_line) (onward_would ended f m ps t) (opened_would (start_of c t.terminal t.after_line) t)
-onward_would ended f m (Further c w ∷ ps) t = stands_of w t.terminal || onward_would ended f m ps t
+onward_would ended f m (Optional c k ∷ ps) t = or_would (start_of c t.terminal t.after_line) (onward_would ended f (with_absent m) ps t) (opened_would (start_of c t.terminal t.after_line) t)
+onward_would ended f m (Further c w ∷ ps) t = stands_of w t.terminal || onward_would ended f (with_absent m) ps t
 
 abbrev pub wrapped_would : List Constituent → Production → Summary → Lexeme → Bool
 wrapped_would (Part c ∷ Token w ∷ ps) h x t = fit_by c h x && stands_of w t.terminal

@@ -6,5 +6,6 @@ use crate::symbols::Production;
 pub enum Event {
     Leaf(Lexeme),
     Absent,
-    Node(Production),
+    /// A production, and how many parts it has; `MAX_PARTS` stands for as many and more.
+    Node(Production, u32),
 }

@@ -1,10 +1,11 @@
 // The reader: a partial tree that takes one token after the other.
-ghost use Rattle.std.specs.Prelude.{◌≡◌, ◌∷◌, IfOk, reverse};
+ghost use Rattle.std.specs.Prelude.{◌≡◌, ◌∷◌, [], ◌+◌, ◌<◌, length, take, true, Some, IfOk, reverse};
 ghost use Rattle.js_grammar.specs.Flat.{fed_in};
 ghost use Rattle.js_grammar.specs.Laws.{from_flat};
-ghost use Rattle.js_grammar.specs.Moves.{flat_in, latest, begun_at, opened_at, leaf_at, part_at, stood_at, onward_at, wrapped_at, put_at, fed_at, Comes, Opens, Takes};
+ghost use Rattle.js_grammar.specs.Moves.{flat_in, shapes_of, shape_in, latest, begun_at, opened_at, leaf_at, part_at, stood_at, onward_at, turned_at, put_at, fed_at, Grows, Comes, Opens, Takes};
 ghost use Rattle.js_grammar.specs.Profile.{is_too_deep, Tells_deep, left_out, Tells_form};
-ghost use Rattle.js_grammar.specs.Would.{would};
+ghost use Rattle.js_grammar.specs.Table.{forms_of};
+ghost use Rattle.js_grammar.specs.Would.{opened_would, would};
 
 use crate::constituents::{Constituent, Repetition};
 use crate::event::Event;
@@ -13,8 +14,9 @@ use crate::lexeme::Lexeme;
 use crate::nesting::{MAX_LEVELS, outermost};
 use crate::open::{
     OpenProduction, Remainder, nesting_on, remainder_after, remainder_of, with_remainder,
+    without_part,
 };
-use crate::prospect::is_taken;
+use crate::prospect::{is_taken, would_open};
 use crate::rules::{Opening, ends_list, is_among, openings, operator, rule};
 use crate::summary::{Summary, empty_summary, fits, with_leaf, with_node};
 use crate::symbols::{Nonterminal, Production};
@@ -66,9 +68,9 @@ impl PartialTree {
         is_taken(&self.stack, lexeme)
     }
 
-    /// Takes a token, or refuses it. Where it is refused, or memory runs out, it is left open what is left.
+    /// Takes a token, or refuses it and leaves the tree as it was. Where memory runs out, it is left open what is left.
     pub fn take(&mut self, lexeme: Lexeme) -> Result<bool, AllocError>
-        ensures { IfOk result (Takes (fed_in self.old lexeme) self.new) }
+        ensures { IfOk result (Takes (fed_in self.old lexeme) self.old self.new) }
     {
         take_next(&mut self.stack, &mut self.events, lexeme)
     }
@@ -123,11 +125,27 @@ pub enum Progress {
 }
 
 /// What stands grows by an event.
-#[tactic(auto, using(crate::proofs::Reversed::reverse_push))]
+#[tactic(auto, using(crate::proofs::Reversed::reverse_push, crate::proofs::Undone::grows_push))]
 fn add_event(out: &mut Vec<Event>, event: Event) -> Result<(), AllocError>
-    ensures { IfOk result (λ _. latest out.new.items ≡ event ∷ latest out.old.items) }
+    ensures moves { IfOk result (λ _. latest out.new.items ≡ event ∷ latest out.old.items) }
+    ensures grows { IfOk result (λ _. Grows out.old.items out.new.items) }
 {
     out.push(event)?;
+    Ok(())
+}
+
+/// What is open above so many productions is over, and one is open there.
+#[tactic(auto, using(crate::proofs::Reversed::reverse_push))]
+fn push_above(
+    stack: &mut Vec<OpenProduction>,
+    below: usize,
+    opened: OpenProduction,
+) -> Result<(), AllocError>
+    ensures { let under = shapes_of (take below stack.old.items) in
+        IfOk result (λ _. shapes_of stack.new.items ≡ shape_in opened ∷ under) }
+{
+    stack.truncate(below);
+    stack.push(opened)?;
     Ok(())
 }
 
@@ -138,14 +156,14 @@ fn begin_production(
     out: &mut Vec<Event>,
     production: Production,
     lexeme: Lexeme,
-) -> Result<bool, AllocError>
-    ensures { IfOk result (Opens (begun_at stack.old out.old production lexeme) stack.new out.new) }
+) -> Result<(), AllocError>
+    requires { opened_would (production ∷ []) lexeme ≡ true }
+    ensures moves { let there = begun_at stack.old.items out.old production lexeme in
+        IfOk result (λ _. there ≡ Some (flat_in stack.new.items out.new.items)) }
+    ensures grows { IfOk result (λ _. Grows out.old.items out.new.items) }
 {
     match rule(production) {
-        [Constituent::Token(set), later @ ..] => {
-            if !is_among(lexeme.terminal, *set) {
-                return Ok(false);
-            }
+        [Constituent::Token(_), later @ ..] => {
             let nesting = nesting_on(stack);
             add_event(out, Event::Leaf(lexeme))?;
             stack.push(OpenProduction {
@@ -154,9 +172,9 @@ fn begin_production(
                 nesting,
                 rest: remainder_of(later),
             })?;
-            Ok(true)
+            Ok(())
         }
-        _ => Ok(false),
+        _ => Ok(()),
     }
 }
 
@@ -167,11 +185,14 @@ fn open_each(
     out: &mut Vec<Event>,
     opening: Opening,
     lexeme: Lexeme,
-) -> Result<bool, AllocError>
-    ensures { IfOk result (Opens (opened_at stack.old out.old opening lexeme) stack.new out.new) }
+) -> Result<(), AllocError>
+    requires { opened_would (forms_of opening) lexeme ≡ true }
+    ensures moves { let there = opened_at stack.old.items out.old opening lexeme in
+        IfOk result (λ _. there ≡ Some (flat_in stack.new.items out.new.items)) }
+    ensures grows { IfOk result (λ _. Grows out.old.items out.new.items) }
 {
     match opening {
-        Opening::Nothing => Ok(false),
+        Opening::Nothing => Ok(()),
         Opening::One(production) => begin_production(stack, out, production, lexeme),
         Opening::Both(production, inner) => {
             let nesting = nesting_on(stack);
@@ -190,64 +211,80 @@ fn open_each(
 #[tactic(auto, using(crate::proofs::Reversed::reverse_push))]
 fn put_leaf(
     stack: &mut Vec<OpenProduction>,
+    below: usize,
     out: &mut Vec<Event>,
     behind: OpenProduction,
     lexeme: Lexeme,
 ) -> Result<(), AllocError>
-    ensures { let there = leaf_at stack.old out.old behind lexeme in
+    ensures moves { let there = leaf_at (take below stack.old.items) out.old behind lexeme in
         IfOk result (λ _. flat_in stack.new.items out.new.items ≡ there) }
+    ensures grows { IfOk result (λ _. Grows out.old.items out.new.items) }
 {
     add_event(out, Event::Leaf(lexeme))?;
-    stack.push(OpenProduction {
-        production: behind.production,
-        summary: with_leaf(behind.summary, lexeme),
-        nesting: behind.nesting,
-        rest: behind.rest,
-    })?;
-    Ok(())
+    push_above(
+        stack,
+        below,
+        OpenProduction {
+            production: behind.production,
+            summary: with_leaf(behind.summary, lexeme),
+            nesting: behind.nesting,
+            rest: behind.rest,
+        },
+    )
 }
 
-/// A production stays open, and its next part begins with the token.
-#[tactic(auto, using(crate::proofs::Reversed::reverse_push))]
+/// A production stays open, and its next part begins with the token, if it may.
+#[tactic(auto, using(crate::proofs::Reversed::reverse_push, crate::proofs::Looking::not_opened))]
 fn open_part(
     stack: &mut Vec<OpenProduction>,
+    below: usize,
     out: &mut Vec<Event>,
     top: OpenProduction,
     opening: Opening,
     lexeme: Lexeme,
 ) -> Result<bool, AllocError>
-    ensures { IfOk result (Opens (part_at stack.old out.old top opening lexeme) stack.new out.new) }
+    ensures moves { let there = part_at (take below stack.old.items) out.old top opening lexeme in
+        IfOk result (Opens there stack.old stack.new out.new) }
+    ensures grows { IfOk result (λ _. Grows out.old.items out.new.items) }
 {
-    stack.push(top)?;
-    open_each(stack, out, opening, lexeme)
+    if !would_open(opening, lexeme) {
+        return Ok(false);
+    }
+    push_above(stack, below, top)?;
+    open_each(stack, out, opening, lexeme)?;
+    Ok(true)
 }
 
 /// A production with its parts so far, before a token.
 #[tactic(auto, using(crate::proofs::Reversed::reverse_push))]
 fn advance_production(
     stack: &mut Vec<OpenProduction>,
+    below: usize,
     out: &mut Vec<Event>,
     top: OpenProduction,
     lexeme: Lexeme,
 ) -> Result<Progress, AllocError>
-    ensures { IfOk result (Comes stack.old out.old (onward_at top lexeme) stack.new out.new) }
+    ensures moves { let under = take below stack.old.items in
+        IfOk result (Comes under stack.old out.old (onward_at top lexeme) stack.new out.new) }
+    ensures grows { IfOk result (λ _. Grows out.old.items out.new.items) }
 {
     let later = top.rest.later;
     match top.rest.next {
         None => {
-            add_event(out, Event::Node(top.production))?;
+            add_event(out, Event::Node(top.production, top.summary.parts))?;
             Ok(Progress::Ended(top.production, top.summary))
         }
         Some(Constituent::Token(set)) => {
             if !is_among(lexeme.terminal, set) {
                 return Ok(Progress::Refused);
             }
-            put_leaf(stack, out, with_remainder(top, remainder_of(later)), lexeme)?;
+            let behind = with_remainder(top, remainder_of(later));
+            put_leaf(stack, below, out, behind, lexeme)?;
             Ok(Progress::Taken)
         }
         Some(Constituent::Part(nonterminal)) => {
             let opening = openings(nonterminal, lexeme.terminal, lexeme.after_line);
-            let taken = open_part(stack, out, top, opening, lexeme)?;
+            let taken = open_part(stack, below, out, top, opening, lexeme)?;
             Ok(if taken {
                 Progress::Taken
             } else {
@@ -258,14 +295,10 @@ fn advance_production(
             let opening = openings(nonterminal, lexeme.terminal, lexeme.after_line);
             if matches!(opening, Opening::Nothing) {
                 add_event(out, Event::Absent)?;
-                return advance_production(
-                    stack,
-                    out,
-                    with_remainder(top, remainder_of(later)),
-                    lexeme,
-                );
+                let behind = without_part(top, remainder_of(later));
+                return advance_production(stack, below, out, behind, lexeme);
             }
-            let taken = open_part(stack, out, top, opening, lexeme)?;
+            let taken = open_part(stack, below, out, top, opening, lexeme)?;
             Ok(if taken {
                 Progress::Taken
             } else {
@@ -275,37 +308,32 @@ fn advance_production(
         Some(Constituent::Further(nonterminal, set)) => {
             if !is_among(lexeme.terminal, set) {
                 add_event(out, Event::Absent)?;
-                return advance_production(
-                    stack,
-                    out,
-                    with_remainder(top, remainder_of(later)),
-                    lexeme,
-                );
+                let behind = without_part(top, remainder_of(later));
+                return advance_production(stack, below, out, behind, lexeme);
             }
             let next = Some(Constituent::Optional(nonterminal, Repetition::Listed(set)));
-            put_leaf(
-                stack,
-                out,
-                with_remainder(top, Remainder { next, later }),
-                lexeme,
-            )?;
+            let behind = with_remainder(top, Remainder { next, later });
+            put_leaf(stack, below, out, behind, lexeme)?;
             Ok(Progress::Taken)
         }
     }
 }
 
-/// A tree becomes the first part of a production, whose second constituent is the token.
+/// A tree becomes the first part of a production, whose second constituent is the token, if it may.
 #[tactic(auto, using(crate::proofs::Reversed::reverse_push))]
 fn wrap_tree(
     stack: &mut Vec<OpenProduction>,
+    below: usize,
     out: &mut Vec<Event>,
+    top: OpenProduction,
     outer: Production,
     inner: Production,
     parts: Summary,
     lexeme: Lexeme,
 ) -> Result<bool, AllocError>
-    ensures { let there = wrapped_at stack.old out.old outer inner parts lexeme in
-        IfOk result (Opens there stack.new out.new) }
+    ensures moves { let there = turned_at (take below stack.old.items) out.old top outer inner parts lexeme in
+        IfOk result (Opens there stack.old stack.new out.new) }
+    ensures grows { IfOk result (λ _. Grows out.old.items out.new.items) }
 {
     match rule(outer) {
         [
@@ -316,6 +344,7 @@ fn wrap_tree(
             if !fits(*nonterminal, inner, parts) || !is_among(lexeme.terminal, *set) {
                 return Ok(false);
             }
+            push_above(stack, below, top)?;
             let nesting = nesting_on(stack);
             add_event(out, Event::Leaf(lexeme))?;
             stack.push(OpenProduction {
@@ -334,6 +363,7 @@ fn wrap_tree(
 #[tactic(auto, using(crate::proofs::Reversed::reverse_push))]
 fn stand_part(
     stack: &mut Vec<OpenProduction>,
+    below: usize,
     out: &mut Vec<Event>,
     top: OpenProduction,
     nonterminal: Nonterminal,
@@ -342,12 +372,12 @@ fn stand_part(
     parts: Summary,
     lexeme: Lexeme,
 ) -> Result<Progress, AllocError>
-    ensures { let there = stood_at top nonterminal behind inner parts lexeme in
-        IfOk result (Comes stack.old out.old there stack.new out.new) }
+    ensures moves { let there = stood_at top nonterminal behind inner parts lexeme in
+        IfOk result (Comes (take below stack.old.items) stack.old out.old there stack.new out.new) }
+    ensures grows { IfOk result (λ _. Grows out.old.items out.new.items) }
 {
     if let Some(outer) = operator(nonterminal, inner, lexeme.terminal) {
-        stack.push(top)?;
-        let taken = wrap_tree(stack, out, outer, inner, parts, lexeme)?;
+        let taken = wrap_tree(stack, below, out, top, outer, inner, parts, lexeme)?;
         return Ok(if taken {
             Progress::Taken
         } else {
@@ -363,59 +393,115 @@ fn stand_part(
         nesting: top.nesting,
         rest: behind,
     };
-    advance_production(stack, out, placed, lexeme)
+    advance_production(stack, below, out, placed, lexeme)
 }
 
 /// A whole tree stands where an open production wants a part.
 #[tactic(auto, using(crate::proofs::Reversed::reverse_push))]
 fn place_tree(
     stack: &mut Vec<OpenProduction>,
+    below: usize,
     out: &mut Vec<Event>,
     top: OpenProduction,
     inner: Production,
     parts: Summary,
     lexeme: Lexeme,
 ) -> Result<Progress, AllocError>
-    ensures { let there = put_at top inner parts lexeme in
-        IfOk result (Comes stack.old out.old there stack.new out.new) }
+    ensures moves { let there = put_at top inner parts lexeme in
+        IfOk result (Comes (take below stack.old.items) stack.old out.old there stack.new out.new) }
+    ensures grows { IfOk result (λ _. Grows out.old.items out.new.items) }
 {
     let later = top.rest.later;
     match top.rest.next {
         Some(Constituent::Part(nonterminal)) => {
             let behind = remainder_of(later);
-            stand_part(stack, out, top, nonterminal, behind, inner, parts, lexeme)
+            stand_part(
+                stack,
+                below,
+                out,
+                top,
+                nonterminal,
+                behind,
+                inner,
+                parts,
+                lexeme,
+            )
         }
         Some(Constituent::Optional(nonterminal, repetition)) => {
             let behind = remainder_after(ends_list(inner), nonterminal, repetition, later);
-            stand_part(stack, out, top, nonterminal, behind, inner, parts, lexeme)
+            stand_part(
+                stack,
+                below,
+                out,
+                top,
+                nonterminal,
+                behind,
+                inner,
+                parts,
+                lexeme,
+            )
         }
         _ => Ok(Progress::Refused),
     }
 }
 
-/// Takes a token, or refuses it.
+/// The open production that stands above so many.
+#[tactic(auto, using(crate::proofs::Undone::above))]
+fn open_above(stack: &[OpenProduction], below: usize) -> OpenProduction
+    requires { below < length stack.now }
+    ensures { let under = shapes_of (take below stack.now) in
+        shapes_of (take (below + 1) stack.now) ≡ shape_in result ∷ under }
+{
+    stack[below]
+}
+
+/// Takes a token, or refuses it: then nothing has changed but that there may be further events.
 #[tactic(auto, using(crate::proofs::Reversed::reverse_push))]
-fn take_next(
+fn walk_down(
     stack: &mut Vec<OpenProduction>,
     out: &mut Vec<Event>,
     lexeme: Lexeme,
 ) -> Result<bool, AllocError>
-    ensures { IfOk result (Opens (fed_at stack.old out.old lexeme) stack.new out.new) }
+    ensures moves { let there = fed_at stack.old.items out.old lexeme in
+        IfOk result (Opens there stack.old stack.new out.new) }
+    ensures grows { IfOk result (λ _. Grows out.old.items out.new.items) }
 {
-    let Some(top) = stack.pop() else {
+    if stack.is_empty() {
         return Ok(false);
-    };
-    let mut progress = advance_production(stack, out, top, lexeme)?;
+    }
+    let mut below = stack.len() - 1;
+    let top = open_above(stack, below);
+    let mut progress = advance_production(stack, below, out, top, lexeme)?;
     loop {
         match progress {
             Progress::Taken => return Ok(true),
             Progress::Refused => return Ok(false),
             Progress::Ended(inner, parts) => {
-                let Some(top) = stack.pop() else {
+                if below == 0 {
                     return Ok(false);
-                };
-                progress = place_tree(stack, out, top, inner, parts, lexeme)?;
+                }
+                below -= 1;
+                let top = open_above(stack, below);
+                progress = place_tree(stack, below, out, top, inner, parts, lexeme)?;
             }
         }
     }
+}
+
+/// Takes a token, or refuses it and leaves all as it was.
+#[tactic(auto, using(crate::proofs::Undone::undone))]
+fn take_next(
+    stack: &mut Vec<OpenProduction>,
+    out: &mut Vec<Event>,
+    lexeme: Lexeme,
+) -> Result<bool, AllocError>
+    ensures { let there = fed_at stack.old.items out.old lexeme in
+        IfOk result (Takes there (flat_in stack.old.items out.old.items) (flat_in stack.new.items out.new.items)) }
+{
+    let start = out.len();
+    let taken = walk_down(stack, out, lexeme)?;
+    if !taken {
+        out.truncate(start);
+    }
+    Ok(taken)
 }

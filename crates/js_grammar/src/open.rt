@@ -1,12 +1,13 @@
 // Open productions: those of a partial tree that are not over.
 ghost use Rattle.std.specs.Prelude.{◌≡◌};
 ghost use Rattle.js_grammar.specs.Grammar.{follow};
+ghost use Rattle.js_grammar.specs.Fits.{with_absent};
 ghost use Rattle.js_grammar.specs.Flat.{nesting_on};
 ghost use Rattle.js_grammar.specs.Moves.{rest_of, shapes_of};
 
 use crate::constituents::{Constituent, Repetition};
 use crate::nesting::{Nesting, nested, outermost};
-use crate::summary::Summary;
+use crate::summary::{Summary, with_absent};
 use crate::symbols::{Nonterminal, Production};
 
 /// The constituents of a production that are to come: the next one, and those behind it.
@@ -32,6 +33,18 @@ pub fn with_remainder(top: OpenProduction, rest: Remainder) -> OpenProduction
     OpenProduction {
         production: top.production,
         summary: top.summary,
+        nesting: top.nesting,
+        rest,
+    }
+}
+
+/// The same production with one part more, which is left out, before these constituents.
+pub fn without_part(top: OpenProduction, rest: Remainder) -> OpenProduction
+    ensures { result ≡ record top { summary = with_absent top.summary; rest = rest } }
+{
+    OpenProduction {
+        production: top.production,
+        summary: with_absent(top.summary),
         nesting: top.nesting,
         rest,
     }

@@ -9,7 +9,7 @@ use crate::constituents::Constituent;
 use crate::lexeme::Lexeme;
 use crate::open::{OpenProduction, Remainder, remainder_after, remainder_of};
 use crate::rules::{Opening, ends_list, is_among, openings, operator, rule};
-use crate::summary::{Summary, fits, with_node};
+use crate::summary::{Summary, fits, with_absent, with_node};
 use crate::symbols::{Nonterminal, Production};
 
 #[derive(Clone, Copy, Drop)]
@@ -30,7 +30,7 @@ fn would_begin(production: Production, lexeme: Lexeme) -> bool
 }
 
 /// Whether the last of these productions begins with the lexeme.
-fn would_open(opening: Opening, lexeme: Lexeme) -> bool
+pub fn would_open(opening: Opening, lexeme: Lexeme) -> bool
     ensures { result ≡ opened_would (forms_of opening) lexeme }
 {
     match opening {
@@ -70,7 +70,8 @@ fn would_advance(
         Some(Constituent::Optional(nonterminal, _)) => {
             let opened = openings(nonterminal, lexeme.terminal, lexeme.after_line);
             if matches!(opened, Opening::Nothing) {
-                return would_advance(production, summary, remainder_of(later), lexeme);
+                let passed = with_absent(summary);
+                return would_advance(production, passed, remainder_of(later), lexeme);
             }
             {
                 if would_open(opened, lexeme) {
@@ -84,7 +85,8 @@ fn would_advance(
             if is_among(lexeme.terminal, set) {
                 return Prospect::Yes;
             }
-            would_advance(production, summary, remainder_of(later), lexeme)
+            let passed = with_absent(summary);
+            would_advance(production, passed, remainder_of(later), lexeme)
         }
     }
 }

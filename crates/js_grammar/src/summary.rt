@@ -1,6 +1,6 @@
 // What is to be known of the parts of a production.
 ghost use Rattle.std.specs.Prelude.{◌≡◌, ◌&&◌, ◌||◌, not, cond, max};
-ghost use Rattle.js_grammar.specs.Fits.{is_cover, is_initialized_name, is_parenthesized, is_cover_comma, is_cover_rest, is_property, is_literal, is_identifier, is_inner, is_free, is_spread_element, is_spread_property, is_assignment, is_comma_element, is_super, is_super_call, is_new, is_if, ends_with_statement, is_binding_pattern, is_initializer, is_for_binding, is_for_declaration, is_closing_parenthesis, is_comma, is_async_of, is_proto, first_some, if_first, is_async_first, is_proto_first, ends_well, is_proper, is_super_property, super_part, is_value_or_pattern, is_target, is_bindable, rest_pattern, rest_binding, part_pattern, part_binding, ends_pattern, is_closed, empty_summary, with_leaf, with_node, is_lone_declaration, is_super_target, has_proto, is_literal_pattern, refined_by};
+ghost use Rattle.js_grammar.specs.Fits.{is_cover, is_initialized_name, is_parenthesized, is_cover_comma, is_cover_rest, is_property, is_literal, is_identifier, is_inner, is_free, is_spread_element, is_spread_property, is_assignment, is_comma_element, is_super, is_super_call, is_new, is_if, ends_with_statement, is_binding_pattern, is_initializer, is_for_binding, is_for_declaration, is_closing_parenthesis, is_comma, is_async_of, is_proto, first_some, if_first, is_async_first, is_proto_first, ends_well, is_proper, is_super_property, super_part, is_value_or_pattern, is_target, is_bindable, rest_pattern, rest_binding, part_pattern, part_binding, ends_pattern, is_closed, empty_summary, one_more, with_absent, with_leaf, with_node, is_lone_declaration, is_super_target, has_proto, is_literal_pattern, refined_by};
 ghost use Rattle.js_grammar.specs.Guarded.{is_guarded};
 ghost use Rattle.js_grammar.specs.Flat.{led_by, fit_by};
 
@@ -10,6 +10,9 @@ use crate::lexeme::Lexeme;
 use crate::nesting::{deeper, first_form, forms_in, height};
 use crate::rules::{guard, guard_at_start, has_production};
 use crate::symbols::{Nonterminal, Production, Terminal};
+
+/// Up to how many parts of a production are counted.
+pub const MAX_PARTS: u32 = u32::MAX;
 
 /// What is to be known of the parts of a production that stand.
 #[derive(Clone, Copy, Drop)]
@@ -66,6 +69,8 @@ pub struct Summary {
     pub proto_rest: bool,
     /// A form that is left out and that stands in a part.
     pub left_out: Option<LeftOut>,
+    /// How many parts stand, tokens and parts that are left out among them; `MAX_PARTS` stands for as many and more.
+    pub parts: u32,
     /// The first token.
     pub first: Option<Lexeme>,
 }
@@ -493,8 +498,25 @@ pub fn empty_summary() -> Summary
         proto_first: false,
         proto_rest: false,
         left_out: None,
+        parts: 0,
         first: None,
     }
+}
+
+/// One more part, as far as parts are counted.
+fn one_more(parts: u32) -> u32
+    ensures { result ≡ one_more parts }
+{
+    if parts < MAX_PARTS { parts + 1 } else { parts }
+}
+
+/// The summary of some parts and one that is left out.
+pub fn with_absent(summary: Summary) -> Summary
+    ensures { result ≡ with_absent summary }
+{
+    let mut longer = summary;
+    longer.parts = one_more(summary.parts);
+    longer
 }
 
 /// The summary of some parts and a token.
@@ -529,6 +551,7 @@ pub fn with_leaf(summary: Summary, lexeme: Lexeme) -> Summary
         proto_first: summary.proto_first,
         proto_rest: summary.proto_rest,
         left_out: summary.left_out,
+        parts: one_more(summary.parts),
         first: first_some(summary.first, Some(lexeme)),
     }
 }
@@ -674,6 +697,7 @@ pub fn with_node(summary: Summary, production: Production, parts: Summary) -> Su
         proto_first: summary.proto_first || !summary.has_part && proto,
         proto_rest: summary.proto_rest || summary.has_part && proto,
         left_out: first_form(summary.left_out, forms_in(production, parts)),
+        parts: one_more(summary.parts),
         first: first_some(summary.first, parts.first),
     }
 }

@@ -14,27 +14,6 @@ use Rattle.js_reader.specs.declared.halt.HaltCause.TheVariants as cause
 use Rattle.js_reader.specs.Halts.{halt, told_of, at_place, stopped, Ends_step}
 use Rattle.js_reader.specs.Steps.{lexeme_of, paired_in, stepped_in, Course, Stuck, unless, after_step, course, Reaches}
 
-none_some : (o : Option Flat) → is_some o ≡ true → o ≡ None → ⊥
-none_some None h e = cc
-none_some (Some q) h e = cc
-
-is_none : (o : Option Flat) → is_some o ≡ false → o ≡ None
-is_none None h = refl
-is_none (Some q) h = cc
-
-pub taken_so : (q : Flat) (t : Lexeme) (new : Flat) (v : Bool) → Looks_ahead → would q.items t ≡ true → Takes (fed_in q t) new v → Takes (stepped_in q t) new v
-taken_so q t new true a w h = rw h refl
-taken_so q t new false a w h = absurd (none_some (fed_in q t) (a q.items q.out t ∙ w) h)
-
-other_so : (w : Bool) (q : Flat) (t : Lexeme) (new : Flat) (v : Bool) → rule_stands t ≡ w → fed_in q t ≡ None → Takes (cond w (paired_in semi q t) (paired_in do_semi q t)) new v → Takes (stepped_in q t) new v
-other_so true q t new true e n h = rw (n, e) h
-other_so true q t new false e n h = rw (n, e) h
-other_so false q t new true e n h = rw (n, e) h
-other_so false q t new false e n h = rw (n, e) h
-
-pub paired_so : (w : Bool) (q : Flat) (t : Lexeme) (new : Flat) (v : Bool) → Looks_ahead → would q.items t ≡ false → rule_stands t ≡ w → Takes (cond w (paired_in semi q t) (paired_in do_semi q t)) new v → Takes (stepped_in q t) new v
-paired_so w q t new v a n e h = other_so w q t new v e (is_none (fed_in q t) (a q.items q.out t ∙ n)) h
-
 pub stuck_so : (p : Place) (o : Option Flat) (h : Halt) (go : Flat → Course) → stopped p o ≡ Some h → after_step p o go ≡ Stuck h
 stuck_so p None h go e = let k : halt p cause.Unexpected ≡ h = cc in ap (λ x. Stuck x) k
 stuck_so p (Some q) h go e = by (told_of q) e

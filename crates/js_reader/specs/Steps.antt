@@ -1,5 +1,5 @@
 -- One token of a source after the other, with a semicolon before it where one is inserted, and what the reader comes to.
-use Rattle.std.specs.Prelude.{◌≡◌, ℕ, ◌+◌, false, cond, List, [], ◌∷◌, Option, Some, None, ◌⊎◌, Result, Ok, Err}
+use Rattle.std.specs.Prelude.{◌≡◌, ℕ, ◌+◌, Bool, true, false, cond, List, [], ◌∷◌, Option, Some, None, ◌⊎◌, Result, Ok, Err}
 use Rattle.lava_base.specs.declared.place.Place.{Place}
 use Rattle.js_grammar.specs.declared.lexeme.Lexeme.{Lexeme}
 use Rattle.js_grammar.specs.declared.symbols.Terminal.{Terminal}
@@ -42,6 +42,11 @@ or_so None o = o
 -- ECMA-262 Rules of Automatic Semicolon Insertion
 abbrev pub stepped_in : Flat → Lexeme → Option Flat
 stepped_in q t = or_so (fed_in q t) (cond (rule_stands t) (paired_in semi q t) (paired_in do_semi q t))
+
+-- whether a token is taken, and what stands then
+abbrev pub Accepts : Option Flat → Flat → Bool → Type 0
+Accepts o new true = o ≡ Some new
+Accepts o new false = o ≡ None
 
 -- what comes of some tokens: all are taken, or the reading stops at one
 pub data Course : Type 0 where

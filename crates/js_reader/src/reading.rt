@@ -4,8 +4,7 @@ ghost use Rattle.std.specs.Prelude.{◌≡◌, ◌<◌, ◌^◌, length, reverse
 ghost use Rattle.lava_base.specs.declared.place.Place.{Place};
 ghost use Rattle.js_grammar.specs.Grammar.{Row};
 ghost use Rattle.js_grammar.specs.Laws.{from_flat, rule_stands};
-ghost use Rattle.js_grammar.specs.Moves.{Takes};
-ghost use Rattle.js_reader.specs.Steps.{alone, lexeme_of, paired_in, stepped_in, course, source_course, Reaches, Answers_course};
+ghost use Rattle.js_reader.specs.Steps.{alone, lexeme_of, paired_in, stepped_in, course, source_course, Accepts, Reaches, Answers_course};
 ghost use Rattle.js_reader.specs.Halts.{told_of, Ends_step};
 ghost use Rattle.js_reader.specs.Reading.{IsTree, IsInLanguage, IsRefusal, HasReason, events_of};
 ghost use Rattle.js_fault.specs.declared.fault.SyntaxFault.TheVariants as fault;
@@ -67,7 +66,7 @@ fn is_behind_end(lexeme: Lexeme) -> bool
 
 /// Takes an inserted semicolon and a token behind it.
 fn take_pair(tree: &mut PartialTree, mark: Lexeme, lexeme: Lexeme) -> Result<bool, AllocError>
-    ensures { IfOk result (Takes (paired_in mark tree.old lexeme) tree.new) }
+    ensures { IfOk result (Accepts (paired_in mark tree.old lexeme) tree.new) }
 {
     if !tree.take(mark)? {
         return Ok(false);
@@ -76,13 +75,11 @@ fn take_pair(tree: &mut PartialTree, mark: Lexeme, lexeme: Lexeme) -> Result<boo
 }
 
 /// Takes a token, with a semicolon before it where one is inserted.
-#[tactic(auto, using(crate::proofs::Taking::taken_so, crate::proofs::Taking::paired_so))]
 fn take_step(tree: &mut PartialTree, lexeme: Lexeme) -> Result<bool, AllocError>
-    ensures { IfOk result (Takes (stepped_in tree.old lexeme) tree.new) }
+    ensures { IfOk result (Accepts (stepped_in tree.old lexeme) tree.new) }
 {
-    laws::flatly();
-    if tree.would_take(lexeme) {
-        return tree.take(lexeme);
+    if tree.take(lexeme)? {
+        return Ok(true);
     }
     if is_behind_end(lexeme) {
         take_pair(tree, alone(Terminal::Inserted), lexeme)

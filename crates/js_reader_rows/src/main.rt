@@ -81,19 +81,21 @@ fn accepted(alloc: Global, count: usize) -> Result<String, AllocError> {
 fn refused(alloc: Global, fault: &SyntaxFault) -> Result<String, AllocError> {
     match fault {
         SyntaxFault::At { place, what } => {
-            format!(in alloc; "{} {}:{}", word_of(what), place.line, place.unit)
+            let (word, name) = words_of(what);
+            format!(in alloc; "{word}{name} {}:{}", place.line, place.unit)
         }
         SyntaxFault::OutOfMemory => format!(in alloc; "out of memory"),
     }
 }
 
-fn word_of(what: &SyntaxWhat) -> &str {
+/// What is wrong, and the name of it.
+fn words_of(what: &SyntaxWhat) -> (&str, &str) {
     match what {
-        SyntaxWhat::NotUtf8 => "not utf-8",
-        SyntaxWhat::BadToken => "bad token",
-        SyntaxWhat::Unsupported(name) => name.as_str(),
-        SyntaxWhat::Unexpected => "unexpected",
-        SyntaxWhat::TooDeep => "too deep",
-        SyntaxWhat::Early(name) => name.as_str(),
+        SyntaxWhat::NotUtf8 => ("not utf-8", ""),
+        SyntaxWhat::BadToken => ("bad token", ""),
+        SyntaxWhat::Unsupported(name) => ("unsupported ", name.as_str()),
+        SyntaxWhat::Unexpected => ("unexpected", ""),
+        SyntaxWhat::TooDeep => ("too deep", ""),
+        SyntaxWhat::Early(name) => ("early ", name.as_str()),
     }
 }
