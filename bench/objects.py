@@ -34,6 +34,11 @@ KINDS = {
     'keys_64': 'keys',
     'remove_64': 'removals',
     'remove_4096': 'removals',
+    'get_0': 'gets',
+    'get_4': 'gets',
+    'set_4': 'sets',
+    'define_4': 'definitions',
+    'push_1': 'pushes',
 }
 
 
@@ -67,8 +72,19 @@ def number_of(key):
     return key if isinstance(key, int) else ord(key[-1]) + len(key)
 
 
+def decided_parts(kind, count):
+    """The same of what objects decide: each Get gives 7, all else is done, and an array has as many elements as were pushed."""
+    for _ in range(count):
+        yield 7 if kind.startswith('get_') else 1
+    if kind.startswith('push_'):
+        yield count
+
+
 def parts(kind, count):
     """What goes into the checksum, part by part."""
+    if kind.startswith(('get_', 'set_', 'define_', 'push_')):
+        yield from decided_parts(kind, count)
+        return
     keys = keys_of(kind)
     thing = {key: place for place, key in enumerate(keys)}
     for turn in range(count):

@@ -443,6 +443,19 @@ DECISIONS = [
     ("c0 Get 'x 5; c0 Set 'x 2 #c0; c0 DefineOwnProperty 'x V0; c0 Delete 'x; c0 PreventExtensions; c0 IsExtensible; c0 SetPrototypeOf null; c0 SetPrototypeOf c1; c0 OwnPropertyKeys", 'undefined false false true true false true false'),
     ("make plain; 7:0 SetPrototypeOf 9:4; 7:0 Get 'x 5; 7:0 Set 'x 2 #7:0; 7:0 HasProperty 'x", 'true 9:4 Get 5 9:4 Set 7:0 9:4 HasProperty'),
     ("make plain; 7:1 IsExtensible; 9:4 IsExtensible; c222 IsExtensible; 7:0 Turn", 'not an object not an object not an object wrong kind'),
+    # Arrays, ArraySetLength and [[DefineOwnProperty]]: elements go from the highest down, until one stays; an element at or past the length raises it.
+    ("make array; 7:0 DefineOwnProperty '0 V7; 7:0 DefineOwnProperty '1 V7; 7:0 DefineOwnProperty '2 V6; 7:0 DefineOwnProperty '3 V7; 7:0 DefineOwnProperty '4 V7; 7:0 Set 'length 1 #7:0; 7:0 Get 'length 5; 7:0 OwnPropertyKeys", "true true true true true false 3 0 1 2 'length"),
+    ("make array; 7:0 DefineOwnProperty '4294967294 V7; 7:0 Get 'length 5; 7:0 DefineOwnProperty '7 V7; 7:0 DefineOwnProperty '3000000000 V7; 7:0 Set 'length 0 #7:0; 7:0 OwnPropertyKeys; 7:0 Get 'length 5", "true 4294967295 true true true 'length 0"),
+    # A length that is not writable stays, and no element comes at or past it.
+    ("make array; 7:0 DefineOwnProperty 'length V0; 7:0 DefineOwnProperty '0 V7; 7:0 DefineOwnProperty '1 V7; 7:0 Set 'length 1 #7:0; 7:0 DefineOwnProperty 'length V0; 7:0 DefineOwnProperty 'length V4; 7:0 OwnPropertyKeys", "true true false false true false 0 'length"),
+    # A number that is no length; another value is made a number, null to 0.
+    ("make array; 7:0 Set 'length -1 #7:0; 7:0 Set 'length 4294967296 #7:0; 7:0 Set 'length 4294967295 #7:0; 7:0 Get 'length 5; 7:0 Set 'length 'x #7:0; 7:0 Set 'length null #7:0; 7:0 Get 'length 5", 'invalid length invalid length true 4294967295 number true 0'),
+    # Elements go before the length stops being writable.
+    ("make array; 7:0 DefineOwnProperty '0 V6; 7:0 DefineOwnProperty '1 V7; 7:0 DefineOwnProperty '2 V7; 7:0 DefineOwnProperty 'length V0; 7:0 GetOwnProperty '1; 7:0 DefineOwnProperty '1 V7; 7:0 Get 'length 5", 'true true true true none false 1'),
+    # An array that is not extensible, and what may not become of its length.
+    ("make array; 7:0 PreventExtensions; 7:0 DefineOwnProperty '0 V7; 7:0 Get 'length 5; 7:0 Set 'length 4 #7:0; 7:0 Delete 'length; 7:0 DefineOwnProperty 'length e3; 7:0 Set 'x 1 #7:0", 'true false 0 true false false false'),
+    # The length of an array that is a prototype.
+    ("make array; make plain; 7:1 SetPrototypeOf 7:0; 7:1 Set 'length 4 #7:1; 7:0 Get 'length 5; 7:1 Get 'length 5; 7:0 DefineOwnProperty 'x V7; 7:0 DefineOwnProperty '0 e3; 7:0 Get 'length 5", 'true true 0 4 true true 1'),
 ]
 
 

@@ -8,16 +8,17 @@ use crate::words::{key_of, number_of, reference_of, two_of, value_of};
 use js_desc::ask::Ask;
 use js_desc::complete::fields;
 use js_desc::decision::{BodyId, Decision};
+use js_desc::descriptor::{Change, Descriptor};
 use js_desc::fault::FaultText;
 use js_desc::reply::Reply;
-use js_exotic::decide::decide;
-use js_ordinary::decide::resume;
-use js_ordinary::next::Next;
+use js_exotic::decide::{decide, resume};
+use js_exotic::next::Next;
 use js_store::flat::FlatStore;
 use js_store::foreign::Foreign;
 use js_store::frozen::{FrozenStore, bare_common};
 use js_store::slot::{Held, Slot};
 use js_store::store::{PLAIN_MARKS, Store};
+use js_text::length::length_key;
 use js_text::value::{Key, Value};
 use lava_base::ids::{ObjId, PartyId, Ref};
 use lava_base::list::List;
@@ -75,18 +76,32 @@ fn marks_of(class: Class, callable: bool) -> Marks {
 fn make(alloc: Global, store: &mut FlatStore, kind: &str) -> Result<(), Fault> {
     let marks = match kind {
         "plain" => PLAIN_MARKS,
+        "array" => marks_of(Class::Array, false),
         "global" => marks_of(Class::Global, false),
         "proxy" => marks_of(Class::Proxy, false),
         _ => marks_of(Class::Function, true),
     };
-    store.make(None, marks, slot_of(alloc, kind)?)?;
+    let id = store.make(None, marks, slot_of(alloc, kind)?)?;
+    if kind == "array" {
+        store.apply(id, length_key(alloc)?, Change::Write(empty_length()))?;
+    }
     Ok(())
+}
+
+/// The property `length` of an empty array.
+fn empty_length() -> Descriptor {
+    Descriptor::Data {
+        value: Value::Int(0),
+        writable: true,
+        enumerable: false,
+        configurable: false,
+    }
 }
 
 /// What an object of a kind keeps. A bound function has the first object as its target, and a repair setter as its prototype.
 fn slot_of(alloc: Global, kind: &str) -> Result<Slot, Fault> {
     match kind {
-        "plain" | "global" => Ok(Slot::Plain),
+        "plain" | "global" | "array" => Ok(Slot::Plain),
         "proxy" => Ok(Slot::Proxy(None)),
         "closure" => Ok(Slot::Closure {
             body: BodyId {
@@ -266,7 +281,10 @@ fn after(
             waiting.push(next)?;
             asked(alloc, out, store, common, target, &ask)
         }
-        Decision::Number { .. } => ended(push_word(out, "number")),
+        Decision::Number { value, next } => {
+            waiting.push(next)?;
+            numbered(alloc, out, store, common, waiting, &value)
+        }
         Decision::Run {
             body,
             this,
@@ -274,6 +292,24 @@ fn after(
             ..
         } => ended(push_run(out, body, &this, &args)),
         _ => Err(Fault::Line),
+    }
+}
+
+/// Hands on the number of null, which is 0; of any other value appends that a number is wanted.
+fn numbered(
+    alloc: Global,
+    out: &mut String,
+    store: &mut FlatStore,
+    common: &FrozenStore,
+    waiting: &mut Vec<Next>,
+    value: &Value,
+) -> Result<Option<Decision<Next>>, Fault> {
+    match value {
+        Value::Null => {
+            let number = Reply::Value(Value::Int(0));
+            answered(alloc, out, store, common, waiting, number)
+        }
+        _ => ended(push_word(out, "number")),
     }
 }
 
