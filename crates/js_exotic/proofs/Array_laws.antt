@@ -54,7 +54,7 @@ abbrev pub AllBelow : {R S : Type 0} → ℕ → Properties R S → Type 0
 AllBelow n ps = AllByRecursion (λ p. is_below n p.0 ≡ true) ps
 
 -- a greater length is above them too
-weaker : {S : Type 0} (n m : ℕ) (k : Key S) → n ≤ m → is_below n k ≡ true → is_below m k ≡ true
+pub weaker : {S : Type 0} (n m : ℕ) (k : Key S) → n ≤ m → is_below n k ≡ true → is_below m k ≡ true
 weaker n m (key.Index i) le h = grind (arith, nat_tests)
 weaker n m (key.Text t) le h = refl
 weaker n m (key.Symbol s) le h = refl
