@@ -1,15 +1,16 @@
 #!/usr/bin/env python3
-"""How many lookups, inserts, listed keys and removals a second an object store does, each kind at counts that grow by 4, until a run takes half a second.
+"""How many lookups, inserts, listed keys and removals a second an object store does, and how many gets, sets, definitions and pushes objects decide, each kind at counts that grow by 4, until a run takes half a second.
 
-    bench/objects.py [PROGRAM]   prints the table
-    bench/objects.py --check     ends with status 1 where a line of crates/lava_bench/stdout is not that of the model below
+    bench/objects.py [PROGRAM]                  prints the table
+    bench/objects.py --instructions [PROGRAM]   prints how many instructions a round has, by valgrind's callgrind
+    bench/objects.py --check                    ends with status 1 where a line of crates/lava_bench/stdout is not that of the model below
 
-PROGRAM is the built program, crates/lava_bench/out/lava_bench unless given. Each figure is the best of five runs, less the best of a run of no rounds.
+PROGRAM is the built program, crates/lava_bench/out/lava_bench unless given. Each time is the best of five runs, less the best of a run of no rounds.
 """
 import os
 import sys
 
-from rounds import seconds
+from rounds import instructions, seconds
 
 TOP = os.path.dirname(os.path.dirname(os.path.abspath(__file__)))
 
@@ -34,6 +35,11 @@ KINDS = {
     'keys_64': 'keys',
     'remove_64': 'removals',
     'remove_4096': 'removals',
+    'get_0': 'gets',
+    'get_4': 'gets',
+    'set_4': 'sets',
+    'define_4': 'definitions',
+    'push_1': 'pushes',
 }
 
 
@@ -67,8 +73,19 @@ def number_of(key):
     return key if isinstance(key, int) else ord(key[-1]) + len(key)
 
 
+def decided_parts(kind, count):
+    """The same of what objects decide: each Get gives 7, all else is done, and an array has as many elements as were pushed."""
+    for _ in range(count):
+        yield 7 if kind.startswith('get_') else 1
+    if kind.startswith('push_'):
+        yield count
+
+
 def parts(kind, count):
     """What goes into the checksum, part by part."""
+    if kind.startswith(('get_', 'set_', 'define_', 'push_')):
+        yield from decided_parts(kind, count)
+        return
     keys = keys_of(kind)
     thing = {key: place for place, key in enumerate(keys)}
     for turn in range(count):
@@ -116,11 +133,20 @@ def measure(program):
         print('%-20s %10d %10.1f %12.1f %10.1f %12.0f %s' % (kind, count, took * 1e3, took * 1e9 / count, took * 1e9 / items, items / took, KINDS[kind]))
 
 
+def count_instructions(program):
+    print('%-20s %20s' % ('kind', 'instructions a round'))
+    for kind in KINDS:
+        more, fewer = instructions(program, kind, 3000), instructions(program, kind, 1000)
+        print('%-20s %20.1f' % (kind, (more - fewer) / 2000))
+
+
 def main():
-    if sys.argv[1:] == ['--check']:
-        check()
-    else:
-        measure(os.path.abspath(sys.argv[1]) if len(sys.argv) > 1 else os.path.join(CRATE, 'out/lava_bench'))
+    words = sys.argv[1:]
+    if words == ['--check']:
+        return check()
+    show = count_instructions if words[:1] == ['--instructions'] else measure
+    names = [word for word in words if not word.startswith('--')]
+    show(os.path.abspath(names[0]) if names else os.path.join(CRATE, 'out/lava_bench'))
 
 
 main()

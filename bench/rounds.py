@@ -1,4 +1,5 @@
 """How long lava_bench takes for rounds of one kind. The scripts beside this one use it."""
+import re
 import subprocess
 import sys
 import time
@@ -17,3 +18,10 @@ def seconds(program, kind, count):
             sys.exit('status %d: %s' % (done.returncode, done.stdout))
         best = took if best is None else min(best, took)
     return best
+
+
+def instructions(program, kind, count):
+    """The instructions of a run, as valgrind's callgrind counts them."""
+    counting = ['valgrind', '--tool=callgrind', '--callgrind-out-file=/dev/null', program]
+    done = subprocess.run(counting, input='%s %d\n' % (kind, count), capture_output=True, text=True)
+    return int(re.search(r'Collected : (\d+)', done.stderr)[1])

@@ -441,8 +441,50 @@ DECISIONS = [
     ("make plain; make repair; make plain; make plain; 7:2 PreventExtensions; 7:1 Call #7:2 4; 7:3 DefineOwnProperty 'x V0; 7:1 Call #7:3 4", 'true cannot define true cannot set'),
     # Objects of the common part don't change; one of another party is asked where it is a prototype, and decides nothing here.
     ("c0 Get 'x 5; c0 Set 'x 2 #c0; c0 DefineOwnProperty 'x V0; c0 Delete 'x; c0 PreventExtensions; c0 IsExtensible; c0 SetPrototypeOf null; c0 SetPrototypeOf c1; c0 OwnPropertyKeys", 'undefined false false true true false true false'),
+    ("c0 GetPrototypeOf; c0 GetOwnProperty 'x; c0 HasProperty 'x; c0 Call 4 8; c0 Construct c0 8", 'null none false not a function not a constructor'),
     ("make plain; 7:0 SetPrototypeOf 9:4; 7:0 Get 'x 5; 7:0 Set 'x 2 #7:0; 7:0 HasProperty 'x", 'true 9:4 Get 5 9:4 Set 7:0 9:4 HasProperty'),
     ("make plain; 7:1 IsExtensible; 9:4 IsExtensible; c222 IsExtensible; 7:0 Turn", 'not an object not an object not an object wrong kind'),
+    # Arrays, ArraySetLength and [[DefineOwnProperty]]: elements go from the highest down, until one stays; an element at or past the length raises it.
+    ("make array; 7:0 DefineOwnProperty '0 V7; 7:0 DefineOwnProperty '1 V7; 7:0 DefineOwnProperty '2 V6; 7:0 DefineOwnProperty '3 V7; 7:0 DefineOwnProperty '4 V7; 7:0 Set 'length 1 #7:0; 7:0 Get 'length 5; 7:0 OwnPropertyKeys", "true true true true true false 3 0 1 2 'length"),
+    ("make array; 7:0 DefineOwnProperty '4294967294 V7; 7:0 Get 'length 5; 7:0 DefineOwnProperty '7 V7; 7:0 DefineOwnProperty '3000000000 V7; 7:0 Set 'length 0 #7:0; 7:0 OwnPropertyKeys; 7:0 Get 'length 5", "true 4294967295 true true true 'length 0"),
+    # A length that is not writable stays, and no element comes at or past it.
+    ("make array; 7:0 DefineOwnProperty 'length V0; 7:0 DefineOwnProperty '0 V7; 7:0 DefineOwnProperty '1 V7; 7:0 Set 'length 1 #7:0; 7:0 DefineOwnProperty 'length V0; 7:0 DefineOwnProperty 'length V4; 7:0 OwnPropertyKeys", "true true false false true false 0 'length"),
+    # A number that is no length; another value is made a number, null to 0.
+    ("make array; 7:0 Set 'length -1 #7:0; 7:0 Set 'length 4294967296 #7:0; 7:0 Set 'length 4294967295 #7:0; 7:0 Get 'length 5; 7:0 Set 'length 'x #7:0; 7:0 Set 'length null #7:0; 7:0 Get 'length 5", 'invalid length invalid length true 4294967295 number true 0'),
+    # Elements go before the length stops being writable.
+    ("make array; 7:0 DefineOwnProperty '0 V6; 7:0 DefineOwnProperty '1 V7; 7:0 DefineOwnProperty '2 V7; 7:0 DefineOwnProperty 'length V0; 7:0 GetOwnProperty '1; 7:0 DefineOwnProperty '1 V7; 7:0 Get 'length 5", 'true true true true none false 1'),
+    # An array that is not extensible, and what may not become of its length.
+    ("make array; 7:0 PreventExtensions; 7:0 DefineOwnProperty '0 V7; 7:0 Get 'length 5; 7:0 Set 'length 4 #7:0; 7:0 Delete 'length; 7:0 DefineOwnProperty 'length e3; 7:0 Set 'x 1 #7:0", 'true false 0 true false false false'),
+    # What stands where elements stay, once the length stops being writable; a definition that is refused takes none out.
+    ("make array; 7:0 DefineOwnProperty '0 V7; 7:0 DefineOwnProperty '1 V7; 7:0 DefineOwnProperty '2 V6; 7:0 DefineOwnProperty '3 V7; 7:0 DefineOwnProperty 'length V0; 7:0 Get 'length 5; 7:0 OwnPropertyKeys; 7:0 DefineOwnProperty '3 V7; 7:0 Set 'length 4 #7:0", "true true true true false 3 0 1 2 'length false false"),
+    ("make array; 7:0 DefineOwnProperty '0 V7; 7:0 DefineOwnProperty '1 V7; 7:0 DefineOwnProperty 'length V6; 7:0 Get 'length 5; 7:0 OwnPropertyKeys", "true true false 2 0 1 'length"),
+    # Set makes elements, and sets the length of a receiver; 4294967295 is no array index.
+    ("make array; 7:0 Set '0 4 #7:0; 7:0 Set '2 4 #7:0; 7:0 Get 'length 5; 7:0 Set '4294967295 4 #7:0; 7:0 Get 'length 5; 7:0 OwnPropertyKeys", "true true 3 true 3 0 2 'length '4294967295"),
+    ("make plain; make array; 7:0 Set 'length 3 #7:1; 7:1 Get 'length 5; 7:0 OwnPropertyKeys", 'true 3'),
+    # The length of an array that is a prototype.
+    ("make array; make plain; 7:1 SetPrototypeOf 7:0; 7:1 Set 'length 4 #7:1; 7:0 Get 'length 5; 7:1 Get 'length 5; 7:0 DefineOwnProperty 'x V7; 7:0 DefineOwnProperty '0 e3; 7:0 Get 'length 5", 'true true 0 4 true true 1'),
+]
+
+# Every method at every kind of object: of each kind whether its prototype may be set, its first key, and what comes of Call and Construct. The object is 7:2; 7:0 is a closure with the property `g`, and the target, global or prototype of the kinds that have one.
+METHODS = "make closure; 7:0 DefineOwnProperty 'g V7; make plain; make %s; 7:2 GetPrototypeOf; 7:2 SetPrototypeOf 7:1; 7:2 GetPrototypeOf; 7:2 DefineOwnProperty 'x V7; 7:2 GetOwnProperty 'x; 7:2 HasProperty 'x; 7:2 Set 'x 2 #7:2; 7:2 Get 'x 5; 7:2 OwnPropertyKeys; 7:2 Delete 'x; 7:2 GetOwnProperty 'x; 7:2 IsExtensible; 7:2 PreventExtensions; 7:2 IsExtensible; 7:2 DefineOwnProperty 'x V7; 7:2 Call 4 8; 7:2 Construct 7:2 8"
+NO_FUNCTION, NO_CONSTRUCTOR = 'not a function', 'not a constructor'
+METHODS_AT = [
+    ('plain', True, '', NO_FUNCTION, NO_CONSTRUCTOR),
+    ('array', True, " 'length", NO_FUNCTION, NO_CONSTRUCTOR),
+    ('global', False, '', NO_FUNCTION, NO_CONSTRUCTOR),
+    ('closure', True, '', 'run 3 4 8', 'run 3 undefined 8'),
+    ('arrow', True, '', 'run 3 4 8', NO_CONSTRUCTOR),
+    ('bound', True, '', 'run 3 5 6 8', 'run 3 undefined 6 8'),
+    # The machine itself runs a `require`.
+    ('require', True, '', NO_FUNCTION, NO_CONSTRUCTOR),
+    # A live accessor gets or sets the property `g` of 7:0, which is 1, or the member `m` of that: a number has no such property, and none can be set on it.
+    ('getter', True, '', '1', NO_CONSTRUCTOR),
+    ('setter', True, '', 'undefined', NO_CONSTRUCTOR),
+    ('member_getter', True, '', 'undefined', NO_CONSTRUCTOR),
+    ('member_setter', True, '', 'cannot set', NO_CONSTRUCTOR),
+    # A repair getter gives its value, 9; a repair setter sets nothing on a primitive.
+    ('repair_getter', True, '', '9', NO_CONSTRUCTOR),
+    ('repair', True, '', 'cannot set', NO_CONSTRUCTOR),
 ]
 
 
@@ -450,6 +492,9 @@ def decision_cases():
     """What objects decide."""
     for steps, answers in DECISIONS:
         yield 'decide ' + steps, answers
+    for kind, is_set, key, called, constructed in METHODS_AT:
+        after = 'true 7:1' if is_set else 'false null'
+        yield 'decide ' + METHODS % kind, "true null %s true 1 true true 2%s 'x true none true true false false %s %s" % (after, key, called, constructed)
 
 
 def cases():

@@ -9,12 +9,16 @@ mod decisions;
 mod definitions;
 mod fault;
 mod foreigners;
+mod kinds;
+mod methods;
 mod names;
+mod outcomes;
 mod sameness;
 mod shown;
 mod stores;
 mod texts;
 mod words;
+mod world;
 
 use crate::fault::Fault;
 use js_store::flat::FlatStore;

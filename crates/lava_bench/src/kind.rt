@@ -35,9 +35,17 @@ pub enum Kind {
     Keys(u32),
     /// Takes the first of so many properties out, and writes it again, which puts it behind the others.
     Remove(u32),
+    /// Asks an object for the value of one of four names, from so many objects that inherit from it.
+    Get(u32),
+    /// Asks an object to set one of its four names.
+    Set,
+    /// Asks an object to define one of its four names again.
+    Define,
+    /// Asks an array to define an element behind its last.
+    Push,
 }
 
-static KINDS: [(&str, Kind); 28] = [
+static KINDS: [(&str, Kind); 33] = [
     ("concat", Kind::Concat),
     ("slice", Kind::Slice),
     ("find", Kind::Find),
@@ -66,6 +74,11 @@ static KINDS: [(&str, Kind); 28] = [
     ("keys_64", Kind::Keys(64)),
     ("remove_64", Kind::Remove(64)),
     ("remove_4096", Kind::Remove(4_096)),
+    ("get_0", Kind::Get(0)),
+    ("get_4", Kind::Get(4)),
+    ("set_4", Kind::Set),
+    ("define_4", Kind::Define),
+    ("push_1", Kind::Push),
 ];
 
 /// The kind of that name.

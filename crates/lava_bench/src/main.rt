@@ -1,6 +1,7 @@
-// Measures texts, numbers, tokens and objects: for each line `KIND COUNT` it does that many rounds of the kind, and prints `KIND COUNT CHECKSUM`.
+// Measures texts, numbers, tokens, objects and what they decide: for each line `KIND COUNT` it does that many rounds of the kind, and prints `KIND COUNT CHECKSUM`.
 #![tactic(auto)]
 
+mod decisions;
 mod fault;
 mod keys;
 mod kind;
@@ -9,6 +10,7 @@ mod numbers;
 mod objects;
 mod texts;
 mod tokens;
+mod world;
 
 use crate::fault::Fault;
 use crate::kind::{Kind, kind_of};
@@ -58,6 +60,10 @@ fn rounds(alloc: Global, kind: Kind, count: u32) -> Result<u32, Fault> {
         Kind::Insert(keys, size) => objects::insert(alloc, keys, size, count),
         Kind::Keys(size) => objects::keys(alloc, size, count),
         Kind::Remove(size) => objects::remove(alloc, size, count),
+        Kind::Get(depth) => decisions::gets(alloc, depth, count),
+        Kind::Set => decisions::sets(alloc, count),
+        Kind::Define => decisions::defines(alloc, count),
+        Kind::Push => decisions::pushes(alloc, count),
     }
 }
 
