@@ -6,3 +6,15 @@ pub mod OnLemmas
 pub mod NamingLemmas
 pub mod OrderLemmas
 pub mod FaultLemmas
+pub mod SplitLemmas
+pub mod NameLemmas
+pub mod RankLemmas
+pub mod PathLemmas
+pub mod SoundLemmas
+pub mod FoundLemmas
+pub mod WalkLemmas
+pub mod HeldLemmas
+pub mod LeastLemmas
+pub mod OrderedLemmas
+pub mod PartyLemmas
+pub mod LawfulLemmas

@@ -5,6 +5,7 @@ ghost use Rattle.lava_streams.specs.Files.{Files};
 ghost use Rattle.pkg_graph.specs.Worlds.{world_of};
 ghost use Rattle.pkg_graph.specs.Faults.{CountsFolder, Agrees};
 ghost use Rattle.pkg_graph.specs.Naming.{read_from, graph_of};
+ghost use Rattle.pkg_graph.specs.Graphs.{IsGraphAnswer};
 
 use crate::fault::GraphFault;
 use crate::link::Link;
@@ -72,6 +73,18 @@ fn read_from<F: Folder>(
     Ok(Graph { packages })
 }
 
+/// The packages of the application in a directory of the folder.
+fn read_packages<F: Folder>(alloc: Global, dir: &str, folder: &mut F) -> Result<Graph, GraphFault>
+    ensures tells { (F.stand folder.new).told ≡ (F.stand folder.old).told }
+    ensures counts { CountsFolder (F.stand folder.old).count (F.stand folder.new).count result }
+    ensures gives { (files : Files) → (F.stand folder.old).told ≡ Some files →
+        Agrees (graph_of (world_of files dir.now)) result }
+{
+    let standing = find_standing(alloc, dir, "", folder)?;
+    let reading = start(alloc, standing)?;
+    read_from(alloc, dir, reading, folder)
+}
+
 /// Reads the packages of the application in a directory of the folder. Each manifest that is found is read once, and judged when it is found; packages are read breadth first, names in byte order.
 ///
 /// # Errors
@@ -82,8 +95,8 @@ pub fn read_graph<F: Folder>(alloc: Global, dir: &str, folder: &mut F) -> Result
     ensures counts { CountsFolder (F.stand folder.old).count (F.stand folder.new).count result }
     ensures gives { (files : Files) → (F.stand folder.old).told ≡ Some files →
         Agrees (graph_of (world_of files dir.now)) result }
+    ensures says { (files : Files) → (F.stand folder.old).told ≡ Some files →
+        IsGraphAnswer (world_of files dir.now) result }
 {
-    let standing = find_standing(alloc, dir, "", folder)?;
-    let reading = start(alloc, standing)?;
-    read_from(alloc, dir, reading, folder)
+    read_packages(alloc, dir, folder)
 }
