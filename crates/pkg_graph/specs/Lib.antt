@@ -1,0 +1,9 @@
+pub mod Faults
+pub mod Gathering
+pub mod Manifests
+pub mod Naming
+pub mod PackageNames
+pub mod Paths
+pub mod Reading
+pub mod Worlds
+pub mod Graphs
