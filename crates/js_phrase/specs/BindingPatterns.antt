@@ -15,17 +15,16 @@ use Rattle.js_phrase.specs.Queues.{rest_of}
 abbrev pub object_pattern : Place → List Phrase → Pattern
 object_pattern place l = pattern.ObjectPattern place (fields_of l) (rest_in l)
 
--- what stands before the first comma of an array pattern
-abbrev pub first_slot : Phrase → List (Option PatternElement)
-first_slot (phrase.Element x) = Some x ∷ []
-first_slot (phrase.Rest p) = []
-first_slot _ = None ∷ []
-
 -- what stands behind a comma of an array pattern
 abbrev pub later_slot : Phrase → List (Option PatternElement)
 later_slot (phrase.Element x) = Some x ∷ []
 later_slot phrase.Hole = None ∷ []
 later_slot _ = []
+
+-- what stands before the first comma; nothing is a hole too
+abbrev pub first_slot : Phrase → List (Option PatternElement)
+first_slot phrase.Absent = None ∷ []
+first_slot p = later_slot p
 
 abbrev pub slots_of : List Phrase → List (Option PatternElement)
 slots_of l = first_slot (next_of l) ++ flat later_slot (rest_of l)

@@ -37,12 +37,14 @@ abbrev pub is_spread_at : ArrayElementLayer → Bool
 is_spread_at (ArrayElement-F.SpreadElement e) = true
 is_spread_at _ = false
 
-abbrev pub is_spread : Option ArrayElement → Bool
-is_spread None = false
-is_spread (Some x) = is_spread_at (out-ArrayElement x)
+abbrev pub is_spread : ArrayElement → Bool
+is_spread x = is_spread_at (out-ArrayElement x)
+
+abbrev pub later_spread : Bool → ArrayElement → Bool
+later_spread old x = is_spread x
 
 abbrev pub ends_with_spread : List ArrayElement → Bool
-ends_with_spread l = is_spread (last_of l)
+ends_with_spread l = folded later_spread false l
 
 -- an array literal with these elements and a comma behind them
 abbrev pub array_before_comma : Place → List ArrayElement → Expr

@@ -82,12 +82,8 @@ fn add_first_slot(
     ensures rest { OnOk result (rest.new ≡ list.with_rest rest.old phrase) }
 {
     match phrase {
-        Phrase::Element(element) => Ok(slots.push(Some(element))?),
-        Phrase::Rest(pattern) => {
-            *rest = Some(pattern);
-            Ok(())
-        }
-        _ => Ok(slots.push(None)?),
+        Phrase::Absent => Ok(slots.push(None)?),
+        other => add_slot(other, slots, rest),
     }
 }
 

@@ -10,3 +10,5 @@ pub mod phrase;
 pub mod phrases;
 pub mod places;
 pub mod queue;
+pub mod refined;
+pub mod targets;

@@ -122,7 +122,20 @@ fn array_before_comma(
 fn ends_with_spread(elements: &[ArrayElement]) -> bool
     ensures { result ≡ spec.ends_with_spread elements.now }
 {
-    matches!(elements.last(), Some(ArrayElement::SpreadElement(_)))
+    let mut ended = false;
+    let mut left = elements;
+    while let [first, rest @ ..] = left {
+        ended = is_spread(first);
+        left = rest;
+    }
+    ended
+}
+
+/// Whether `...` stands before an element.
+pub(crate) fn is_spread(element: &ArrayElement) -> bool
+    ensures { result ≡ spec.is_spread element.now }
+{
+    matches!(element, ArrayElement::SpreadElement(_))
 }
 
 fn add_property(phrase: Phrase, properties: &mut Items<Property>) -> Result<(), OutOfMemory>

@@ -353,7 +353,7 @@ fn no_name(alloc: Global) -> Result<Identifier, OutOfMemory>
     }
 }
 
-fn no_pattern(alloc: Global) -> Result<Boxed<Pattern>, OutOfMemory>
+pub(crate) fn no_pattern(alloc: Global) -> Result<Boxed<Pattern>, OutOfMemory>
     ensures { IfOk result (λ p. p ≡ spec.no_pattern) }
 {
     Ok(Boxed::new(alloc, Pattern::Bound(no_name(alloc)?))?)
@@ -377,7 +377,7 @@ fn statements_in(alloc: Global, statement: Stmt) -> Items<Boxed<Stmt>>
     }
 }
 
-fn no_parameters(alloc: Global) -> Result<Boxed<Parameters>, OutOfMemory>
+pub(crate) fn no_parameters(alloc: Global) -> Result<Boxed<Parameters>, OutOfMemory>
     ensures { IfOk result (λ p. p ≡ spec.no_parameters) }
 {
     let parameters = Parameters {

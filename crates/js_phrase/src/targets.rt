@@ -1,0 +1,155 @@
+// What covers become: targets and parameters.
+
+ghost use Rattle.std.specs.Prelude.{◌≡◌, IfOk, OnOk, [], ◌++◌};
+ghost use Rattle.js_phrase.specs.Phrases.{next_of};
+ghost use Rattle.js_phrase.specs.Queues.{rest_of};
+ghost use Rattle.js_phrase.specs.Targets as spec;
+
+use crate::phrase::{Cover, Operands, Parameters, Phrase};
+use crate::phrases::{no_parameters, no_pattern, parenthesized};
+use crate::places::place_of;
+use crate::queue::Queue;
+use crate::refined::{MAX_LEVELS, element, refined};
+use js_tree::tree::{Declaration, Expr, ForTarget, Pattern, PatternElement};
+use lava_base::memory::OutOfMemory;
+use sqlite_items::{Boxed, Items};
+use std::alloc::Global;
+
+impl Queue<Phrase> {
+    /// Takes what an assignment gives its value to.
+    pub fn target(&mut self, alloc: Global) -> Result<Boxed<Pattern>, OutOfMemory>
+        ensures first { IfOk result (λ p. p ≡ spec.target_of (next_of self.old)) }
+        ensures rest { self.new ≡ rest_of self.old }
+    {
+        target_of(alloc, self.next())
+    }
+
+    /// Takes what a for-in or for-of statement gives its values to.
+    pub fn for_target(&mut self, alloc: Global) -> Result<ForTarget, OutOfMemory>
+        ensures first { IfOk result (λ t. t ≡ spec.for_target_of (next_of self.old)) }
+        ensures rest { self.new ≡ rest_of self.old }
+    {
+        match self.next() {
+            Phrase::Declaration(declaration) => declared_target(alloc, declaration.into_inner()),
+            other => Ok(ForTarget::ForAssignment(target_of(alloc, other)?)),
+        }
+    }
+
+    /// Takes the parameters of an arrow function: what parentheses cover, or a name.
+    pub fn arrow_parameters(&mut self, alloc: Global) -> Result<Boxed<Parameters>, OutOfMemory>
+        ensures first { IfOk result (λ p. p ≡ spec.arrow_parameters_of (next_of self.old)) }
+        ensures rest { self.new ≡ rest_of self.old }
+    {
+        match self.next() {
+            Phrase::Expression(name) => lone_parameter(alloc, name.into_inner()),
+            Phrase::Covered(cover) => covered_parameters(alloc, cover.into_inner()),
+            _ => no_parameters(alloc),
+        }
+    }
+}
+
+fn target_of(alloc: Global, phrase: Phrase) -> Result<Boxed<Pattern>, OutOfMemory>
+    ensures { IfOk result (λ p. p ≡ spec.target_of phrase) }
+{
+    match phrase {
+        Phrase::Expression(expression) => refined(alloc, expression),
+        Phrase::Covered(cover) => {
+            let expression = parenthesized(alloc, cover)?;
+            Ok(Boxed::new(alloc, Pattern::Target(expression))?)
+        }
+        _ => no_pattern(alloc),
+    }
+}
+
+fn declared_target(alloc: Global, declaration: Declaration) -> Result<ForTarget, OutOfMemory>
+    ensures { IfOk result (λ t. t ≡ spec.declared_target declaration) }
+{
+    let Declaration {
+        kind,
+        declarators,
+        ..
+    } = declaration;
+    let pattern = first_bound(alloc, declarators)?;
+    Ok(ForTarget::ForBinding { kind, pattern })
+}
+
+fn first_bound(
+    alloc: Global,
+    declarators: Items<PatternElement>,
+) -> Result<Boxed<Pattern>, OutOfMemory>
+    ensures { IfOk result (λ p. p ≡ spec.first_bound declarators) }
+{
+    match Queue::of(alloc, declarators)?.pop() {
+        Some(first) => Ok(first.pattern),
+        None => no_pattern(alloc),
+    }
+}
+
+fn lone_parameter(alloc: Global, name: Expr) -> Result<Boxed<Parameters>, OutOfMemory>
+    ensures { IfOk result (λ p. p ≡ spec.lone_parameter name) }
+{
+    let place = place_of(&name);
+    let mut elements = Items::new(alloc);
+    add_parameter(alloc, name, &mut elements)?;
+    let parameters = Parameters {
+        place,
+        elements,
+        rest: None,
+    };
+    Ok(Boxed::new(alloc, parameters)?)
+}
+
+fn covered_parameters(alloc: Global, cover: Cover) -> Result<Boxed<Parameters>, OutOfMemory>
+    ensures { IfOk result (λ p. p ≡ spec.covered_parameters cover) }
+{
+    let Cover {
+        place,
+        operands,
+        rest,
+    } = cover;
+    let parameters = Parameters {
+        place,
+        elements: parameters_in(alloc, operands)?,
+        rest,
+    };
+    Ok(Boxed::new(alloc, parameters)?)
+}
+
+fn parameters_in(alloc: Global, operands: Operands) -> Result<Items<PatternElement>, OutOfMemory>
+    ensures { IfOk result (λ l. l ≡ spec.parameters_in operands) }
+{
+    match operands {
+        Operands::NoOperand => Ok(Items::new(alloc)),
+        Operands::Single(operand) => {
+            let mut elements = Items::new(alloc);
+            add_parameter(alloc, operand.into_inner(), &mut elements)?;
+            Ok(elements)
+        }
+        Operands::Several(operands) => all_parameters(alloc, operands),
+    }
+}
+
+fn all_parameters(
+    alloc: Global,
+    operands: Items<Boxed<Expr>>,
+) -> Result<Items<PatternElement>, OutOfMemory>
+    ensures { IfOk result (λ l. l ≡ spec.all_parameters operands) }
+{
+    let mut elements = Items::new(alloc);
+    let mut left = Queue::of(alloc, operands)?;
+    while let Some(operand) = left.pop() {
+        add_parameter(alloc, operand.into_inner(), &mut elements)?;
+    }
+    Ok(elements)
+}
+
+fn add_parameter(
+    alloc: Global,
+    operand: Expr,
+    elements: &mut Items<PatternElement>,
+) -> Result<(), OutOfMemory>
+    ensures { OnOk result (elements.new ≡ elements.old ++ spec.parameter_list_of operand) }
+{
+    let element = element(alloc, operand, MAX_LEVELS)?;
+    Ok(elements.push(element)?)
+}
