@@ -16,9 +16,9 @@ use Rattle.js_reader.specs.Reading.{IsTree, IsInLanguage, HasReason, events_of}
 abbrev pub HasSourceTree : List ℕ → Type 0
 HasSourceTree source = (ts : List Token) × (parts : Row) × IsTokens source ts × IsTree source ts parts × IsInLanguage source ts
 
--- what stands is the tree of the source's tokens
-abbrev pub IsReading : List ℕ → Flat → Type 0
-IsReading source q = (ts : List Token) × (parts : Row) × IsTokens source ts × IsTree source ts parts × IsInLanguage source ts × (q.out ≡ events_of parts)
+-- these are the source's tokens, and what stands is their tree
+abbrev pub IsReading : List ℕ → List Token → Flat → Type 0
+IsReading source ts q = (parts : Row) × IsTokens source ts × IsTree source ts parts × IsInLanguage source ts × (q.out ≡ events_of parts)
 
 -- what is wrong with a source, and at which place: by the lexical grammar, or by the syntactic grammar where it has tokens
 -- own: which of several faults is told, and where
