@@ -1,0 +1,99 @@
+// The folders of rows.
+
+ghost use Rattle.std.specs.Prelude.{◌≤◌};
+
+use crate::fault::Fault;
+use lava_base::memory::OutOfMemory;
+use lava_streams::memory_folder::MemoryFolder;
+use std::alloc::Global;
+
+/// `files PATH=TEXT|..`: files below the application's folder. A path that ends before its `=` with a `/` is that of a manifest there.
+pub fn files_of(alloc: Global, files: &str) -> Result<MemoryFolder, Fault> {
+    let mut folder = MemoryFolder::new(alloc);
+    for file in files.split('|') {
+        if let Some((path, text)) = file.split_once('=') {
+            add(alloc, &mut folder, path, text)?;
+        }
+    }
+    Ok(folder)
+}
+
+/// `fails N PATH=TEXT|..`: the same, where the N-th call on the folder fails.
+pub fn failing(alloc: Global, rest: &str) -> Result<MemoryFolder, Fault> {
+    let (at, files) = rest.split_once(' ').unwrap_or((rest, ""));
+    let mut folder = files_of(alloc, files)?;
+    folder.fail_at(number(at)?.max(1))?;
+    Ok(folder)
+}
+
+/// `chain N`: the application depends on `p1`, and each `pK` on the next.
+pub fn chain(alloc: Global, count: &str) -> Result<MemoryFolder, Fault> {
+    let count = number(count)?;
+    let mut folder = MemoryFolder::new(alloc);
+    add(alloc, &mut folder, "", "{\"dependencies\":{\"p1\":\"1\"}}")?;
+    for k in 1..count {
+        let next = k.saturating_add(1);
+        let text = format!(in alloc; "{{\"dependencies\":{{\"p{next}\":\"1\"}}}}")?;
+        let path = format!(in alloc; "node_modules/p{k}/")?;
+        add(alloc, &mut folder, path.as_str(), text.as_str())?;
+    }
+    let path = format!(in alloc; "node_modules/p{count}/")?;
+    add(alloc, &mut folder, path.as_str(), "{}")?;
+    Ok(folder)
+}
+
+/// `star N`: the application depends on `p1` to `pN`.
+pub fn star(alloc: Global, count: &str) -> Result<MemoryFolder, Fault> {
+    depending(alloc, number(count)?, false)
+}
+
+/// `all N`: the application depends on `p1` to `pN`, and each of these on all.
+pub fn all_on_all(alloc: Global, count: &str) -> Result<MemoryFolder, Fault> {
+    depending(alloc, number(count)?, true)
+}
+
+fn depending(alloc: Global, count: u32, all: bool) -> Result<MemoryFolder, Fault> {
+    let manifest = manifest_of(alloc, count)?;
+    let own = if all { manifest.as_str() } else { "{}" };
+    let mut folder = MemoryFolder::new(alloc);
+    add(alloc, &mut folder, "", manifest.as_str())?;
+    for k in 1..=count {
+        let path = format!(in alloc; "node_modules/p{k}/")?;
+        add(alloc, &mut folder, path.as_str(), own)?;
+    }
+    Ok(folder)
+}
+
+// A manifest that depends on `p1` to `pN`.
+fn manifest_of(alloc: Global, count: u32) -> Result<String, Fault> {
+    let mut text = String::from_str(alloc, "{\"dependencies\":{\"p1\":\"1\"")?;
+    for k in 2..=count {
+        let more = format!(in alloc; ",\"p{k}\":\"1\"")?;
+        text.push_str(more.as_str())?;
+    }
+    text.push_str("}}")?;
+    Ok(text)
+}
+
+// Adds a file below the application's folder.
+fn add(
+    alloc: Global,
+    folder: &mut MemoryFolder,
+    path: &str,
+    text: &str,
+) -> Result<(), OutOfMemory> {
+    let mut whole = String::from_str(alloc, "app/")?;
+    whole.push_str(path)?;
+    if path.is_empty() || path.ends_with('/') {
+        whole.push_str("package.json")?;
+    }
+    folder.add(whole.as_str(), text.as_bytes())
+}
+
+// The number that a text is.
+fn number(text: &str) -> Result<u32, Fault> {
+    match text.parse::<u32>() {
+        Ok(number) => Ok(number),
+        Err(_) => Err(Fault::Line),
+    }
+}
