@@ -6,5 +6,3 @@ pub mod Literals
 pub mod Phrases
 pub mod Places
 pub mod Queues
-pub mod Refined
-pub mod Targets

@@ -10,5 +10,3 @@ pub mod phrase;
 pub mod phrases;
 pub mod places;
 pub mod queue;
-pub mod refined;
-pub mod targets;

@@ -132,7 +132,7 @@ fn ends_with_spread(elements: &[ArrayElement]) -> bool
 }
 
 /// Whether `...` stands before an element.
-pub(crate) fn is_spread(element: &ArrayElement) -> bool
+pub fn is_spread(element: &ArrayElement) -> bool
     ensures { result ≡ spec.is_spread element.now }
 {
     matches!(element, ArrayElement::SpreadElement(_))

@@ -353,7 +353,8 @@ fn no_name(alloc: Global) -> Result<Identifier, OutOfMemory>
     }
 }
 
-pub(crate) fn no_pattern(alloc: Global) -> Result<Boxed<Pattern>, OutOfMemory>
+/// What is bound where nothing is: a name without characters at no place.
+pub fn no_pattern(alloc: Global) -> Result<Boxed<Pattern>, OutOfMemory>
     ensures { IfOk result (λ p. p ≡ spec.no_pattern) }
 {
     Ok(Boxed::new(alloc, Pattern::Bound(no_name(alloc)?))?)
@@ -377,7 +378,8 @@ fn statements_in(alloc: Global, statement: Stmt) -> Items<Boxed<Stmt>>
     }
 }
 
-pub(crate) fn no_parameters(alloc: Global) -> Result<Boxed<Parameters>, OutOfMemory>
+/// No parameters, at no place.
+pub fn no_parameters(alloc: Global) -> Result<Boxed<Parameters>, OutOfMemory>
     ensures { IfOk result (λ p. p ≡ spec.no_parameters) }
 {
     let parameters = Parameters {

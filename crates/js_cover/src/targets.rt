@@ -1,54 +1,20 @@
 // What covers become: targets and parameters.
 
-ghost use Rattle.std.specs.Prelude.{◌≡◌, IfOk, OnOk, [], ◌++◌};
-ghost use Rattle.js_phrase.specs.Phrases.{next_of};
-ghost use Rattle.js_phrase.specs.Queues.{rest_of};
-ghost use Rattle.js_phrase.specs.Targets as spec;
+ghost use Rattle.std.specs.Prelude.{◌≡◌, ◌++◌, IfOk, OnOk};
+ghost use Rattle.js_cover.specs.Targets as spec;
 
-use crate::phrase::{Cover, Operands, Parameters, Phrase};
-use crate::phrases::{no_parameters, no_pattern, parenthesized};
-use crate::places::place_of;
-use crate::queue::Queue;
 use crate::refined::{MAX_LEVELS, element, refined};
+use js_phrase::phrase::{Cover, Operands, Parameters, Phrase};
+use js_phrase::phrases::{no_parameters, no_pattern, parenthesized};
+use js_phrase::places::place_of;
+use js_phrase::queue::Queue;
 use js_tree::tree::{Declaration, Expr, ForTarget, Pattern, PatternElement};
 use lava_base::memory::OutOfMemory;
 use sqlite_items::{Boxed, Items};
 use std::alloc::Global;
 
-impl Queue<Phrase> {
-    /// Takes what an assignment gives its value to.
-    pub fn target(&mut self, alloc: Global) -> Result<Boxed<Pattern>, OutOfMemory>
-        ensures first { IfOk result (λ p. p ≡ spec.target_of (next_of self.old)) }
-        ensures rest { self.new ≡ rest_of self.old }
-    {
-        target_of(alloc, self.next())
-    }
-
-    /// Takes what a for-in or for-of statement gives its values to.
-    pub fn for_target(&mut self, alloc: Global) -> Result<ForTarget, OutOfMemory>
-        ensures first { IfOk result (λ t. t ≡ spec.for_target_of (next_of self.old)) }
-        ensures rest { self.new ≡ rest_of self.old }
-    {
-        match self.next() {
-            Phrase::Declaration(declaration) => declared_target(alloc, declaration.into_inner()),
-            other => Ok(ForTarget::ForAssignment(target_of(alloc, other)?)),
-        }
-    }
-
-    /// Takes the parameters of an arrow function: what parentheses cover, or a name.
-    pub fn arrow_parameters(&mut self, alloc: Global) -> Result<Boxed<Parameters>, OutOfMemory>
-        ensures first { IfOk result (λ p. p ≡ spec.arrow_parameters_of (next_of self.old)) }
-        ensures rest { self.new ≡ rest_of self.old }
-    {
-        match self.next() {
-            Phrase::Expression(name) => lone_parameter(alloc, name.into_inner()),
-            Phrase::Covered(cover) => covered_parameters(alloc, cover.into_inner()),
-            _ => no_parameters(alloc),
-        }
-    }
-}
-
-fn target_of(alloc: Global, phrase: Phrase) -> Result<Boxed<Pattern>, OutOfMemory>
+/// What an assignment gives its value to (ECMA-262, DestructuringAssignmentTarget).
+pub fn target_of(alloc: Global, phrase: Phrase) -> Result<Boxed<Pattern>, OutOfMemory>
     ensures { IfOk result (λ p. p ≡ spec.target_of phrase) }
 {
     match phrase {
@@ -57,7 +23,30 @@ fn target_of(alloc: Global, phrase: Phrase) -> Result<Boxed<Pattern>, OutOfMemor
             let expression = parenthesized(alloc, cover)?;
             Ok(Boxed::new(alloc, Pattern::Target(expression))?)
         }
-        _ => no_pattern(alloc),
+        _ => Ok(no_pattern(alloc)?),
+    }
+}
+
+/// What a for-in or for-of statement gives its values to (ECMA-262, ForInOfStatement).
+pub fn for_target_of(alloc: Global, phrase: Phrase) -> Result<ForTarget, OutOfMemory>
+    ensures { IfOk result (λ t. t ≡ spec.for_target_of phrase) }
+{
+    match phrase {
+        Phrase::Declaration(declaration) => {
+            Ok(declared_target(alloc, declaration.into_inner())?)
+        }
+        other => Ok(ForTarget::ForAssignment(target_of(alloc, other)?)),
+    }
+}
+
+/// The parameters of an arrow function: what parentheses cover, or a name (ECMA-262, ArrowParameters).
+pub fn arrow_parameters_of(alloc: Global, phrase: Phrase) -> Result<Boxed<Parameters>, OutOfMemory>
+    ensures { IfOk result (λ p. p ≡ spec.arrow_parameters_of phrase) }
+{
+    match phrase {
+        Phrase::Expression(name) => Ok(lone_parameter(alloc, name.into_inner())?),
+        Phrase::Covered(cover) => Ok(covered_parameters(alloc, cover.into_inner())?),
+        _ => Ok(no_parameters(alloc)?),
     }
 }
 

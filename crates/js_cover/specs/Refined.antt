@@ -6,7 +6,6 @@ use Rattle.js_tree.specs.Layers.{ExprLayer, PropertyLayer, ArrayElementLayer}
 use Rattle.js_tree.specs.declared.tree.Argument.TheOpen.{Expr-F, ArrayElement-F, Property-F}
 use Rattle.js_tree.specs.declared.tree.ArrayElement.{ArrayElement, out-ArrayElement}
 use Rattle.js_tree.specs.declared.tree.Expr.{Expr, out-Expr}
-use Rattle.js_tree.specs.declared.tree.Expr.TheVariants as expr
 use Rattle.js_tree.specs.declared.tree.Identifier.{Identifier}
 use Rattle.js_tree.specs.declared.tree.Pattern.{Pattern}
 use Rattle.js_tree.specs.declared.tree.Pattern.TheVariants as pattern
@@ -56,14 +55,15 @@ covers_array ended (x ∷ l) = not ended && covers_array (is_spread x) l
 abbrev pub target : Expr → Pattern
 target e = pattern.Target e
 
-abbrev pub may_be_pattern_at : ExprLayer → Bool
-may_be_pattern_at (Expr-F.Name n) = true
-may_be_pattern_at (Expr-F.Object place l) = true
-may_be_pattern_at (Expr-F.Array place l) = true
-may_be_pattern_at _ = false
+abbrev pub is_covered_at : ExprLayer → Bool
+is_covered_at (Expr-F.Name n) = true
+is_covered_at (Expr-F.Object place l) = covers_object false l
+is_covered_at (Expr-F.Array place l) = covers_array false l
+is_covered_at _ = false
 
-abbrev pub may_be_pattern : Expr → Bool
-may_be_pattern e = may_be_pattern_at (out-Expr e)
+-- a name, or a literal that a pattern covers
+abbrev pub is_covered : Expr → Bool
+is_covered e = is_covered_at (out-Expr e)
 
 -- a name with a default, which is the key and is bound
 -- ECMA-262 CoverInitializedName
@@ -126,26 +126,22 @@ module _ (refined : Expr → Pattern) where
   object_covered place l =
       pattern.ObjectPattern place (flat (fields_of refined) l) (folded with_rest_property None l)
 
-  abbrev pub object_refined : Place → List Property → Pattern
-  object_refined place l =
-      cond (covers_object false l) (object_covered place l) (pattern.Target (expr.Object place l))
-
   abbrev pub array_covered : Place → List ArrayElement → Pattern
   array_covered place l =
       pattern.ArrayPattern place (flat (slots_of refined) l) (folded (with_rest_element refined) None l)
 
-  abbrev pub array_refined : Place → List ArrayElement → Pattern
-  array_refined place l =
-      cond (covers_array false l) (array_covered place l) (pattern.Target (expr.Array place l))
+  abbrev pub covered_at : Expr → ExprLayer → Pattern
+  covered_at e (Expr-F.Name n) = pattern.Bound n
+  covered_at e (Expr-F.Object place l) = object_covered place l
+  covered_at e (Expr-F.Array place l) = array_covered place l
+  covered_at e _ = target e
 
-  -- ECMA-262 DestructuringAssignmentTarget
-  abbrev pub refined_at : Expr → ExprLayer → Pattern
-  refined_at e (Expr-F.Name n) = pattern.Bound n
-  refined_at e (Expr-F.Object place l) = object_refined place l
-  refined_at e (Expr-F.Array place l) = array_refined place l
-  refined_at e _ = pattern.Target e
+  -- a name, or a literal that a pattern covers
+  abbrev pub covered : Expr → Pattern
+  covered e = covered_at e (out-Expr e)
 
 -- the pattern that an expression covers, literals looked into down to so many levels
+-- ECMA-262 DestructuringAssignmentTarget
 unfoldable pub refined_to : ℕ → Expr → Pattern
-refined_to zero e = pattern.Target e
-refined_to (suc d) e = refined_at (refined_to d) e (out-Expr e)
+refined_to zero e = target e
+refined_to (suc d) e = cond (is_covered e) (covered (refined_to d) e) (target e)

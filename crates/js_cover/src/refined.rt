@@ -1,10 +1,10 @@
 // The pattern that an expression covers.
 
 ghost use Rattle.std.specs.Prelude.{◌≡◌, ◌++◌, false, IfOk, OnOk};
-ghost use Rattle.js_phrase.specs.Refined as spec;
+ghost use Rattle.js_cover.specs.Refined as spec;
 
-use crate::literals::is_spread;
-use crate::queue::Queue;
+use js_phrase::literals::is_spread;
+use js_phrase::queue::Queue;
 use js_tree::tree::{
     ArrayElement, Expr, Identifier, Pattern, PatternElement, PatternField, Property, PropertyKey,
 };
@@ -17,23 +17,27 @@ use std::alloc::Global;
 pub const MAX_LEVELS: u32 = 256;
 
 /// The pattern that an expression covers (ECMA-262, DestructuringAssignmentTarget).
+#[tactic(auto, using(crate::proofs::Refined_laws::refined_whole))]
 pub fn refined(alloc: Global, expression: Boxed<Expr>) -> Result<Boxed<Pattern>, OutOfMemory>
     ensures { IfOk result (λ p. p ≡ spec.refined_to MAX_LEVELS expression) }
 {
-    if may_be_pattern(expression.get()) {
+    if is_covered(expression.get()) {
         refined_to(alloc, expression.into_inner(), MAX_LEVELS)
     } else {
         Ok(Boxed::new(alloc, Pattern::Target(expression))?)
     }
 }
 
-fn may_be_pattern(expression: &Expr) -> bool
-    ensures { result ≡ spec.may_be_pattern expression.now }
+/// Whether it is a name, or a literal that a pattern covers.
+fn is_covered(expression: &Expr) -> bool
+    ensures { result ≡ spec.is_covered expression.now }
 {
-    matches!(
-        expression,
-        Expr::Name(_) | Expr::Object { .. } | Expr::Array { .. }
-    )
+    match expression {
+        Expr::Name(_) => true,
+        Expr::Object { properties, .. } => covers_object(properties.as_slice()),
+        Expr::Array { elements, .. } => covers_array(elements.as_slice()),
+        _ => false,
+    }
 }
 
 fn target(alloc: Global, expression: Expr) -> Result<Boxed<Pattern>, OutOfMemory>
@@ -44,35 +48,30 @@ fn target(alloc: Global, expression: Expr) -> Result<Boxed<Pattern>, OutOfMemory
 }
 
 #[cycle(refinement)]
+#[tactic(auto, using(crate::proofs::Refined_laws::refined_none, crate::proofs::Refined_laws::refined_whole, crate::proofs::Refined_laws::refined_covered))]
 fn refined_to(alloc: Global, expression: Expr, levels: u32) -> Result<Boxed<Pattern>, OutOfMemory>
     ensures { IfOk result (λ p. p ≡ spec.refined_to levels expression) }
 {
     if levels == 0 {
         return target(alloc, expression);
     }
-    match expression {
-        Expr::Name(name) => Ok(Boxed::new(alloc, Pattern::Bound(name))?),
-        Expr::Object { place, properties } => {
-            object_refined(alloc, place, properties, levels - 1)
-        }
-        Expr::Array { place, elements } => array_refined(alloc, place, elements, levels - 1),
-        other => target(alloc, other),
+    if is_covered(&expression) {
+        covered(alloc, expression, levels - 1)
+    } else {
+        target(alloc, expression)
     }
 }
 
+/// The pattern of a name, or of a literal that a pattern covers.
 #[cycle(refinement)]
-fn object_refined(
-    alloc: Global,
-    place: Place,
-    properties: Items<Property>,
-    levels: u32,
-) -> Result<Boxed<Pattern>, OutOfMemory>
-    ensures { IfOk result (λ p. p ≡ spec.object_refined (spec.refined_to levels) place properties) }
+fn covered(alloc: Global, expression: Expr, levels: u32) -> Result<Boxed<Pattern>, OutOfMemory>
+    ensures { IfOk result (λ p. p ≡ spec.covered (spec.refined_to levels) expression) }
 {
-    if covers_object(properties.as_slice()) {
-        object_covered(alloc, place, properties, levels)
-    } else {
-        target(alloc, Expr::Object { place, properties })
+    match expression {
+        Expr::Name(name) => Ok(Boxed::new(alloc, Pattern::Bound(name))?),
+        Expr::Object { place, properties } => object_covered(alloc, place, properties, levels),
+        Expr::Array { place, elements } => array_covered(alloc, place, elements, levels),
+        other => Ok(target(alloc, other)?),
     }
 }
 
@@ -97,22 +96,6 @@ fn object_covered(
         rest,
     };
     Ok(Boxed::new(alloc, pattern)?)
-}
-
-#[cycle(refinement)]
-fn array_refined(
-    alloc: Global,
-    place: Place,
-    elements: Items<ArrayElement>,
-    levels: u32,
-) -> Result<Boxed<Pattern>, OutOfMemory>
-    ensures { IfOk result (λ p. p ≡ spec.array_refined (spec.refined_to levels) place elements) }
-{
-    if covers_array(elements.as_slice()) {
-        array_covered(alloc, place, elements, levels)
-    } else {
-        target(alloc, Expr::Array { place, elements })
-    }
 }
 
 #[cycle(refinement)]

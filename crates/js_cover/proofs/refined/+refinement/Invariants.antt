@@ -1,19 +1,16 @@
 use Rattle.std.proofs.Common.{◌≡◌, ℕ, ◌+◌, ◌*◌, ◌++◌, length}
 use Rattle.js_phrase.specs.Lists.{flat, folded}
-use Rattle.js_phrase.specs.Refined as spec
-use Rattle.js_phrase.proofs.refined.+refinement.Given as goal
+use Rattle.js_cover.specs.Refined as spec
+use Rattle.js_cover.proofs.refined.+refinement.Given as goal
 
 abbrev pub decreases-refined_to : goal.decreases-refined_to
 decreases-refined_to c = 8 * c.levels + 0
 
-abbrev pub decreases-object_refined : goal.decreases-object_refined
-decreases-object_refined c = 8 * c.levels + 4
+abbrev pub decreases-covered : goal.decreases-covered
+decreases-covered c = 8 * c.levels + 4
 
 abbrev pub decreases-object_covered : goal.decreases-object_covered
 decreases-object_covered c = 8 * c.levels + 3
-
-abbrev pub decreases-array_refined : goal.decreases-array_refined
-decreases-array_refined c = 8 * c.levels + 4
 
 abbrev pub decreases-array_covered : goal.decreases-array_covered
 decreases-array_covered c = 8 * c.levels + 3

@@ -13,11 +13,11 @@ use Rattle.js_phrase.specs.declared.phrase.Operands.TheVariants as operands
 use Rattle.js_phrase.specs.declared.phrase.Parameters.{Parameters}
 use Rattle.js_phrase.specs.declared.phrase.Phrase.{Phrase}
 use Rattle.js_phrase.specs.declared.phrase.Phrase.TheVariants as phrase
-use Rattle.js_phrase.specs.declared.refined.TheConstants.{MAX_LEVELS}
+use Rattle.js_cover.specs.declared.refined.TheConstants.{MAX_LEVELS}
 use Rattle.js_phrase.specs.Lists.{flat}
 use Rattle.js_phrase.specs.Phrases.{parenthesized, no_pattern, no_parameters}
 use Rattle.js_phrase.specs.Places.{place_of}
-use Rattle.js_phrase.specs.Refined.{element, refined_to}
+use Rattle.js_cover.specs.Refined.{element, refined_to}
 
 -- what stands before `=`
 -- ECMA-262 AssignmentExpression, LeftHandSideExpression = AssignmentExpression
