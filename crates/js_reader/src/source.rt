@@ -52,7 +52,8 @@ fn token_reading(
 /// A lexical fault comes before a syntactic one. `OutOfMemory` may come of any source, and comes of one of more than `MAX_SOURCE` bytes.
 pub fn source_reading(alloc: Global, source: &[u8]) -> Result<SourceReading, SyntaxFault>
     ensures tree { IfOk result (λ r. IsReading source.now r.tokens r.reading) }
-    ensures only { HasSourceTree source.now → MatchResult result (λ r. Unit {0}) (λ f. f ≡ fault.OutOfMemory) }
+    ensures only { HasSourceTree source.now →
+        MatchResult result (λ r. Unit {0}) (λ f. f ≡ fault.OutOfMemory) }
     ensures cause { IfErr result (HasSyntaxCause source.now) }
     ensures refused { (p : Place) (w : SyntaxWhat) → IsSyntaxFault source.now p w →
         MatchResult result (λ r. ⊥) (IsRefusal p w) }
