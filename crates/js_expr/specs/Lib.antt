@@ -1,0 +1,16 @@
+pub mod Arrays
+pub mod Arrows
+pub mod Assignments
+pub mod Commas
+pub mod Covers
+pub mod Literals
+pub mod Members
+pub mod Names
+pub mod News
+pub mod Numbers
+pub mod Objects
+pub mod Operations
+pub mod Operators
+pub mod Parts
+pub mod PropertyNames
+pub mod Templates

@@ -1,0 +1,4 @@
+pub mod ExpressionForms
+pub mod Forms
+pub mod Modules
+pub mod Trees
