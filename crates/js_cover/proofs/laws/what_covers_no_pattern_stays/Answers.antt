@@ -5,7 +5,7 @@ use Rattle.js_cover.proofs.Refined_laws.{refined_whole}
 use Rattle.js_cover.proofs.laws.what_covers_no_pattern_stays.Goals as goal
 
 pub returns-clause-name : goal.returns-clause-name
-unfolding refined_to out-Expr
+unfolding refined_to out-Expr denote.Hole.Carrier.out
 returns-clause-name c = λ n i. refl
 
 pub returns-clause-others : goal.returns-clause-others
