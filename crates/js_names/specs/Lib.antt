@@ -1,3 +1,4 @@
+pub mod Lasts
 pub mod Lists
 pub mod Names
 pub mod Scopes
