@@ -1,0 +1,4 @@
+pub mod Contexts
+pub mod Faults
+pub mod Rules
+pub mod Walks

@@ -1,0 +1,4 @@
+pub mod Lasts
+pub mod Lists
+pub mod Names
+pub mod Scopes
