@@ -1,6 +1,6 @@
 -- The pattern that an expression covers. A literal that ECMA-262's AssignmentPattern doesn't cover stays whole, as a target: so an early rule
 -- sees all of it, and refuses it since it is no simple target.
-use Rattle.std.specs.Prelude.{ℕ, zero, suc, Bool, true, false, not, ◌&&◌, cond, List, [], ◌∷◌, ◌++◌, Option, Some, None}
+use Rattle.std.specs.Prelude.{ℕ, zero, suc, Bool, true, false, not, ◌&&◌, cond, List, [], ◌∷◌, Option, Some, None}
 use Rattle.lava_base.specs.declared.place.Place.{Place}
 use Rattle.js_tree.specs.Layers.{ExprLayer, PropertyLayer, ArrayElementLayer}
 use Rattle.js_tree.specs.declared.tree.Argument.TheOpen.{Expr-F, ArrayElement-F, Property-F}

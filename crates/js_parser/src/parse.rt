@@ -39,8 +39,10 @@ fn made_module(
     }
 }
 
-/// Reads a source of a kind.
-fn parse_source(alloc: Global, kind: SourceKind, source: &[u8]) -> Result<Module, SyntaxFault>
+/// Reads a source of a kind (ECMA-262, ParseText with Module as the goal): it answers its syntax tree.
+///
+/// A lexical fault comes before a syntactic one. `OutOfMemory` may come of any source, and comes of one of more than `MAX_SOURCE` bytes.
+pub fn parse_source(alloc: Global, kind: SourceKind, source: &[u8]) -> Result<Module, SyntaxFault>
     ensures tree { IfOk result (IsModuleOf kind source.now) }
     ensures only { HasSourceTree source.now → MatchResult result (λ m. Unit {0}) (λ f. f ≡ fault.OutOfMemory) }
     ensures cause { IfErr result (HasSyntaxCause source.now) }

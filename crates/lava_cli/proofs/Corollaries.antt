@@ -13,7 +13,8 @@ use Rattle.js_fault.specs.declared.fault.SyntaxWhat.{SyntaxWhat}
 use Rattle.js_fault.specs.declared.fault.SyntaxFault.TheVariants as faults
 use Rattle.js_fault.specs.declared.fault.SyntaxWhat.TheVariants as what
 use Rattle.js_reader.specs.Reading.{IsRefusal}
-use Rattle.js_reader.specs.Sources.{IsSyntaxFault}
+use Rattle.js_program.specs.Programs.{IsProgramFault}
+use Rattle.js_tree.specs.declared.tree.SourceKind.TheVariants as kinds
 use Rattle.lava_cli.specs.Answers.{directory_of, file_of, IsFileOf, IsFirstForm, IsNoFirstForm, IsRefused, IsOnlyFault, IsUnsupported, HasNoFault, ComesIn, Comes, status_of, Writes, WritesOrLacks, Reports, Answers, IsDone, SomeFailed, StopsEarly, MissingComes, SyntaxComes, UnsupportedComes, RunComes}
 
 -- a folder that tells its files told what was read
@@ -171,7 +172,7 @@ module _ (words : List (List ℕ)) (before after : Outside) (status : ℕ) where
     syntax_in bytes place what e is outcome.Missing c r = absurd (absent_is_bytes bytes (sym (read_is d files Absent (Bytes bytes) tells e c.1)))
     syntax_in bytes place what e is (outcome.Syntax at said) c r =
         let same : Bytes bytes ≡ Bytes c.1.0 = sym (read_is d files (Bytes c.1.0) (Bytes bytes) tells e c.1.1) in
-        told place at what said (c.1.3.1 place what (subst (λ b. IsSyntaxFault b place what) (let z : bytes ≡ c.1.0 = cc in z) is.1)) r
+        told place at what said (c.1.3.1 place what (subst (λ b. IsProgramFault kinds.Module b place what) (let z : bytes ≡ c.1.0 = cc in z) is.1)) r
     syntax_in bytes place what e is outcome.Unsupported c r = absurd (subst HasNoFault (read_is d files c.1.0 (Bytes bytes) tells e c.1.1) c.1.3 place what is.1)
     syntax_in bytes place what e is outcome.FolderFailed c r = inr (inl (c.0, r))
     syntax_in bytes place what e is outcome.OutputFailed c r =

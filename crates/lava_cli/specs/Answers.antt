@@ -5,7 +5,8 @@ use Rattle.js_text.specs.Texts.{same_units}
 use Rattle.js_fault.specs.declared.fault.SyntaxWhat.{SyntaxWhat}
 use Rattle.js_fault.specs.declared.fault.SyntaxFault.TheVariants as faults
 use Rattle.js_reader.specs.Reading.{IsRefusal}
-use Rattle.js_reader.specs.Sources.{HasSourceTree, IsSyntaxFault}
+use Rattle.js_program.specs.Programs.{HasProgram, IsProgramFault}
+use Rattle.js_tree.specs.declared.tree.SourceKind.TheVariants as kinds
 use Rattle.lava_streams.specs.Counts.{ForTold}
 use Rattle.lava_streams.specs.Files.{Files}
 use Rattle.lava_streams.specs.Folders.{file_read}
@@ -60,25 +61,25 @@ IsFirstForm bytes program = IsFirstFormText bytes program × (follows_rules prog
 abbrev pub IsNoFirstForm : (bytes : List ℕ) → Type 0
 IsNoFirstForm bytes = (program : List Statement) → IsFirstForm bytes program → ⊥
 
--- no program of the first form, and at this place no source of the language: which of several faults is told, js_reader says
+-- no program of the first form, and at this place no program of the language: which of several faults is told, js_program says
 abbrev pub IsRefused : (bytes : List ℕ) → Place → SyntaxWhat → Type 0
-IsRefused bytes place what = IsNoFirstForm bytes × IsSyntaxFault bytes place what
+IsRefused bytes place what = IsNoFirstForm bytes × IsProgramFault kinds.Module bytes place what
 
--- no other fault is told of these bytes, but for another form that is left out at the same token, and they have no tree
+-- no other fault is told of these bytes, but for another form that is left out at the same token, and they are no program
 abbrev pub IsOnlyFault : (bytes : List ℕ) → Place → SyntaxWhat → Type 0
 IsOnlyFault bytes place what =
-    (HasSourceTree bytes → ⊥)
-    × ((other : Place) (w : SyntaxWhat) → IsSyntaxFault bytes other w → IsRefusal other w (faults.At place what))
+    (HasProgram kinds.Module bytes → ⊥)
+    × ((other : Place) (w : SyntaxWhat) → IsProgramFault kinds.Module bytes other w → IsRefusal other w (faults.At place what))
 
--- a file that is too long, or has a tree and is no program of the first form
+-- a file that is too long, or is a program of the language and none of the first form
 abbrev pub IsUnsupported : FileRead → Type 0
-IsUnsupported (Bytes bytes) = IsNoFirstForm bytes × HasSourceTree bytes
+IsUnsupported (Bytes bytes) = IsNoFirstForm bytes × HasProgram kinds.Module bytes
 IsUnsupported Absent = ⊥
 IsUnsupported Longer = Unit {0}
 
 -- no fault is told of a file
 abbrev pub HasNoFault : FileRead → Type 0
-HasNoFault (Bytes bytes) = (place : Place) (what : SyntaxWhat) → IsSyntaxFault bytes place what → ⊥
+HasNoFault (Bytes bytes) = (place : Place) (what : SyntaxWhat) → IsProgramFault kinds.Module bytes place what → ⊥
 HasNoFault Absent = Unit {0}
 HasNoFault Longer = Unit {0}
 
@@ -117,12 +118,12 @@ ComesIn directory before after outcome.Usage = ⊥
 -- there is no such file
 ComesIn directory before after outcome.Missing =
     IsFaultless before.folder after.folder × IsFileOf before.folder.told directory Absent × (after.output ≡ before.output)
--- the file is no source of the language
+-- the file is no program of the language
 ComesIn directory before after (outcome.Syntax place what) =
     IsFaultless before.folder after.folder
     × ((bytes : List ℕ) × IsFileOf before.folder.told directory (Bytes bytes) × IsRefused bytes place what × IsOnlyFault bytes place what)
     × (after.output ≡ before.output)
--- the file is too long, or has a tree and is not of the first form
+-- the file is too long, or is a program of the language and not of the first form
 ComesIn directory before after outcome.Unsupported =
     IsFaultless before.folder after.folder
     × ((r : FileRead) × IsFileOf before.folder.told directory r × IsUnsupported r × HasNoFault r) × (after.output ≡ before.output)
@@ -245,14 +246,14 @@ MissingComes words before after status =
     Tells words before Absent
     → Writes outcome.Missing before.errors after.errors status ⊎ StopsEarly before after status
 
--- where the folder tells a file that is no source of the language, its fault is the answer (of several forms that are left out at one token one of them), unless the folder failed or memory ran out
+-- where the folder tells a file that is no program of the language, its fault is the answer (of several forms that are left out at one token one of them), unless the folder failed or memory ran out
 abbrev pub SyntaxComes : (words : List (List ℕ)) → (before after : Outside) → (status : ℕ) → Type 0
 SyntaxComes words before after status =
     (bytes : List ℕ) (place : Place) (what : SyntaxWhat) → Tells words before (Bytes bytes) → IsRefused bytes place what
     → ((said : SyntaxWhat) × IsRefusal place what (faults.At place said) × Writes (outcome.Syntax place said) before.errors after.errors status)
     ⊎ StopsEarly before after status
 
--- where the folder tells a file that is too long, or has a tree and is not of the first form, that is the answer, unless the folder failed or memory ran out
+-- where the folder tells a file that is too long, or is a program of the language and not of the first form, that is the answer, unless the folder failed or memory ran out
 abbrev pub UnsupportedComes : (words : List (List ℕ)) → (before after : Outside) → (status : ℕ) → Type 0
 UnsupportedComes words before after status =
     (r : FileRead) → Tells words before r → IsUnsupported r

@@ -9,7 +9,8 @@ use crate::lines::lines_of;
 use crate::program::Constant;
 use crate::reader::read;
 use js_fault::fault::{SyntaxFault, SyntaxWhat};
-use js_reader::source::source_reading;
+use js_program::program::read_program;
+use js_tree::tree::SourceKind;
 use lava_base::list::List;
 use lava_base::memory::OutOfMemory;
 use lava_base::place::Place;
@@ -28,9 +29,9 @@ pub const ENTRY: &str = "/index.js";
 pub enum Source {
     /// There is no file.
     Absent,
-    /// The file is too long, or has a tree and is no program of the first form.
+    /// The file is too long, or is a program of the language and none of the first form.
     Unsupported,
-    /// The file is no source of the language.
+    /// The file is no program of the language.
     Refused { place: Place, what: SyntaxWhat },
     /// A program, which prints these lines.
     Lines(List<List<Constant>>),
@@ -50,7 +51,7 @@ fn other_source(alloc: Global, bytes: &[u8]) -> Result<Source, OutOfMemory>
     requires { IsNoFirstForm bytes.now }
     ensures { IfOk result (λ s. IsSourceOf (FileRead.Bytes bytes.now) s) }
 {
-    match source_reading(alloc, bytes) {
+    match read_program(alloc, SourceKind::Module, bytes) {
         Ok(_) => Ok(Source::Unsupported),
         Err(SyntaxFault::At { place, what }) => Ok(Source::Refused { place, what }),
         Err(SyntaxFault::OutOfMemory) => Err(OutOfMemory),

@@ -1,4 +1,4 @@
-use Rattle.std.proofs.Common.{◌≡◌, ℕ, ◌+◌, ◌*◌, ◌++◌, length}
+use Rattle.std.proofs.Common.{◌≡◌, ◌+◌, ◌*◌, ◌++◌, length}
 use Rattle.js_phrase.specs.Lists.{flat, folded}
 use Rattle.js_cover.specs.Refined as spec
 use Rattle.js_cover.proofs.refined.+refinement.Given as goal

@@ -1,4 +1,4 @@
-use Rattle.std.proofs.Common.{◌≡◌, ℕ, false, length}
+use Rattle.std.proofs.Common.{◌≡◌, false, length}
 use Rattle.js_cover.specs.Refined.{covers_array}
 use Rattle.js_cover.proofs.refined.covers_array.Given as goal
 

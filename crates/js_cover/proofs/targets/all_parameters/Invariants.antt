@@ -1,4 +1,4 @@
-use Rattle.std.proofs.Common.{◌≡◌, ◌++◌, ℕ, length}
+use Rattle.std.proofs.Common.{◌≡◌, ◌++◌, length}
 use Rattle.js_phrase.specs.Lists.{flat}
 use Rattle.js_cover.specs.Targets.{parameter_list_of}
 use Rattle.js_cover.proofs.targets.all_parameters.Given as goal
