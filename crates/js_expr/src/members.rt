@@ -1,6 +1,6 @@
 // Members and calls, and chains of them with `?.`.
 
-ghost use Rattle.std.specs.Prelude.{◌≡◌, IfOk};
+ghost use Rattle.std.specs.Prelude.{◌≡◌, false, IfOk};
 ghost use Rattle.js_expr.specs.Members as spec;
 
 use crate::names::identifier;

@@ -28,8 +28,8 @@ pub same_tree : (lists : (s : List ℕ) (a b : List Token) → IsTokens s a → 
 same_tree lists trees kind source a b x y =
     let tokens : x.0 ≡ y.0 = lists source x.0 y.0 x.2 y.2 in
     let nodes : Node production.Module x.1 ≡ Node production.Module y.1 =
-        trees (whole source x.0) (Node production.Module x.1) (Node production.Module y.1) x.3
-            (subst (λ t. IsTree source t y.1) (sym tokens) y.3) in
+    trees (whole source x.0) (Node production.Module x.1) (Node production.Module y.1) x.3
+    (subst (λ t. IsTree source t y.1) (sym tokens) y.3) in
     let parts : x.1 ≡ y.1 = cc in
     let first : a ≡ module_of kind source x.0 x.1 = x.5 in
     let second : b ≡ module_of kind source y.0 y.1 = y.5 in

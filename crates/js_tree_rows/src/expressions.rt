@@ -67,7 +67,11 @@ fn show_literal<'a>(tasks: &mut Tasks<'a>, expr: &'a Expr) -> Result<(), AllocEr
 
 fn show_member<'a>(tasks: &mut Tasks<'a>, expr: &'a Expr) -> Result<(), AllocError> {
     match expr {
-        Expr::Member { place, object, name } => {
+        Expr::Member {
+            place,
+            object,
+            name,
+        } => {
             tasks.form("member", *place)?;
             tasks.expr(object)?;
             tasks.add(Task::Plain(&name.name))?;
@@ -243,7 +247,10 @@ fn show_spread<'a>(tasks: &mut Tasks<'a>, operand: &'a Boxed<Expr>) -> Result<()
     tasks.end()
 }
 
-pub fn show_element<'a>(tasks: &mut Tasks<'a>, element: &'a ArrayElement) -> Result<(), AllocError> {
+pub fn show_element<'a>(
+    tasks: &mut Tasks<'a>,
+    element: &'a ArrayElement,
+) -> Result<(), AllocError> {
     match element {
         ArrayElement::Hole => tasks.word("hole"),
         ArrayElement::Element(operand) => tasks.expr(operand),

@@ -14,9 +14,9 @@ use crate::statements::{
 };
 use crate::tasks::{Task, Tasks};
 use js_fault::fault::{SyntaxFault, SyntaxWhat};
-use js_parser::parse::parse_module;
+use js_program::program::read_program;
 use js_text::text::Text;
-use js_tree::tree::Module;
+use js_tree::tree::{Module, SourceKind};
 use std::alloc::{AllocError, Global};
 use std::io;
 
@@ -34,8 +34,8 @@ fn main(rt: HostRuntime) -> io::Result<()> {
 /// What comes of a line.
 fn answer(alloc: Global, line: &str) -> Result<String, AllocError> {
     let source = line.replace(alloc, '¶', "\n")?;
-    match parse_module(alloc, source.as_bytes()) {
-        Ok(module) => shown(alloc, &module),
+    match read_program(alloc, SourceKind::Module, source.as_bytes()) {
+        Ok(program) => shown(alloc, &program),
         Err(fault) => refused(alloc, &fault),
     }
 }
@@ -78,7 +78,11 @@ fn shown(alloc: Global, module: &Module) -> Result<String, AllocError> {
     Ok(out)
 }
 
-fn show_task<'a>(out: &mut String, tasks: &mut Tasks<'a>, task: Task<'a>) -> Result<(), AllocError> {
+fn show_task<'a>(
+    out: &mut String,
+    tasks: &mut Tasks<'a>,
+    task: Task<'a>,
+) -> Result<(), AllocError> {
     match task {
         Task::Word(word) => show_word(out, word),
         Task::At(place) => push_number(out, '@', place.line, place.unit),

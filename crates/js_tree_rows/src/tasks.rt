@@ -123,7 +123,11 @@ impl<'a> Tasks<'a> {
         Ok(())
     }
 
-    pub fn block(&mut self, name: &'static str, stmts: &'a [Boxed<Stmt>]) -> Result<(), AllocError> {
+    pub fn block(
+        &mut self,
+        name: &'static str,
+        stmts: &'a [Boxed<Stmt>],
+    ) -> Result<(), AllocError> {
         self.word("(")?;
         self.word(name)?;
         self.stmts(stmts)?;
