@@ -82,8 +82,8 @@ module _ (kind : SourceKind) (source : List ℕ) where
 
       pub tree_refused : (r : Result Module SyntaxFault) → IfOk r (λ x. early_error m ≡ None) → IfErr r (early.IsRefusal (early_error m))
           → ((p : Place) (w : SyntaxWhat) → IsSyntaxFault source p w → ⊥) → (p : Place) (w : SyntaxWhat) → IsProgramFault kind source p w → MatchResult r (λ x. ⊥) (IsRefusal p w)
-      tree_refused r ok e no p w (inl s) = absurd (no p w s)
-      tree_refused r ok e no p w (inr x) = refused_at p w x.1 (ap early_error (one m x.0 is x.2) ∙ x.3) x.4 x.5 r ok e
+      tree_refused r ok e never p w (inl s) = absurd (never p w s)
+      tree_refused r ok e never p w (inr x) = refused_at p w x.1 (ap early_error (one m x.0 is x.2) ∙ x.3) x.4 x.5 r ok e
 
   -- a source that has no tree
   module _ (f : SyntaxFault) (only : HasSourceTree source → f ≡ fault.OutOfMemory) where

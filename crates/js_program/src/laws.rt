@@ -9,7 +9,6 @@ use js_grammar::laws::semicolons;
 use js_lexer::laws::one_list;
 
 /// A source has one syntax tree at most.
-#[tactic(auto, using(crate::proofs::Programs_laws::same_tree))]
 pub fn one_tree()
     ensures { (kind : SourceKind) (source : List ℕ) (a b : Module) →
         IsModuleOf kind source a → IsModuleOf kind source b → a ≡ b }

@@ -31,7 +31,7 @@ fn checked(alloc: Global, tree: Module) -> Result<Module, SyntaxFault>
 ///
 /// A lexical fault comes before a syntactic one, and that before an early error. `OutOfMemory` may come of any source, and comes of one of more
 /// than `MAX_SOURCE` bytes.
-#[tactic(auto, using(crate::proofs::Programs_laws::tree_program, crate::proofs::Programs_laws::tree_only, crate::proofs::Programs_laws::tree_cause, crate::proofs::Programs_laws::tree_refused, crate::proofs::Programs_laws::fault_only, crate::proofs::Programs_laws::fault_refused, crate::proofs::Programs_laws::fault_cause))]
+#[tactic(auto, using(crate::proofs::Programs_laws::tree_program, crate::proofs::Programs_laws::fault_only, crate::proofs::Programs_laws::fault_refused, crate::proofs::Programs_laws::fault_cause))]
 pub fn read_program(alloc: Global, kind: SourceKind, source: &[u8]) -> Result<Module, SyntaxFault>
     ensures program { IfOk result (IsProgram kind source.now) }
     ensures only { HasProgram kind source.now →
