@@ -1,0 +1,4 @@
+pub mod FreePaths
+pub mod Resolutions
+pub mod Scopings
+pub mod StaticPaths
