@@ -136,7 +136,7 @@ fn answer<F: Folder, O: Sink, E: Sink>(
 /// Does what the words say, and gives the exit status. The words come without the program's own name.
 ///
 /// `run DIR` runs the file `index.js` of a folder, where it is a program of the first form of at most `FILE_LIMIT` bytes.
-/// The statuses: 0 the run was finished, 2 usage, 3 no such file, no source of the language or not of the first form, 7 a call on an object of the outside failed, 9 want of memory.
+/// The statuses: 0 the run was finished, 2 usage, 3 no such file, no program of the language or not of the first form, 7 a call on an object of the outside failed, 9 want of memory.
 pub fn lava<F: Folder, I: Input, O: Sink, E: Sink, C: Clock>(
     alloc: Global,
     words: &[String],
