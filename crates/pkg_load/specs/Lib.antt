@@ -1,5 +1,9 @@
 pub mod Candidates
-pub mod Finding
+pub mod LoadFaults
+pub mod Loading
+pub mod ModuleIds
 pub mod ModulePaths
 pub mod Requests
+pub mod Requirements
 pub mod Slashes
+pub mod Sources
