@@ -1,2 +1,4 @@
+pub mod FoundLemmas
 pub mod KnownLemmas
+pub mod OnwardLemmas
 pub mod StepLemmas

@@ -6,6 +6,7 @@ pub mod fault;
 pub mod finding;
 mod known;
 pub mod limits;
+pub mod load;
 mod loading;
 pub mod module;
 pub mod module_path;
