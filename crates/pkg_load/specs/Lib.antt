@@ -1,3 +1,4 @@
+pub mod Applications
 pub mod Candidates
 pub mod LoadFaults
 pub mod Loading
