@@ -97,18 +97,18 @@ module _ {T : Type 0} where
     met = λ other asked.
         ⊎_elim
         (λ (h : Contains (q ∷ s.pending) other).
-          ⊎_elim
-          (λ (e : Contains (q ∷ []) other). inr (met_if w s.known q other (one_is q other e) met))
-          (λ (h : Contains s.pending other). inl h)
-          (Contains-append_cases (q ∷ []) s.pending other h))
+        ⊎_elim
+        (λ (e : Contains (q ∷ []) other). inr (met_if w s.known q other (one_is q other e) met))
+        (λ (h : Contains s.pending other). inl h)
+        (Contains-append_cases (q ∷ []) s.pending other h))
         (λ (h : IsMet w s.known other). inr h)
         (sound.met other asked);
     entry =
         ⊎_elim
         (λ (h : (s.modules ≡ []) × (q ∷ s.pending ≡ Entry ∷ [])).
-          let first = met_if w s.known q Entry (head_is q s.pending h.1) met in
-          let none : s.known ≡ [] = sound.known ∙ ap ids_of h.0 in
-          absurd (no_entry w s.known (led w Entry) none refl first.0 (first.1 refl)))
+        let first = met_if w s.known q Entry (head_is q s.pending h.1) met in
+        let none : s.known ≡ [] = sound.known ∙ ap ids_of h.0 in
+        absurd (no_entry w s.known (led w Entry) none refl first.0 (first.1 refl)))
         (λ (h : first_is (led w Entry) s.modules). inr h)
         sound.entry;
   }
@@ -141,19 +141,20 @@ module _ {T : Type 0} where
   still_met w known new q met = (still known new (led w q) met.0, met.1)
 
   met_now : (w : Sources T) (known : List ModuleId) (id : ModuleId) (q : Requirement) → led w q ≡ Some id → IsMet w (known ++ id ∷ []) q
-  met_now w known id q leads =
-      (subst (λ (o : Option ModuleId). IfSome o (λ x. is_in (known ++ id ∷ []) x ≡ true)) (sym leads) (known_new known id),
-        λ strict. subst (λ (o : Option ModuleId). IsSome o) (sym leads) refl)
+  met_now w known id q leads = (
+    subst (λ (o : Option ModuleId). IfSome o (λ x. is_in (known ++ id ∷ []) x ≡ true)) (sym leads) (known_new known id),
+    λ strict. subst (λ (o : Option ModuleId). IsSome o) (sym leads) refl,
+  )
 
   -- what was asked before is met, or still pending behind what is new
   old_asked : (w : Sources T) (s : Loading T) (q : Requirement) (id : ModuleId) (new : List Requirement) → led w q ≡ Some id → (other : Requirement) → Contains (q ∷ s.pending) other ⊎ IsMet w s.known other → Contains (new ++ s.pending) other ⊎ IsMet w (s.known ++ id ∷ []) other
   old_asked w s q id new leads other h =
       ⊎_elim
       (λ (h : Contains (q ∷ s.pending) other).
-        ⊎_elim
-        (λ (e : Contains (q ∷ []) other). inr (met_if w (s.known ++ id ∷ []) q other (one_is q other e) (met_now w s.known id q leads)))
-        (λ (h : Contains s.pending other). inl (Contains-append_right new s.pending other h))
-        (Contains-append_cases (q ∷ []) s.pending other h))
+      ⊎_elim
+      (λ (e : Contains (q ∷ []) other). inr (met_if w (s.known ++ id ∷ []) q other (one_is q other e) (met_now w s.known id q leads)))
+      (λ (h : Contains s.pending other). inl (Contains-append_right new s.pending other h))
+      (Contains-append_cases (q ∷ []) s.pending other h))
       (λ (h : IsMet w s.known other). inr (still_met w s.known id other h))
       h
 
@@ -163,13 +164,13 @@ module _ {T : Type 0} where
   new_asked w s q id requests sound leads are (Request owner from request) asked =
       ⊎_elim
       (λ (h : Contains s.known (module_at owner from)).
-        old_asked w s q id (map (Request id.owner id.path) requests) leads (Request owner from request) (sound.met (Request owner from request) (contains_known s.known (module_at owner from) h, asked.1)))
+      old_asked w s q id (map (Request id.owner id.path) requests) leads (Request owner from request) (sound.met (Request owner from request) (contains_known s.known (module_at owner from) h, asked.1)))
       (λ (e : id ≡ module_at owner from).
-        let here = subst (λ (x : ModuleId). Contains (requests_of w x) request) (sym e) asked.1 in
-        let among = subst (λ (rs : List (List ℕ)). Contains rs request) are here in
-        let one = contains_request id.owner id.path requests request among in
-        let is : Contains (map (Request id.owner id.path) requests) (Request owner from request) = subst (λ (x : ModuleId). Contains (map (Request id.owner id.path) requests) (Request x.owner x.path request)) e one in
-        inl (Contains-append_left (map (Request id.owner id.path) requests) s.pending (Request owner from request) is))
+      let here = subst (λ (x : ModuleId). Contains (requests_of w x) request) (sym e) asked.1 in
+      let among = subst (λ (rs : List (List ℕ)). Contains rs request) are here in
+      let one = contains_request id.owner id.path requests request among in
+      let is : Contains (map (Request id.owner id.path) requests) (Request owner from request) = subst (λ (x : ModuleId). Contains (map (Request id.owner id.path) requests) (Request x.owner x.path request)) e one in
+      inl (Contains-append_left (map (Request id.owner id.path) requests) s.pending (Request owner from request) is))
       (Contains-push_cases s.known id (module_at owner from) (known_contains (s.known ++ id ∷ []) (module_at owner from) asked.0))
 
   first_more : (o : Option ModuleId) (modules : List (LoadedModule T)) (m : LoadedModule T) → first_is o modules → first_is o (modules ++ m ∷ [])

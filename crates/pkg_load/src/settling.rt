@@ -14,9 +14,7 @@ use crate::limits::{BYTE_LIMIT, BYTES, MODULE_LIMIT, MODULES};
 use crate::loading::{Loading, add_module};
 use crate::module::LoadedModule;
 use crate::reader::{ModuleRead, ModuleReader, kind_of};
-use crate::requirement::{
-    Requirement, is_strict, lookup_of, main_at, name_at,
-};
+use crate::requirement::{Requirement, is_strict, lookup_of, main_at, name_at};
 use js_fault::fault::SyntaxWhat;
 use lava_base::list::List;
 use lava_base::memory::OutOfMemory;
@@ -138,7 +136,16 @@ fn take_text<R: ModuleReader>(
         return Err(too_many(alloc, BYTES, bytes)?);
     }
     let read = reader.read(alloc, kind_of(path.as_str()), text.as_slice())?;
-    take_read(alloc, packages, loading, owner, path, text, bytes as u32, read)
+    take_read(
+        alloc,
+        packages,
+        loading,
+        owner,
+        path,
+        text,
+        bytes as u32,
+        read,
+    )
 }
 
 /// Takes in a file that was found; whether it became a module.
