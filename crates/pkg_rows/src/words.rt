@@ -46,10 +46,11 @@ fn other_words(text: &str) -> &str
 fn add_words(alloc: Global, words: &mut List<Name>, text: &str) -> Result<(), OutOfMemory>
     ensures { OnOk result (words.new ≡ words.old ++ slice_split is_space text.now) }
 {
-    words.push(Name::of(alloc, first_word(text))?)?;
     if !has_space(text) {
+        words.push(Name::of(alloc, text)?)?;
         return Ok(());
     }
+    words.push(Name::of(alloc, first_word(text))?)?;
     add_words(alloc, words, other_words(text))
 }
 
