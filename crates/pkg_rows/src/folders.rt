@@ -61,7 +61,12 @@ pub fn requiring(alloc: Global, count: &str) -> Result<MemoryFolder, Fault> {
         let next = k.saturating_add(1);
         let text = format!(in alloc; "./m{next}")?;
         let path = format!(in alloc; "m{k}.js")?;
-        add(alloc, &mut folder, path.as_str(), if k < count { text.as_str() } else { "" })?;
+        add(
+            alloc,
+            &mut folder,
+            path.as_str(),
+            if k < count { text.as_str() } else { "" },
+        )?;
     }
     Ok(folder)
 }

@@ -1,8 +1,7 @@
-use Rattle.std.proofs.Common.{◌≡◌, ◌+◌, ◌≤◌, ◌<◌, length, ℕ, List, Ok, Err, Result, Bool, sym, ap, ◌∙◌, rules, arith}
+use Rattle.std.proofs.Common.{◌≡◌, Ok, Err, Bool, ◌∙◌, rules, arith}
 use Rattle.pkg_load.specs.Sources.{sources_of}
-use Rattle.pkg_load.specs.Loading.{Loading, Follows}
-use Rattle.pkg_load.specs.declared.limits.TheConstants.{MODULE_LIMIT}
-use Rattle.pkg_load.proofs.OnwardLemmas.{says_passed, follows_here, follows_on, reaches_end, reaches_one}
+use Rattle.pkg_load.specs.Loading.{Follows}
+use Rattle.pkg_load.proofs.OnwardLemmas.{says_passed, follows_here, follows_on, reaches_one}
 use Rattle.pkg_load.proofs.load.load_all.Goals as goal
 
 pub loop-round-init : goal.loop-round-init

@@ -1,7 +1,6 @@
-use Rattle.std.proofs.Common.{◌≡◌, ◌+◌, ◌∷◌, length, ℕ, List, Ok, Err, Result, Bool, sym, ap, ◌∙◌, rules, arith}
+use Rattle.std.proofs.Common.{◌≡◌, ◌+◌, length, ℕ, Ok, Err, Bool, ap, ◌∙◌, rules, arith}
 use Rattle.pkg_load.specs.Sources.{sources_of}
 use Rattle.pkg_load.specs.Loading.{Loading, Follows, settled}
-use Rattle.pkg_load.specs.declared.fault.LoadFault.{LoadFault}
 use Rattle.pkg_load.proofs.OnwardLemmas.{says_passed, follows_here, follows_next, follows_none, adds_nothing, adds_one, same_modules}
 use Rattle.pkg_load.proofs.load.load_next.Goals as goal
 

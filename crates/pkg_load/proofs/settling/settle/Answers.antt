@@ -1,4 +1,4 @@
-use Rattle.std.proofs.Common.{◌≡◌, ℕ, subst}
+use Rattle.std.proofs.Common.{ℕ, subst}
 use Rattle.pkg_load.specs.LoadFaults.{CountsLoad}
 use Rattle.pkg_load.proofs.settling.settle.Goals as goal
 
