@@ -52,6 +52,43 @@ pub fn all_on_all(alloc: Global, count: &str) -> Result<MemoryFolder, Fault> {
     depending(alloc, number(count)?, true)
 }
 
+/// `requiring N`: the entry requires `m1`, and each `mK` the next.
+pub fn requiring(alloc: Global, count: &str) -> Result<MemoryFolder, Fault> {
+    let count = number(count)?;
+    let mut folder = MemoryFolder::new(alloc);
+    add(alloc, &mut folder, "index.js", "./m1")?;
+    for k in 1..=count {
+        let next = k.saturating_add(1);
+        let text = format!(in alloc; "./m{next}")?;
+        let path = format!(in alloc; "m{k}.js")?;
+        add(
+            alloc,
+            &mut folder,
+            path.as_str(),
+            if k < count { text.as_str() } else { "" },
+        )?;
+    }
+    Ok(folder)
+}
+
+/// `long N`: the entry requires `m1` to `m17`, each of N bytes.
+pub fn long(alloc: Global, count: &str) -> Result<MemoryFolder, Fault> {
+    let mut text = String::new(alloc);
+    for _ in 0..number(count)? {
+        text.push('/')?;
+    }
+    let mut entry = String::new(alloc);
+    let mut folder = MemoryFolder::new(alloc);
+    for k in 1..=17 {
+        let path = format!(in alloc; "m{k}.js")?;
+        add(alloc, &mut folder, path.as_str(), text.as_str())?;
+        let request = format!(in alloc; "./m{k} ")?;
+        entry.push_str(request.as_str())?;
+    }
+    add(alloc, &mut folder, "index.js", entry.as_str())?;
+    Ok(folder)
+}
+
 fn depending(alloc: Global, count: u32, all: bool) -> Result<MemoryFolder, Fault> {
     let manifest = manifest_of(alloc, count)?;
     let own = if all { manifest.as_str() } else { "{}" };

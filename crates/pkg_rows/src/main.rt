@@ -1,12 +1,15 @@
-// What the packages of folders are: for each line of the input, `KIND REST`, it reads the graph of a folder and prints what came of it.
+// What the packages of folders are: for each line of the input, `KIND REST`, it reads the graph of a folder, or loads its modules, and prints what came of it.
 #![tactic(auto)]
 
 mod fault;
 mod folders;
+mod loads;
 mod shown;
+mod words;
 
 use crate::fault::Fault;
-use crate::folders::{all_on_all, chain, failing, files_of, star};
+use crate::folders::{all_on_all, chain, failing, files_of, long, requiring, star};
+use crate::loads::{count_of, modules_of};
 use crate::shown::{shown, summary};
 use lava_streams::memory_folder::MemoryFolder;
 use pkg_graph::graph::read_graph;
@@ -33,6 +36,10 @@ fn row(alloc: Global, line: &str) -> Result<String, Fault> {
         "chain" => count(alloc, chain(alloc, rest)?),
         "star" => count(alloc, star(alloc, rest)?),
         "all" => count(alloc, all_on_all(alloc, rest)?),
+        "load" => modules_of(alloc, files_of(alloc, rest)?),
+        "load-fails" => modules_of(alloc, failing(alloc, rest)?),
+        "requiring" => count_of(alloc, requiring(alloc, rest)?),
+        "long" => count_of(alloc, long(alloc, rest)?),
         _ => Err(Fault::Line),
     }
 }

@@ -58,7 +58,8 @@ fn last(alloc: Global, graph: &Graph) -> Result<String, Fault> {
     Ok(format!(in alloc; "{count} {name}")?)
 }
 
-fn refused(alloc: Global, fault: &GraphFault) -> Result<String, Fault> {
+/// The fault of a graph.
+pub fn refused(alloc: Global, fault: &GraphFault) -> Result<String, Fault> {
     match fault {
         GraphFault::Manifest { dir, field } => {
             let dir = dir.as_str();

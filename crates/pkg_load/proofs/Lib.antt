@@ -1,0 +1,8 @@
+pub mod FoundLemmas
+pub mod IdLemmas
+pub mod KnownLemmas
+pub mod LawLemmas
+pub mod OnwardLemmas
+pub mod ReachLemmas
+pub mod SoundLemmas
+pub mod StepLemmas

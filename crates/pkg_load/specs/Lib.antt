@@ -1,0 +1,10 @@
+pub mod Applications
+pub mod Candidates
+pub mod LoadFaults
+pub mod Loading
+pub mod ModuleIds
+pub mod ModulePaths
+pub mod Requests
+pub mod Requirements
+pub mod Slashes
+pub mod Sources
