@@ -1,4 +1,5 @@
 pub mod FreePaths
+pub mod Laws
 pub mod Resolutions
 pub mod Scopings
 pub mod StaticPaths
