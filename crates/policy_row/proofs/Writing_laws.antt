@@ -1,8 +1,7 @@
 -- What is written of a policy is read as that policy.
-use Rattle.std.proofs.Common.{◌≡◌, ◌≤◌, ◌∷◌, ◌++◌, ℕ, suc, List, [], Bool, true, false, Option, Some, None, Ok, Result, refl, sym, ap, ◌∙◌, append_assoc, append-nil, String, Global, BTreeMap, string_bytes, length, take, IsUtf8, subst, arith}
+use Rattle.std.proofs.Common.{◌≡◌, ◌≤◌, ◌∷◌, ◌++◌, ℕ, List, [], true, Option, Some, None, Ok, refl, sym, ap, ◌∙◌, append_assoc, append-nil, String, Global, BTreeMap, length, take, IsUtf8, subst, arith}
 use Rattle.std.proofs.lemmas.Bool.{false≢true}
 use Rattle.std.proofs.lemmas.List.{take_all}
-use Rattle.std.specs.BTreeMap.{insert_entry}
 use Rattle.std.specs.Cmp.{first_so, second_so}
 use Rattle.std.specs.List.{list_all}
 use Rattle.std.specs.Map.{keys_of}
@@ -15,8 +14,8 @@ use Rattle.serde_json.specs.Read.{read, max_depth}
 use Rattle.serde_json.specs.View.{view, members_view}
 use Rattle.serde_json.specs.declared.value.Value.{Value, Object}
 use Rattle.serde_json.proofs.Views.{view-Object}
-use Rattle.policy_row.specs.Names.{kind_name, resources_name}
-use Rattle.policy_row.specs.Reading.{grade_of, entries_in, kind_in, row_from, row_in, before_entries, first_entry, before_rows, first_row, row_of, rows_in, policy_of}
+use Rattle.policy_row.specs.Names.{kind_name}
+use Rattle.policy_row.specs.Reading.{grade_of, entries_in, kind_in, row_from, first_row, row_of, rows_in, policy_of}
 use Rattle.policy_row.specs.Rows.{Entries, Rows, order_of_names, with_entry, are_in_order, is_in_order, may_stand, are_kept, is_kept}
 use Rattle.policy_row.specs.Texts.{by_bytes}
 use Rattle.policy_row.specs.Writing.{grade_data, written, put_each, entries_data, with_kind, put_kind, row_data, policy_data, IsPolicy}

@@ -1,5 +1,5 @@
 -- The JSON value that a policy is written as.
-use Rattle.std.specs.Prelude.{◌≡◌, ℕ, Result, Ok, List, [], ◌∷◌, true, false, fold}
+use Rattle.std.specs.Prelude.{◌≡◌, ℕ, Ok, List, [], ◌∷◌, true, false, fold}
 use Rattle.serde_json.specs.Data.{Data, boolean, string, object, Members, no_members, member, put}
 use Rattle.policy_row.specs.Names.{kind_name, resources_name, write_name}
 use Rattle.policy_row.specs.Reading.{IsJson, policy_of}

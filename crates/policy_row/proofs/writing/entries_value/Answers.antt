@@ -1,4 +1,3 @@
-use Rattle.std.proofs.Common.{◌≡◌}
 use Rattle.policy_row.proofs.Writing_laws.{entries_done}
 use Rattle.policy_row.proofs.writing.entries_value.Goals as goal
 

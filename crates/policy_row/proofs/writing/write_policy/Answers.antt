@@ -1,4 +1,3 @@
-use Rattle.std.proofs.Common.{◌≡◌}
 use Rattle.serde_json.specs.View.{view}
 use Rattle.policy_row.proofs.Writing_laws.{is_policy}
 use Rattle.policy_row.proofs.writing.write_policy.Goals as goal
