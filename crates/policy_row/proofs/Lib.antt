@@ -1,2 +1,3 @@
 mod Entries_laws
 mod Reading_laws
+mod Writing_laws

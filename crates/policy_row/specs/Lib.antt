@@ -3,3 +3,4 @@ pub mod Names
 pub mod Reading
 pub mod Rows
 pub mod Texts
+pub mod Writing

@@ -8,3 +8,4 @@ pub mod merging;
 pub mod policy;
 pub mod reading;
 pub mod row;
+pub mod writing;

@@ -1,4 +1,4 @@
-use Rattle.std.proofs.Common.{◌≡◌, ◌∙◌, arith}
+use Rattle.std.proofs.Common.{◌∙◌, arith}
 use Rattle.pkg_rows.proofs.WordLemmas.{added_one, added_more}
 use Rattle.pkg_rows.proofs.words.+add_words.Goals as goal
 

@@ -1,4 +1,4 @@
-use Rattle.std.proofs.Common.{◌≡◌, ◌∙◌}
+use Rattle.std.proofs.Common.{◌∙◌}
 use Rattle.pkg_rows.proofs.WordLemmas.{read_good, read_bad}
 use Rattle.pkg_rows.proofs.words.WordsModuleReader.read.Goals as goal
 
