@@ -124,7 +124,8 @@ pub enum Term {
     If {
         test: Boxed<Term>,
         consequent: Boxed<Term>,
-        alternate: Boxed<Term>,
+        /// None gives undefined.
+        alternate: Option<Boxed<Term>>,
     },
     /// A function of the running party, over the present scope.
     Func(Boxed<Template>),
@@ -191,7 +192,8 @@ pub enum Arguments {
 pub enum Jump {
     Break(Text),
     Continue(Text),
-    Return(Boxed<Term>),
+    /// None gives undefined.
+    Return(Option<Boxed<Term>>),
 }
 
 /// What is defined on an object, an array or a class; a static part stands at the class's constructor.

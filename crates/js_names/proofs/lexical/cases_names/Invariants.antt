@@ -1,0 +1,10 @@
+use Rattle.std.proofs.Common.{◌≡◌, ◌++◌, length}
+use Rattle.js_names.specs.Lists.{flat}
+use Rattle.js_names.specs.Names as spec
+use Rattle.js_names.proofs.lexical.cases_names.Given as goal
+
+abbrev pub invariant-loop-list : goal.invariant-loop-list
+invariant-loop-list l = l.out ++ flat spec.clause_lexicals l.list ≡ l.fn.out ++ flat spec.clause_lexicals l.fn.list
+
+abbrev pub decreases-loop-list : goal.decreases-loop-list
+decreases-loop-list l = length l.list
