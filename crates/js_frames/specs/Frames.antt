@@ -3,11 +3,11 @@ use Rattle.std.specs.Prelude.{◌≡◌, ℕ, suc, ◌+◌, Bool, List, [], ◌�
 use Rattle.std.specs.Option.{option_map}
 use Rattle.js_text.specs.Texts.{same_units}
 use Rattle.js_names.specs.declared.declared.DeclaredName.{DeclaredName}
-use Rattle.js_frames.specs.declared.frame.Binding.{Binding}
-use Rattle.js_frames.specs.declared.frame.Binding.TheVariants.{Variable, Constant}
+use Rattle.js_frames.specs.declared.frame.Referent.{Referent}
+use Rattle.js_frames.specs.declared.frame.Referent.TheVariants.{Variable, Constant}
 use Rattle.js_frames.specs.declared.frame.SlotName.{SlotName}
 use Rattle.js_frames.specs.declared.frame.FoundSlot.{FoundSlot}
-use Rattle.js_frames.specs.declared.scopes.FoundBinding.{FoundBinding}
+use Rattle.js_frames.specs.declared.scopes.FoundReferent.{FoundReferent}
 
 abbrev pub Frame : Type 0
 Frame = List SlotName
@@ -16,14 +16,14 @@ Frame = List SlotName
 abbrev pub Env : Type 0
 Env = List Frame
 
-abbrev pub binding_of : Bool → Binding
-binding_of constant = if constant then Constant else Variable
+abbrev pub referent_of : Bool → Referent
+referent_of constant = if constant then Constant else Variable
 
 abbrev pub declared_slot : DeclaredName → SlotName
-declared_slot d = record { name = d.name; binding = binding_of d.constant }
+declared_slot d = record { name = d.name; referent = referent_of d.constant }
 
 abbrev pub found_at : ℕ → SlotName → FoundSlot
-found_at at s = record { slot = at; binding = s.binding }
+found_at at s = record { slot = at; referent = s.referent }
 
 abbrev pub one_further : FoundSlot → FoundSlot
 one_further f = record f { slot = suc f.slot }
@@ -59,17 +59,17 @@ abbrev pub or_else : {A : Type 0} → Option A → Option A → Option A
 or_else (Some f) other = Some f
 or_else None other = other
 
-abbrev pub bound_there : ℕ → FoundSlot → FoundBinding
-bound_there hops f = record { hops = hops; slot = f.slot; binding = f.binding }
+abbrev pub bound_there : ℕ → FoundSlot → FoundReferent
+bound_there hops f = record { hops = hops; slot = f.slot; referent = f.referent }
 
-abbrev pub found_there : List ℕ → ℕ → Frame → Option FoundBinding
+abbrev pub found_there : List ℕ → ℕ → Frame → Option FoundReferent
 found_there n hops f = option_map (bound_there hops) (found_in n f)
 
-abbrev pub found_after : List ℕ → ℕ → Env → Option FoundBinding
+abbrev pub found_after : List ℕ → ℕ → Env → Option FoundReferent
 found_after n hops [] = None
 found_after n hops (f ∷ fs) = or_else (found_there n hops f) (found_after n (hops + 1) fs)
 
 -- a name goes to the innermost scope that declares it
 -- ECMA-262 ResolveBinding
-abbrev pub find : List ℕ → Env → Option FoundBinding
+abbrev pub find : List ℕ → Env → Option FoundReferent
 find n fs = found_after n 0 fs

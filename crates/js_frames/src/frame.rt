@@ -18,7 +18,7 @@ use std::marker::Model;
 
 /// What a name stands for.
 #[derive(Clone, Copy, Debug)]
-pub enum Binding {
+pub enum Referent {
     /// A slot that may be assigned.
     Variable,
     /// A slot that is initialised once.
@@ -35,14 +35,14 @@ pub enum Binding {
 #[derive(Drop)]
 pub struct SlotName {
     pub name: Text,
-    pub binding: Binding,
+    pub referent: Referent,
 }
 
 /// A slot that was found in a frame: its place, and what its name stands for.
 #[derive(Clone, Copy, Debug)]
 pub struct FoundSlot {
     pub slot: usize,
-    pub binding: Binding,
+    pub referent: Referent,
 }
 
 impl SlotName {
@@ -52,19 +52,19 @@ impl SlotName {
     {
         Ok(SlotName {
             name: declared.name.copy()?,
-            binding: binding_of(declared.constant),
+            referent: referent_of(declared.constant),
         })
     }
 }
 
 /// What a name of the source stands for.
-pub fn binding_of(constant: bool) -> Binding
-    ensures { result ≡ spec.binding_of constant }
+pub fn referent_of(constant: bool) -> Referent
+    ensures { result ≡ spec.referent_of constant }
 {
     if constant {
-        Binding::Constant
+        Referent::Constant
     } else {
-        Binding::Variable
+        Referent::Variable
     }
 }
 
@@ -104,7 +104,7 @@ fn append(
 {
     let found = FoundSlot {
         slot: slots.len(),
-        binding: slot.binding,
+        referent: slot.referent,
     };
     let key = slot.name.copy()?;
     slots.push(slot)?;

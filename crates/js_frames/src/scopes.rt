@@ -3,7 +3,7 @@
 ghost use Rattle.std.specs.Prelude.{◌≡◌, ◌<◌, ◌^◌, [], ◌∷◌, length, OnOk, OnErr};
 ghost use Rattle.js_frames.specs.Frames as spec;
 
-use crate::frame::{Binding, Frame};
+use crate::frame::{Frame, Referent};
 use js_text::text::Text;
 use lava_base::memory::OutOfMemory;
 use std::alloc::Global;
@@ -11,10 +11,10 @@ use std::marker::Model;
 
 /// A name that was found: how many scopes outwards, in which slot, and what it stands for.
 #[derive(Clone, Copy, Debug)]
-pub struct FoundBinding {
+pub struct FoundReferent {
     pub hops: usize,
     pub slot: usize,
-    pub binding: Binding,
+    pub referent: Referent,
 }
 
 /// The frames of the scopes round a place, the innermost first.
@@ -32,15 +32,15 @@ impl Model for Scopes {
     ghost view = { λ s. reverse s.frames.items };
 }
 
-fn found_there(hops: usize, frame: &Frame, name: &Text) -> Option<FoundBinding>
+fn found_there(hops: usize, frame: &Frame, name: &Text) -> Option<FoundReferent>
     ensures { result ≡ spec.found_there name.now hops frame.now }
 {
     match frame.find(name) {
         None => None,
-        Some(found) => Some(FoundBinding {
+        Some(found) => Some(FoundReferent {
             hops,
             slot: found.slot,
-            binding: found.binding,
+            referent: found.referent,
         }),
     }
 }
@@ -83,7 +83,7 @@ impl Scopes {
     }
 
     /// The innermost declaration of a name (ECMA-262, ResolveBinding). It takes a look-up for each scope that is passed.
-    pub fn find(&self, name: &Text) -> Option<FoundBinding>
+    pub fn find(&self, name: &Text) -> Option<FoundReferent>
         ensures { result ≡ spec.find name.now self.now }
     {
         let mut at = self.frames.len();
