@@ -5,3 +5,4 @@ pub mod Patterns
 pub mod Statements
 pub mod Templates
 pub mod Table
+pub mod Nests

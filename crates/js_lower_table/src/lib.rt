@@ -4,5 +4,6 @@
 pub mod bound_value;
 pub mod commons;
 pub mod held;
+pub mod lowerer;
 pub mod pending;
 pub mod task;
