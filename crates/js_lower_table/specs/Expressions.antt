@@ -402,7 +402,7 @@ module _ (low : Below) where
   links (l ∷ ls) env deleted s =
       if (out-Link l).optional
       then optional deleted (keeps_object s (is_call (out-Link l).step)) s
-        (links ls (behind ls env) deleted (first_link (behind ls env) (length env - 1) (keeps_object s (is_call (out-Link l).step)) (out-Link l).step))
+      (links ls (behind ls env) deleted (first_link (behind ls env) (length env - 1) (keeps_object s (is_call (out-Link l).step)) (out-Link l).step))
       else links ls env deleted (link env s (out-Link l).step)
 
   -- ECMA-262 OptionalExpression

@@ -103,7 +103,7 @@ module _ (low : Below) where
   abbrev pub array_pattern : Env → Bool → Origin → List (Option PatternElement) → Option Pattern → Term
   array_pattern env assigned from es rest =
       scope_of 1 (init_here 0 (call_common OPEN (value ([] ∷ env) from ∷ []))
-        ∷ guard (length env + 1) (next_held env 0) (term.Seq (array_list ([] ∷ env) assigned (next_held env 0) es rest)) ∷ [])
+      ∷ guard (length env + 1) (next_held env 0) (term.Seq (array_list ([] ∷ env) assigned (next_held env 0) es rest)) ∷ [])
 
   -- OBJECT PATTERNS
 

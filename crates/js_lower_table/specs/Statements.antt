@@ -259,7 +259,7 @@ module _ (low : Below) where
   abbrev pub for_of : Env → List Name → ForTarget → Expr → Stmt → Term
   for_of env labels t e s =
       scope_of 1 (init_here 0 (call_common OPEN (expr low ([] ∷ env) e ∷ []))
-        ∷ guard (length env + 1) (next_held env 0) (loop labels more None (turn ([] ∷ env) (next_held env 0) t s)) ∷ [])
+      ∷ guard (length env + 1) (next_held env 0) (loop labels more None (turn ([] ∷ env) (next_held env 0) t s)) ∷ [])
 
   abbrev pub still_there : Term → Term
   still_there body = term.If (term.Binary op.In (term.Get (here 0) (text (codes "value"))) (here 1)) body None
@@ -271,7 +271,7 @@ module _ (low : Below) where
   abbrev pub for_in : Env → List Name → ForTarget → Expr → Stmt → Term
   for_in env labels t e s =
       scope_of 2 (init_here 1 (expr low ([] ∷ env) e) ∷ init_here 0 open_keys
-        ∷ guard (length env + 1) (next_held env 0) (loop labels more None (still_there (turn ([] ∷ env) (next_held env 0) t s))) ∷ [])
+      ∷ guard (length env + 1) (next_held env 0) (loop labels more None (still_there (turn ([] ∷ env) (next_held env 0) t s))) ∷ [])
 
   -- SWITCH
 

@@ -174,4 +174,4 @@ is_null t = term.Binary op.LooselyEqual t (term.Lit literal.Null)
 abbrev pub guard : ℕ → Held → Term → Term
 guard n it body =
     term.Try (term.Try body (Some (term.Seq (call_name (slot_at (n + 1) it) (codes "quiet") ∷ term.Throw (here 0) ∷ []))) None)
-        None (Some (call_name (slot_at n it) (codes "shut")))
+    None (Some (call_name (slot_at n it) (codes "shut")))

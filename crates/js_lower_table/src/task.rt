@@ -1,8 +1,8 @@
 // What the entries of the recursion are asked, and what they give.
 
 use crate::bound_value::BoundValue;
-use js_term::term::{Template, TemplateKind, Term};
 use js_names::bound::TREE_DEPTH;
+use js_term::term::{Template, TemplateKind, Term};
 use js_text::text::Text;
 use js_tree::tree::{Expr, Function, Pattern, Stmt};
 use sqlite_items::{Boxed, Items};
@@ -19,7 +19,10 @@ pub enum Task<'a> {
         tree: &'a Expr,
     },
     /// A statement, with the labels before it.
-    Statement { labels: &'a [Text], tree: &'a Stmt },
+    Statement {
+        labels: &'a [Text],
+        tree: &'a Stmt,
+    },
     /// A pattern that is assigned or initialised.
     Binding {
         assigned: bool,
