@@ -1,4 +1,4 @@
-use Rattle.std.proofs.Common.{◌≡◌, ◌≢◌, ℕ, Bool, true, false, List, length, refl, ap}
+use Rattle.std.proofs.Common.{◌≡◌, ℕ, Bool, true, false, List, length, refl, ap}
 use Rattle.js_text.specs.SameKeys.{same_units_decides}
 use Rattle.js_text.specs.Texts.{same_units}
 

@@ -1,8 +1,8 @@
 -- The terms of expressions, form by form.
 use Rattle.std.specs.Prelude.{ℕ, pos, ◌-◌, Bool, true, false, ◌||◌, if◌then◌else◌, List, [], ◌∷◌, map, codes, length, Option, Some, None}
 use Rattle.std.specs.Option.{option_map}
-use Rattle.js_tree.specs.declared.tree.Argument.TheOpen.{Argument-F, ArrayElement-F, Body-F, Expr-F, ForInit-F, ForTarget-F, LinkStep-F, Pattern-F, Property-F, PropertyKey-F, Stmt-F}
-use Rattle.js_tree.specs.Layers.{ArgumentLayer, ArrayElementLayer, BodyLayer, ExprLayer, ForInitLayer, ForTargetLayer, LinkStepLayer, PatternLayer, PropertyLayer, PropertyKeyLayer, StmtLayer}
+use Rattle.js_tree.specs.declared.tree.Argument.TheOpen.{Argument-F, ArrayElement-F, Expr-F, LinkStep-F, Pattern-F, Property-F, PropertyKey-F}
+use Rattle.js_tree.specs.Layers.{ArgumentLayer, ArrayElementLayer, ExprLayer, LinkStepLayer, PatternLayer, PropertyLayer, PropertyKeyLayer}
 use Rattle.js_tree.specs.declared.operator.AssignmentOperator.{AssignmentOperator}
 use Rattle.js_tree.specs.declared.operator.AssignmentOperator.TheVariants as assignment
 use Rattle.js_tree.specs.declared.operator.BinaryOperator.{BinaryOperator}
@@ -43,7 +43,7 @@ use Rattle.js_frames.specs.Frames.{Env}
 use Rattle.js_lower_table.specs.declared.pending.Pending.{Pending}
 use Rattle.js_lower_table.specs.declared.pending.Pending.TheVariants as pending
 use Rattle.js_lower_table.specs.Values.{Name, undefined, text, integer, truth, here, slot, next_held, array, object, to_text, to_key, number, number_key, read, write, operation_in, init_here, scope_of, is_null}
-use Rattle.js_lower_table.specs.Entries.{Below, InSlot, bare, bound_name, key_name, name_of, own_name, template_kind}
+use Rattle.js_lower_table.specs.Entries.{Below, InSlot, bare, key_name, name_of, own_name, template_kind}
 
 abbrev pub one_more : Env → Env
 one_more env = [] ∷ env
@@ -126,6 +126,11 @@ is_call_at (LinkStep-F.CallLink l) = true
 
 abbrev pub is_call : LinkStep → Bool
 is_call s = is_call_at (out-LinkStep s)
+
+abbrev pub ends_in_call : List Link → Bool
+ends_in_call [] = false
+ends_in_call (l ∷ []) = is_call (out-Link l).step
+ends_in_call (l ∷ m ∷ ls) = ends_in_call (m ∷ ls)
 
 abbrev pub has_optional : List Link → Bool
 has_optional [] = false
@@ -489,11 +494,6 @@ module _ (low : Below) where
   delete_bare env e (Expr-F.Member place o i) = term.Delete (expr env o) (text i.name)
   delete_bare env e (Expr-F.Index place o k) = term.Delete (expr env o) (expr env k)
   delete_bare env e _ = and_true env e
-
-  abbrev pub ends_in_call : List Link → Bool
-  ends_in_call [] = false
-  ends_in_call (l ∷ []) = is_call (out-Link l).step
-  ends_in_call (l ∷ m ∷ ls) = ends_in_call (m ∷ ls)
 
   abbrev pub delete_chain : Env → Expr → Expr → List Link → Term
   delete_chain env e a ls = if ends_in_call ls then and_true env e else chain env true a ls

@@ -7,7 +7,6 @@ use Rattle.js_tree.specs.declared.tree.SourceKind.TheVariants as source
 use Rattle.js_tree.specs.declared.tree.Stmt.{Stmt}
 use Rattle.js_term.specs.declared.term.Template.{Template}
 use Rattle.js_term.specs.declared.term.TemplateKind.{TemplateKind}
-use Rattle.js_term.specs.declared.term.Term.TheVariants as term
 use Rattle.js_frames.specs.Frames.{Env, Frame}
 use Rattle.js_lower_table.specs.declared.task.Task.{Task}
 use Rattle.js_lower_table.specs.declared.task.Task.TheVariants as task
@@ -19,7 +18,7 @@ use Rattle.js_lower_table.specs.Entries.{Below, given, origin}
 use Rattle.js_lower_table.specs.Expressions.{expr_row}
 use Rattle.js_lower_table.specs.Patterns.{bind_row}
 use Rattle.js_lower_table.specs.Statements.{stmt_row}
-use Rattle.js_lower_table.specs.Templates.{json_template, module_template, template_row, text_template}
+use Rattle.js_lower_table.specs.Templates.{module_template, template_row, text_template}
 
 abbrev pub no_template : TemplateKind → Template
 no_template k = record { kind = k; name = []; length = 0; params = 0; rest = false; slots = 0; undefined = []; body = undefined }

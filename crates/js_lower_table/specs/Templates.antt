@@ -1,5 +1,5 @@
 -- The templates of functions, modules and evaluated texts.
-use Rattle.std.specs.Prelude.{ℕ, ◌+◌, Bool, true, false, if◌then◌else◌, List, [], ◌∷◌, ◌++◌, codes, drop, length, Option, Some, None, is_some}
+use Rattle.std.specs.Prelude.{ℕ, ◌+◌, false, if◌then◌else◌, List, [], ◌∷◌, ◌++◌, codes, drop, length, Option, Some, None, is_some}
 use Rattle.js_tree.specs.Layers.{BodyLayer, PatternLayer, StmtLayer}
 use Rattle.js_tree.specs.declared.tree.Argument.TheOpen.{Body-F, Pattern-F, Stmt-F}
 use Rattle.js_tree.specs.declared.tree.Body.{Body, out-Body}

@@ -1,5 +1,5 @@
 -- Terms that stand often in the table of lowering, and the terms of names.
-use Rattle.std.specs.Prelude.{ℕ, ℤ, pos, negsuc, ◌+◌, ◌-◌, Bool, true, false, if◌then◌else◌, ◌||◌, List, [], ◌∷◌, codes, length, Option, Some, None}
+use Rattle.std.specs.Prelude.{ℕ, ℤ, pos, ◌+◌, ◌-◌, Bool, true, false, if◌then◌else◌, ◌||◌, List, [], ◌∷◌, codes, length, Option, Some, None}
 use Rattle.std.specs.Fmt.{signed_decimal}
 use Rattle.js_text.specs.Texts.{same_units}
 use Rattle.js_text.specs.declared.native.Native.{Native}
