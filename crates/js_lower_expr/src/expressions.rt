@@ -401,6 +401,21 @@ fn unnamed_row<F: Fn(Global, usize, &mut Scopes, Task<'_>) -> Result<Made, OutOf
         Expr::Member { object, name, .. } => get_member(lowerer, scopes, object.get(), &name.name),
         Expr::Index { object, key, .. } => get_index(lowerer, scopes, object.get(), key.get()),
         Expr::SuperIndex { key, .. } => super_index(lowerer, scopes, key.get()),
+        _ => call_row(lowerer, scopes, tree),
+    }
+}
+
+fn call_row<F: Fn(Global, usize, &mut Scopes, Task<'_>) -> Result<Made, OutOfMemory>>(
+    lowerer: &Lowerer<F>,
+    scopes: &mut Scopes,
+    tree: &Expr,
+) -> Result<Boxed<Term>, OutOfMemory>
+    requires { Nests lowerer.now.depth (F.pre lowerer.now.low) (F.post lowerer.now.low) }
+    ensures ok { let b = low lowerer.now.depth in
+        IfOk result (λ made. made ≡ rows.call_row b scopes.old tree.now) }
+    ensures kept { OnOk result (scopes.new ≡ scopes.old) }
+{
+    match tree {
         Expr::Call {
             callee,
             arguments,
@@ -439,12 +454,6 @@ fn operator_row<F: Fn(Global, usize, &mut Scopes, Task<'_>) -> Result<Made, OutO
             operand,
             ..
         } => unary_term(lowerer, scopes, *operator, operand.get()),
-        Expr::Update {
-            operator,
-            prefix,
-            operand,
-            ..
-        } => update(lowerer, scopes, *operator, *prefix, operand.get()),
         Expr::Binary {
             operator,
             left,
@@ -457,6 +466,22 @@ fn operator_row<F: Fn(Global, usize, &mut Scopes, Task<'_>) -> Result<Made, OutO
             right,
             ..
         } => logical_term(lowerer, scopes, *operator, left.get(), right.get()),
+        Expr::Comma { operands, .. } => comma(lowerer, scopes, operands.as_slice()),
+        _ => assign_row(lowerer, scopes, tree),
+    }
+}
+
+fn assign_row<F: Fn(Global, usize, &mut Scopes, Task<'_>) -> Result<Made, OutOfMemory>>(
+    lowerer: &Lowerer<F>,
+    scopes: &mut Scopes,
+    tree: &Expr,
+) -> Result<Boxed<Term>, OutOfMemory>
+    requires { Nests lowerer.now.depth (F.pre lowerer.now.low) (F.post lowerer.now.low) }
+    ensures ok { let b = low lowerer.now.depth in
+        IfOk result (λ made. made ≡ rows.assign_row b scopes.old tree.now) }
+    ensures kept { OnOk result (scopes.new ≡ scopes.old) }
+{
+    match tree {
         Expr::Conditional {
             test,
             consequent,
@@ -476,7 +501,12 @@ fn operator_row<F: Fn(Global, usize, &mut Scopes, Task<'_>) -> Result<Made, OutO
             value,
             ..
         } => operate(lowerer, scopes, *operator, target.get(), value.get()),
-        Expr::Comma { operands, .. } => comma(lowerer, scopes, operands.as_slice()),
+        Expr::Update {
+            operator,
+            prefix,
+            operand,
+            ..
+        } => update(lowerer, scopes, *operator, *prefix, operand.get()),
         _ => undefined(lowerer.alloc),
     }
 }
