@@ -1,5 +1,5 @@
 -- What a scope of names has, and bodies of one expression.
-use Rattle.std.proofs.Common.{◌≡◌, ℕ, suc, ◌+◌, Bool, true, false, ◌||◌, cond, List, [], ◌∷◌, ◌++◌, length, Option, Some, None, is_some, refl, ap, sym, subst, ◌∙◌}
+use Rattle.std.proofs.Common.{◌≡◌, ℕ, suc, ◌+◌, Bool, true, false, ◌||◌, cond, List, [], ◌∷◌, ◌++◌, length, Option, Some, None, is_some, refl, ap, sym, subst, ◌∙◌, arith}
 use Rattle.std.specs.Option.{option_map}
 use Rattle.js_text.specs.SameKeys.{same_units_decides}
 use Rattle.js_text.specs.Texts.{same_units}
@@ -8,6 +8,9 @@ use Rattle.js_names.specs.declared.declared.DeclaredName.{DeclaredName}
 use Rattle.js_names.specs.declared.declared.FoundName.{FoundName}
 use Rattle.js_frames.specs.declared.frame.SlotName.{SlotName}
 use Rattle.js_lower_table.specs.Templates.{var_slots}
+use Rattle.js_lower.specs.Helpers.{concise_term}
+use Rattle.js_term.specs.declared.term.Term.{Term}
+use Rattle.js_term.specs.declared.term.Term.TheVariants as term
 
 cons_by : (s : Bool) (f : FoundName) (o : Option FoundName) → is_some (cond s (Some f) (option_map one_further o)) ≡ s || is_some o
 cons_by true f o = refl
@@ -46,6 +49,14 @@ has_with_all : (q : List ℕ) (es ds : List DeclaredName) → has_name q (with_n
 has_with_all q [] ds = sym (or_false (has_name q ds))
 has_with_all q (e ∷ es) ds = has_with_all q es (with_name ds e) ∙ ap (λ b. b || has_name q es) (has_with q e ds)
     ∙ or_assoc (has_name q ds) (same_units e.name q) (has_name q es) ∙ ap (λ b. has_name q ds || b) (sym (has_cons q e es))
+
+pub concise_none : (l : List Term) (t : Term) → length l ≡ 0 → concise_term l t ≡ t
+concise_none [] t h = refl
+concise_none (p ∷ ps) t h = absurd (omega (arith, h))
+
+pub concise_some : (l : List Term) (t : Term) → (length l ≡ 0 → ⊥) → concise_term l t ≡ term.Seq (l ++ t ∷ [])
+concise_some [] t h = absurd (h refl)
+concise_some (p ∷ ps) t h = refl
 
 -- of each name once is enough
 pub var_slots_once : (ds : List DeclaredName) (at : ℕ) (ss : List SlotName) → var_slots (with_names [] ds) at ss ≡ var_slots ds at ss

@@ -264,6 +264,7 @@ pub fn return_value<F: Fn(Global, usize, &mut Scopes, Task<'_>) -> Result<Made, 
     boxed(lowerer.alloc, Term::Jump(Jump::Return(Some(value))))
 }
 
+#[tactic(auto, using(crate::proofs::Var_laws::concise_none, crate::proofs::Var_laws::concise_some))]
 fn concise(
     alloc: Global,
     first: Items<Boxed<Term>>,

@@ -12,6 +12,13 @@ use Rattle.js_lower_table.specs.Entries.{Below}
 use Rattle.js_lower_table.specs.Values.{Name, undefined}
 use Rattle.js_lower_table.specs.Expressions.{expr}
 use Rattle.js_lower_table.specs.Statements as spec
+use Rattle.js_lower_table.specs.Table as table
+
+abbrev pub still_there : Term → Term
+still_there body = spec.still_there (table.low 0) body
+
+abbrev pub open_keys : Term
+open_keys = spec.open_keys (table.low 0)
 
 module _ (low : Below) where
   abbrev pub for_at : Env → List Name → StmtLayer → Term

@@ -14,6 +14,7 @@ ghost use Rattle.js_lower_table.specs.Entries as entries;
 ghost use Rattle.js_lower_table.specs.Expressions as expressions;
 ghost use Rattle.js_lower_table.specs.Statements as spec;
 ghost use Rattle.js_lower_table.specs.Nests.{Nests};
+ghost use Rattle.js_lower_stmt.specs.Rows as rows;
 ghost use Rattle.js_lower_table.specs.Table.{low};
 ghost use Rattle.js_lower_table.specs.declared.commons.TheConstants.{FOR_IN, OPEN};
 
@@ -436,7 +437,7 @@ pub fn for_of<F: Fn(Global, usize, &mut Scopes, Task<'_>) -> Result<Made, OutOfM
 }
 
 fn still_there(alloc: Global, body: Boxed<Term>) -> Result<Boxed<Term>, OutOfMemory>
-    ensures { IfOk result (λ made. made ≡ spec.still_there body) }
+    ensures { IfOk result (λ made. made ≡ rows.still_there body) }
 {
     let iterator = here(alloc, 0)?;
     let key = word_term(alloc, b"value")?;
@@ -447,7 +448,7 @@ fn still_there(alloc: Global, body: Boxed<Term>) -> Result<Boxed<Term>, OutOfMem
 }
 
 fn open_keys(alloc: Global) -> Result<Boxed<Term>, OutOfMemory>
-    ensures { IfOk result (λ made. made ≡ spec.open_keys) }
+    ensures { IfOk result (λ made. made ≡ rows.open_keys) }
 {
     let object = here(alloc, 1)?;
     let keys = call_common_on(alloc, FOR_IN, object)?;
@@ -461,7 +462,7 @@ fn keys_guarded(
     body: Boxed<Term>,
 ) -> Result<Boxed<Term>, OutOfMemory>
     ensures { IfOk result (λ made.
-        made ≡ values.scope_of 2 (values.init_here 1 object ∷ values.init_here 0 spec.open_keys ∷
+        made ≡ values.scope_of 2 (values.init_here 1 object ∷ values.init_here 0 rows.open_keys ∷
         values.guard (length scopes.now + 1) (values.next_held scopes.now 0) body ∷ [])) }
 {
     let first = init_here(alloc, 1, object)?;
