@@ -6,7 +6,7 @@ use Rattle.js_lower_table.specs.Table.{low}
 use Rattle.js_lower.proofs.frames.var_slots.Given as goal
 
 abbrev pub invariant-loop-list : goal.invariant-loop-list
-invariant-loop-list l = l.done ++ spec.var_slots l.vars l.at l.list ≡ spec.var_slots l.vars l.first l.fn.list
+invariant-loop-list l = l.done ++ spec.var_slots l.vars l.at l.list ≡ spec.var_slots l.fn.vars l.fn.first l.fn.list
 
 abbrev pub decreases-loop-list : goal.decreases-loop-list
 decreases-loop-list l = length l.list
