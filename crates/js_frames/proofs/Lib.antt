@@ -1,0 +1,2 @@
+pub mod Frames_laws
+pub mod Reversed

@@ -1,0 +1,10 @@
+// Lowering: the template of each source.
+//
+// - `frames` has the scopes of bodies, `templates` functions, `entries` the recursion of the table.
+// - `modules` has modules, evaluated texts, JSON modules and functions of the prelude.
+#![tactic(auto)]
+
+pub mod entries;
+pub mod frames;
+pub mod modules;
+pub mod templates;
