@@ -188,13 +188,17 @@ fn text_body<F: Fn(Global, usize, &mut Scopes, Task<'_>) -> Result<Made, OutOfMe
     seq(lowerer.alloc, out)
 }
 
-fn module_template(alloc: Global, list: &[Boxed<Stmt>]) -> Result<Template, OutOfMemory>
-    ensures { let b = low LOWERING_DEPTH in
+fn module_template(
+    alloc: Global,
+    depth: usize,
+    list: &[Boxed<Stmt>],
+) -> Result<Template, OutOfMemory>
+    ensures { let b = low depth in
         IfOk result (λ made. made ≡ spec.module_template b list.now) }
 {
     let lowerer = Lowerer {
         alloc,
-        depth: LOWERING_DEPTH,
+        depth,
         low: lower_to,
     };
     let (frame, undefined) = shape(alloc, module_slots(alloc)?, list)?;
@@ -204,13 +208,13 @@ fn module_template(alloc: Global, list: &[Boxed<Stmt>]) -> Result<Template, OutO
     source_template(alloc, TemplateKind::Module, slots, undefined, body)
 }
 
-fn text_template(alloc: Global, list: &[Boxed<Stmt>]) -> Result<Template, OutOfMemory>
-    ensures { let b = low LOWERING_DEPTH in
+fn text_template(alloc: Global, depth: usize, list: &[Boxed<Stmt>]) -> Result<Template, OutOfMemory>
+    ensures { let b = low depth in
         IfOk result (λ made. made ≡ spec.text_template b list.now) }
 {
     let lowerer = Lowerer {
         alloc,
-        depth: LOWERING_DEPTH,
+        depth,
         low: lower_to,
     };
     let (frame, undefined) = shape(alloc, text_slots(alloc)?, list)?;
@@ -227,9 +231,30 @@ pub fn lower(alloc: Global, source: &Module) -> Result<Template, OutOfMemory>
 {
     let list = source.body.as_slice();
     match source.kind {
-        SourceKind::Module => module_template(alloc, list),
-        SourceKind::EvaluatedText => text_template(alloc, list),
+        SourceKind::Module => module_template(alloc, LOWERING_DEPTH, list),
+        SourceKind::EvaluatedText => text_template(alloc, LOWERING_DEPTH, list),
     }
+}
+
+fn built_to(
+    alloc: Global,
+    depth: usize,
+    frame: Frame,
+    kind: TemplateKind,
+    name: &Text,
+    function: &Function,
+) -> Result<Template, OutOfMemory>
+    ensures { let b = low depth in
+        IfOk result (λ made. made ≡ spec.template_row b (frame ∷ []) kind name.now function.now) }
+{
+    let lowerer = Lowerer {
+        alloc,
+        depth,
+        low: lower_to,
+    };
+    let mut scopes = Scopes::new(alloc);
+    scopes.open(frame)?;
+    template_row(&lowerer, &mut scopes, kind, Some(name), function)
 }
 
 /// The template of a function of the prelude, whose text declares the names of a frame.
@@ -243,14 +268,7 @@ pub fn lower_built(
 ) -> Result<Template, OutOfMemory>
     ensures { IfOk result (λ made. made ≡ table.built_template frame kind name.now function.now) }
 {
-    let lowerer = Lowerer {
-        alloc,
-        depth: LOWERING_DEPTH,
-        low: lower_to,
-    };
-    let mut scopes = Scopes::new(alloc);
-    scopes.open(frame)?;
-    template_row(&lowerer, &mut scopes, kind, Some(name), function)
+    built_to(alloc, LOWERING_DEPTH, frame, kind, name, function)
 }
 
 fn parsed(alloc: Global, source: &Text) -> Result<Boxed<Term>, OutOfMemory>
