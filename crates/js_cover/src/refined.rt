@@ -129,7 +129,8 @@ fn add_property(
     fields: &mut Items<PatternField>,
     rest: &mut Option<Boxed<Pattern>>,
 ) -> Result<(), OutOfMemory>
-    ensures fields { OnOk result (fields.new ≡ fields.old ++ spec.fields_of (spec.refined_to levels) property) }
+    ensures fields { OnOk result (fields.new
+        ≡ fields.old ++ spec.fields_of (spec.refined_to levels) property) }
     ensures rest { OnOk result (rest.new ≡ spec.with_rest_property rest.old property) }
 {
     match property {
@@ -190,8 +191,10 @@ fn add_slot(
     slots: &mut Items<Option<PatternElement>>,
     rest: &mut Option<Boxed<Pattern>>,
 ) -> Result<(), OutOfMemory>
-    ensures slots { OnOk result (slots.new ≡ slots.old ++ spec.slots_of (spec.refined_to levels) element) }
-    ensures rest { OnOk result (rest.new ≡ spec.with_rest_element (spec.refined_to levels) rest.old element) }
+    ensures slots { OnOk result (slots.new
+        ≡ slots.old ++ spec.slots_of (spec.refined_to levels) element) }
+    ensures rest { OnOk result (rest.new
+        ≡ spec.with_rest_element (spec.refined_to levels) rest.old element) }
 {
     match element {
         ArrayElement::Hole => Ok(slots.push(None)?),

@@ -40,8 +40,8 @@ use Rattle.js_term.specs.declared.term.Term.{Term}
 use Rattle.js_term.specs.declared.term.Term.TheVariants as term
 use Rattle.js_names.specs.Lists.{flat}
 use Rattle.js_frames.specs.Frames.{Env}
-use Rattle.js_lower_table.specs.declared.pending.Pending.{Pending}
-use Rattle.js_lower_table.specs.declared.pending.Pending.TheVariants as pending
+use Rattle.js_term_stack.specs.declared.pending.Pending.{Pending}
+use Rattle.js_term_stack.specs.declared.pending.Pending.TheVariants as pending
 use Rattle.js_lower_table.specs.Values.{Name, undefined, text, integer, truth, here, slot, next_held, array, object, to_text, to_key, number, number_key, read, write, operation_in, init_here, scope_of, is_null}
 use Rattle.js_lower_table.specs.Entries.{Below, InSlot, bare, key_name, name_of, own_name, template_kind}
 

@@ -7,11 +7,11 @@ use Rattle.js_tree.specs.declared.tree.SourceKind.TheVariants as source
 use Rattle.js_tree.specs.declared.tree.Stmt.{Stmt}
 use Rattle.js_term.specs.declared.term.Template.{Template}
 use Rattle.js_term.specs.declared.term.TemplateKind.{TemplateKind}
+use Rattle.js_term_stack.specs.Stacks.{Stack, extended}
+use Rattle.js_term_stack.specs.declared.piece.Piece.TheVariants as piece
 use Rattle.js_frames.specs.Frames.{Env, Frame}
 use Rattle.js_lower_table.specs.declared.task.Task.{Task}
 use Rattle.js_lower_table.specs.declared.task.Task.TheVariants as task
-use Rattle.js_lower_table.specs.declared.task.Made.{Made}
-use Rattle.js_lower_table.specs.declared.task.Made.TheVariants as made
 use Rattle.js_lower_table.specs.declared.task.TheConstants.{LOWERING_DEPTH}
 use Rattle.js_lower_table.specs.Values.{Name, undefined}
 use Rattle.js_lower_table.specs.Entries.{Below, given, origin}
@@ -28,12 +28,12 @@ abbrev pub low : ℕ → Below
 low zero = record { expr = λ env name e. undefined; stmt = λ env labels s. []; bind = λ env assigned from p. undefined; template = λ env k name f. no_template k }
 low (suc d) = record { expr = expr_row (low d); stmt = stmt_row (low d); bind = bind_row (low d); template = template_row (low d) }
 
--- what an entry gives for a tree
-abbrev pub made_of : Below → Env → Task → Made
-made_of b env (task.Expression name e) = made.OneTerm (b.expr env (given name) e.now)
-made_of b env (task.Statement labels s) = made.Terms (b.stmt env labels.now s.now)
-made_of b env (task.Binding assigned from p) = made.OneTerm (b.bind env assigned (origin from) p.now)
-made_of b env (task.Body k name f) = made.OneTemplate (b.template env k (given name) f.now)
+-- what a tree leaves on a stack of terms: a statement more terms in the list that stands last, each other tree one term or template
+abbrev pub put_on : Below → Env → Task → Stack → Stack
+put_on b env (task.Expression name e) s = piece.OneTerm (b.expr env (given name) e.now) ∷ s
+put_on b env (task.Statement labels t) s = extended (b.stmt env labels.now t.now) s
+put_on b env (task.Binding assigned from p) s = piece.OneTerm (b.bind env assigned (origin from) p.now) ∷ s
+put_on b env (task.Body k name f) s = piece.OneTemplate (b.template env k (given name) f.now) ∷ s
 
 -- SOURCES
 

@@ -1,22 +1,24 @@
-// The terms of names.
+// The terms of names, made on a stack.
 
-ghost use Rattle.std.specs.Prelude.{◌≡◌, ◌∷◌, [], IfOk, Some, None};
+ghost use Rattle.std.specs.Prelude.{◌≡◌, ◌∷◌, [], IfOk, OnOk, Some, None};
 ghost use Rattle.js_lower_table.specs.Values as spec;
 ghost use Rattle.js_term.specs.declared.term.Term.TheVariants as term;
+ghost use Rattle.js_term_stack.specs.Stacks as stack;
+ghost use Rattle.js_term_stack.specs.declared.piece.Piece.TheVariants as piece;
 ghost use Rattle.js_lower_table.specs.Entries.{given};
 ghost use Rattle.js_lower_table.specs.Entries as entries;
 
-use crate::values::{boxed, number_key, text, undefined};
+use crate::values::number_key;
 use crate::words::{count, decimal, is_word, word};
 use js_frames::frame::{Frame, Referent, SlotName};
 use js_frames::scopes::{FoundReferent, Scopes};
 use js_names::bound::TREE_DEPTH;
-use js_term::term::{Literal, TemplateKind, Term};
+use js_term::term::TemplateKind;
+use js_term_stack::stack::Stack;
 use js_text::native::Native;
 use js_text::text::Text;
 use js_tree::tree::{Expr, FunctionKind, Pattern, PropertyKey};
 use lava_base::memory::OutOfMemory;
-use sqlite_items::Boxed;
 use std::alloc::Global;
 
 fn is_outside(alloc: Global, name: &Text) -> Result<bool, OutOfMemory>
@@ -28,162 +30,124 @@ fn is_outside(alloc: Global, name: &Text) -> Result<bool, OutOfMemory>
     is_word(alloc, name, b"Infinity")
 }
 
-fn global(alloc: Global, name: &Text, soft: bool) -> Result<Boxed<Term>, OutOfMemory>
-    ensures { IfOk result (λ made. made ≡ term.Global name.now soft) }
+fn free(terms: &mut Stack, name: &Text, soft: bool) -> Result<(), OutOfMemory>
+    ensures { OnOk result (terms.new ≡ piece.OneTerm (spec.free name.now soft) ∷ terms.old) }
 {
-    let name = name.copy()?;
-    boxed(alloc, Term::Global { name, soft })
-}
-
-fn free(alloc: Global, name: &Text, soft: bool) -> Result<Boxed<Term>, OutOfMemory>
-    ensures { IfOk result (λ made. made ≡ spec.free name.now soft) }
-{
+    let alloc = terms.alloc();
     if is_word(alloc, name, b"undefined")? {
-        return undefined(alloc);
+        return terms.undefined();
     }
     if is_outside(alloc, name)? {
-        return boxed(alloc, Term::Outside);
+        return terms.outside();
     }
-    global(alloc, name, soft)
+    terms.global(name, soft)
 }
 
-fn local(alloc: Global, found: FoundReferent) -> Result<Boxed<Term>, OutOfMemory>
-    ensures { IfOk result (λ made. made ≡ term.Local found.hops found.slot) }
+fn local(terms: &mut Stack, found: FoundReferent) -> Result<(), OutOfMemory>
+    ensures { let made = term.Local found.hops found.slot in
+        OnOk result (terms.new ≡ piece.OneTerm made ∷ terms.old) }
 {
     let hops = count(found.hops)?;
     let slot = count(found.slot)?;
-    boxed(alloc, Term::Local { hops, slot })
+    terms.local(hops, slot)
 }
 
-fn read_found(alloc: Global, found: FoundReferent) -> Result<Boxed<Term>, OutOfMemory>
-    ensures { IfOk result (λ made. made
-        ≡ spec.read_referent found.hops found.slot found.referent) }
+fn read_found(terms: &mut Stack, found: FoundReferent) -> Result<(), OutOfMemory>
+    ensures { let made = spec.read_referent found.hops found.slot found.referent in
+        OnOk result (terms.new ≡ piece.OneTerm made ∷ terms.old) }
 {
     match found.referent {
-        Referent::Variable => local(alloc, found),
-        Referent::Constant => local(alloc, found),
-        Referent::CommonObject(id) => boxed(alloc, Term::Lit(Literal::Common(id))),
-        Referent::Operation(_) => undefined(alloc),
-        Referent::IteratorSymbol => boxed(alloc, Term::Lit(Literal::Iterator)),
+        Referent::Variable => local(terms, found),
+        Referent::Constant => local(terms, found),
+        Referent::CommonObject(id) => terms.common(id),
+        Referent::Operation(_) => terms.undefined(),
+        Referent::IteratorSymbol => terms.iterator_symbol(),
     }
 }
 
 /// A name that is read; a soft one is undefined where it is not there.
-pub fn read(
-    alloc: Global,
-    scopes: &Scopes,
-    name: &Text,
-    soft: bool,
-) -> Result<Boxed<Term>, OutOfMemory>
-    ensures { IfOk result (λ made. made ≡ spec.read scopes.now name.now soft) }
+pub fn read(scopes: &Scopes, terms: &mut Stack, name: &Text, soft: bool) -> Result<(), OutOfMemory>
+    ensures { let made = spec.read scopes.now name.now soft in
+        OnOk result (terms.new ≡ piece.OneTerm made ∷ terms.old) }
 {
     match scopes.find(name) {
-        None => free(alloc, name, soft),
-        Some(found) => read_found(alloc, found),
+        None => free(terms, name, soft),
+        Some(found) => read_found(terms, found),
     }
 }
 
-fn set_global(alloc: Global, name: &Text, value: Boxed<Term>) -> Result<Boxed<Term>, OutOfMemory>
-    ensures { IfOk result (λ made. made ≡ term.SetGlobal name.now value) }
-{
-    let name = name.copy()?;
-    boxed(alloc, Term::SetGlobal { name, value })
-}
-
-fn set_local(
-    alloc: Global,
-    found: FoundReferent,
-    constant: bool,
-    value: Boxed<Term>,
-) -> Result<Boxed<Term>, OutOfMemory>
-    ensures { IfOk result (λ made. made
-        ≡ term.SetLocal found.hops found.slot constant value) }
+fn set_local(terms: &mut Stack, found: FoundReferent, constant: bool) -> Result<(), OutOfMemory>
+    ensures { OnOk result (terms.new ≡ stack.on_one
+        (λ t. term.SetLocal found.hops found.slot constant t) terms.old) }
 {
     let hops = count(found.hops)?;
     let slot = count(found.slot)?;
-    boxed(
-        alloc,
-        Term::SetLocal {
-            hops,
-            slot,
-            constant,
-            value,
-        },
-    )
+    terms.set_local(hops, slot, constant)
 }
 
-fn write_found(
-    alloc: Global,
-    name: &Text,
-    found: FoundReferent,
-    value: Boxed<Term>,
-) -> Result<Boxed<Term>, OutOfMemory>
-    ensures { IfOk result (λ made. made
-        ≡ spec.write_referent name.now found.hops found.slot value found.referent) }
+fn write_found(terms: &mut Stack, name: &Text, found: FoundReferent) -> Result<(), OutOfMemory>
+    ensures { OnOk result (terms.new ≡ stack.on_one
+        (λ t. spec.write_referent name.now found.hops found.slot t found.referent) terms.old) }
 {
     match found.referent {
-        Referent::Variable => set_local(alloc, found, false, value),
-        Referent::Constant => set_local(alloc, found, true, value),
-        _ => set_global(alloc, name, value),
+        Referent::Variable => set_local(terms, found, false),
+        Referent::Constant => set_local(terms, found, true),
+        _ => terms.set_global(name),
     }
 }
 
-/// A name that is assigned.
-pub fn write(
-    alloc: Global,
-    scopes: &Scopes,
-    name: &Text,
-    value: Boxed<Term>,
-) -> Result<Boxed<Term>, OutOfMemory>
-    ensures { IfOk result (λ made. made ≡ spec.write scopes.now name.now value) }
+/// A name that is assigned the last term.
+pub fn write(scopes: &Scopes, terms: &mut Stack, name: &Text) -> Result<(), OutOfMemory>
+    ensures { OnOk result (terms.new ≡ stack.on_one
+        (λ t. spec.write scopes.now name.now t) terms.old) }
 {
     match scopes.find(name) {
-        None => set_global(alloc, name, value),
-        Some(found) => write_found(alloc, name, found, value),
+        None => terms.set_global(name),
+        Some(found) => write_found(terms, name, found),
     }
 }
 
-fn init_found(
-    alloc: Global,
-    found: FoundReferent,
-    value: Boxed<Term>,
-) -> Result<Boxed<Term>, OutOfMemory>
-    ensures { IfOk result (λ made. made ≡ term.Init found.hops found.slot value) }
+fn init_found(terms: &mut Stack, found: FoundReferent) -> Result<(), OutOfMemory>
+    ensures { OnOk result (terms.new ≡ stack.on_one
+        (λ t. term.Init found.hops found.slot t) terms.old) }
 {
     let hops = count(found.hops)?;
     let slot = count(found.slot)?;
-    boxed(alloc, Term::Init { hops, slot, value })
+    terms.init(hops, slot)
 }
 
-/// A name that is initialised.
-pub fn init(
-    alloc: Global,
-    scopes: &Scopes,
-    name: &Text,
-    value: Boxed<Term>,
-) -> Result<Boxed<Term>, OutOfMemory>
-    ensures { IfOk result (λ made. made ≡ spec.init scopes.now name.now value) }
+fn no_init(terms: &mut Stack) -> Result<(), OutOfMemory>
+    ensures { OnOk result (terms.new ≡ stack.on_one (λ t. spec.undefined) terms.old) }
+{
+    let _value = terms.take_term()?;
+    terms.undefined()
+}
+
+/// A name that is initialised with the last term.
+pub fn init(scopes: &Scopes, terms: &mut Stack, name: &Text) -> Result<(), OutOfMemory>
+    ensures { OnOk result (terms.new ≡ stack.on_one
+        (λ t. spec.init scopes.now name.now t) terms.old) }
 {
     match scopes.find(name) {
-        None => undefined(alloc),
-        Some(found) => init_found(alloc, found, value),
+        None => no_init(terms),
+        Some(found) => init_found(terms, found),
     }
 }
 
-/// A name that is bound.
+/// A name that is bound to the last term.
 pub fn set(
-    alloc: Global,
     scopes: &Scopes,
+    terms: &mut Stack,
     assigned: bool,
     name: &Text,
-    value: Boxed<Term>,
-) -> Result<Boxed<Term>, OutOfMemory>
-    ensures { IfOk result (λ made. made ≡ spec.set scopes.now assigned name.now value) }
+) -> Result<(), OutOfMemory>
+    ensures { OnOk result (terms.new ≡ stack.on_one
+        (λ t. spec.set scopes.now assigned name.now t) terms.old) }
 {
     if assigned {
-        write(alloc, scopes, name, value)
+        write(scopes, terms, name)
     } else {
-        init(alloc, scopes, name, value)
+        init(scopes, terms, name)
     }
 }
 
@@ -261,13 +225,13 @@ pub fn key_name(alloc: Global, key: &PropertyKey) -> Result<Text, OutOfMemory>
 }
 
 /// The term of a key that is not computed.
-pub fn plain_key(alloc: Global, key: &PropertyKey) -> Result<Boxed<Term>, OutOfMemory>
-    ensures { IfOk result (λ made. made ≡ entries.plain_key key.now) }
+pub fn plain_key(terms: &mut Stack, key: &PropertyKey) -> Result<(), OutOfMemory>
+    ensures { OnOk result (terms.new ≡ piece.OneTerm (entries.plain_key key.now) ∷ terms.old) }
 {
     match key {
-        PropertyKey::Named(identifier) => text(alloc, &identifier.name),
-        PropertyKey::Numbered { value, .. } => number_key(alloc, *value),
-        PropertyKey::Computed { .. } => undefined(alloc),
+        PropertyKey::Named(identifier) => terms.text_of(&identifier.name),
+        PropertyKey::Numbered { value, .. } => number_key(terms, *value),
+        PropertyKey::Computed { .. } => terms.undefined(),
     }
 }
 

@@ -1,11 +1,10 @@
-// What the entries of the recursion are asked, and what they give.
+// What the entries of the recursion are asked.
 
 use crate::bound_value::BoundValue;
 use js_names::bound::TREE_DEPTH;
-use js_term::term::{Template, TemplateKind, Term};
+use js_term::term::TemplateKind;
 use js_text::text::Text;
 use js_tree::tree::{Expr, Function, Pattern, Stmt};
-use sqlite_items::{Boxed, Items};
 
 /// How many steps the recursion goes down: a tree of a source has at most 256 levels, and a function takes two steps.
 pub const LOWERING_DEPTH: usize = 2 * TREE_DEPTH;
@@ -35,12 +34,4 @@ pub enum Task<'a> {
         name: Option<&'a Text>,
         tree: &'a Function,
     },
-}
-
-/// What a tree is lowered to.
-#[derive(Drop)]
-pub enum Made {
-    OneTerm(Boxed<Term>),
-    Terms(Items<Boxed<Term>>),
-    OneTemplate(Boxed<Template>),
 }

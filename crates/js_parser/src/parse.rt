@@ -44,7 +44,8 @@ fn made_module(
 /// A lexical fault comes before a syntactic one. `OutOfMemory` may come of any source, and comes of one of more than `MAX_SOURCE` bytes.
 pub fn parse_source(alloc: Global, kind: SourceKind, source: &[u8]) -> Result<Module, SyntaxFault>
     ensures tree { IfOk result (IsModuleOf kind source.now) }
-    ensures only { HasSourceTree source.now → MatchResult result (λ m. Unit {0}) (λ f. f ≡ fault.OutOfMemory) }
+    ensures only { HasSourceTree source.now →
+        MatchResult result (λ m. Unit {0}) (λ f. f ≡ fault.OutOfMemory) }
     ensures cause { IfErr result (HasSyntaxCause source.now) }
     ensures refused { (p : Place) (w : SyntaxWhat) → IsSyntaxFault source.now p w →
         MatchResult result (λ m. ⊥) (IsRefusal p w) }
@@ -66,7 +67,8 @@ pub fn parse_source(alloc: Global, kind: SourceKind, source: &[u8]) -> Result<Mo
 /// A lexical fault comes before a syntactic one. `OutOfMemory` may come of any source, and comes of one of more than `MAX_SOURCE` bytes.
 pub fn parse_module(alloc: Global, source: &[u8]) -> Result<Module, SyntaxFault>
     ensures tree { IfOk result (IsModuleOf kinds.Module source.now) }
-    ensures only { HasSourceTree source.now → MatchResult result (λ m. Unit {0}) (λ f. f ≡ fault.OutOfMemory) }
+    ensures only { HasSourceTree source.now →
+        MatchResult result (λ m. Unit {0}) (λ f. f ≡ fault.OutOfMemory) }
     ensures cause { IfErr result (HasSyntaxCause source.now) }
     ensures refused { (p : Place) (w : SyntaxWhat) → IsSyntaxFault source.now p w →
         MatchResult result (λ m. ⊥) (IsRefusal p w) }
@@ -79,7 +81,8 @@ pub fn parse_module(alloc: Global, source: &[u8]) -> Result<Module, SyntaxFault>
 /// It answers as `parse_module` does.
 pub fn parse_text(alloc: Global, source: &[u8]) -> Result<Module, SyntaxFault>
     ensures tree { IfOk result (IsModuleOf kinds.EvaluatedText source.now) }
-    ensures only { HasSourceTree source.now → MatchResult result (λ m. Unit {0}) (λ f. f ≡ fault.OutOfMemory) }
+    ensures only { HasSourceTree source.now →
+        MatchResult result (λ m. Unit {0}) (λ f. f ≡ fault.OutOfMemory) }
     ensures cause { IfErr result (HasSyntaxCause source.now) }
     ensures refused { (p : Place) (w : SyntaxWhat) → IsSyntaxFault source.now p w →
         MatchResult result (λ m. ⊥) (IsRefusal p w) }

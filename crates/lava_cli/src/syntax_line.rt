@@ -14,7 +14,7 @@ use lava_base::place::Place;
 use std::alloc::Global;
 
 /// Appends a number in decimal.
-fn write_number(out: &mut List<u8>, number: u32) -> Result<(), OutOfMemory>
+pub fn write_number(out: &mut List<u8>, number: u32) -> Result<(), OutOfMemory>
     ensures { OnOk result (out.new ≡ out.old ++ decimal number) }
 {
     let mut digits = Buffer::new();
@@ -30,7 +30,7 @@ fn write_named(out: &mut List<u8>, text: &str, name: &Name) -> Result<(), OutOfM
 }
 
 /// Appends what is wrong.
-fn write_what(out: &mut List<u8>, what: &SyntaxWhat) -> Result<(), OutOfMemory>
+pub fn write_what(out: &mut List<u8>, what: &SyntaxWhat) -> Result<(), OutOfMemory>
     ensures { OnOk result (out.new ≡ out.old ++ spec.what_text what.now) }
 {
     match what {

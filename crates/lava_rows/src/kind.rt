@@ -5,6 +5,8 @@
 pub enum Kind {
     /// `run SOURCE`: runs this file, over objects in memory.
     Run,
+    /// `tree SOURCE`: prints the term of this file, over objects in memory.
+    Tree,
     /// `words WORDS`: calls the program with these words.
     Words,
     /// `missing`: runs a folder without the file.
@@ -39,8 +41,9 @@ pub enum Kind {
     Clock,
 }
 
-static KINDS: [(&str, Kind); 17] = [
+static KINDS: [(&str, Kind); 18] = [
     ("run", Kind::Run),
+    ("tree", Kind::Tree),
     ("words", Kind::Words),
     ("missing", Kind::Missing),
     ("bytes", Kind::Bytes),

@@ -5,11 +5,11 @@ ghost use Rattle.std.specs.Prelude.{◌≤◌};
 use crate::fault::Fault;
 use crate::shown::{meant, number, show};
 use lava_base::memory::OutOfMemory;
-use lava_cli::command::lava;
 use lava_streams::memory_clock::MemoryClock;
 use lava_streams::memory_folder::MemoryFolder;
 use lava_streams::memory_sink::MemorySink;
 use lava_streams::memory_source::MemorySource;
+use lava_tree::tree::command;
 use std::alloc::Global;
 
 // A call that comes in no row.
@@ -23,6 +23,13 @@ pub fn run(alloc: Global, source: &str) -> Result<String, Fault> {
     let source = meant(alloc, source)?;
     let folder = folder_with(alloc, "app/index.js", source.as_bytes())?;
     call(alloc, "run app", folder, NEVER, NEVER)
+}
+
+/// `tree SOURCE`.
+pub fn tree(alloc: Global, source: &str) -> Result<String, Fault> {
+    let source = meant(alloc, source)?;
+    let folder = folder_with(alloc, "app/index.js", source.as_bytes())?;
+    call(alloc, "tree app/index.js", folder, NEVER, NEVER)
 }
 
 /// `words WORDS`.
@@ -122,7 +129,7 @@ fn status(
 ) -> u8 {
     let mut input = MemorySource::new(alloc);
     let mut clock = MemoryClock::new(alloc);
-    lava(alloc, words, folder, &mut input, out, err, &mut clock)
+    command(alloc, words, folder, &mut input, out, err, &mut clock)
 }
 
 // A status, what was printed, and what stands on the errors.

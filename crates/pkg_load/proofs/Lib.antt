@@ -4,5 +4,6 @@ pub mod KnownLemmas
 pub mod LawLemmas
 pub mod OnwardLemmas
 pub mod ReachLemmas
+mod ReasonLemmas
 pub mod SoundLemmas
 pub mod StepLemmas

@@ -1,6 +1,9 @@
 -- What the modules of an application are made of.
-use Rattle.std.specs.Prelude.{ℕ, ◌++◌, ◌∷◌, [], List, Option, Some, None, option_map, nat_eq, if◌then◌else◌}
+use Rattle.std.specs.Prelude.{◌≡◌, ℕ, ◌++◌, ◌∷◌, [], List, Option, Some, None, option_map, nat_eq, if◌then◌else◌}
 use Rattle.std.specs.List.{ends_with}
+use Rattle.js_fault.specs.declared.fault.SyntaxWhat.{SyntaxWhat}
+use Rattle.js_fault.specs.declared.fault.SyntaxWhat.TheVariants.{NotUtf8}
+use Rattle.lava_base.specs.declared.place.Place.{Place}
 use Rattle.lava_streams.specs.Files.{Files}
 use Rattle.lava_streams.specs.Folders.{file_read}
 use Rattle.lava_streams.specs.declared.folder.FileRead.{FileRead}
@@ -41,6 +44,31 @@ stands_in files root packages owner path = read_here files root (package_at pack
 abbrev pub sources_of : {T : Type 0} → Files → (root : List ℕ) → List Package → (ModuleKind → List ℕ → ModuleRead T) → Sources T
 sources_of files root packages meaning =
     record { packages = packages; stands = stands_in files root packages; meaning = meaning }
+
+-- What stands for bytes that are no module, where the reason doesn't matter: a reader may have several to tell.
+abbrev pub no_place : Place
+no_place = record { line = 1; unit = 1 }
+
+abbrev pub no_reason : SyntaxWhat
+no_reason = NotUtf8
+
+abbrev pub without_reason : {T : Type 0} → ModuleRead T → ModuleRead T
+without_reason (Good requests code) = Good requests code
+without_reason (Refused place what) = Refused no_place no_reason
+
+-- A function that says of all bytes which module a reader reads them as, or that they are none.
+abbrev pub IsMeaning : {T : Type 0} → (reads : ModuleKind → List ℕ → ModuleRead T → Type 0) → (meaning : ModuleKind → List ℕ → ModuleRead T) → Type 0
+IsMeaning {T} reads meaning =
+    (kind : ModuleKind) (bytes : List ℕ) (r : ModuleRead T) → reads kind bytes r → without_reason r ≡ meaning kind bytes
+
+-- P of each function that says so. There is one where bytes are read as one module at most, and are not refused besides.
+abbrev pub ForMeaning : {T : Type 0} → (reads : ModuleKind → List ℕ → ModuleRead T → Type 0) → (P : (ModuleKind → List ℕ → ModuleRead T) → Type 0) → Type 0
+ForMeaning {T} reads P = (meaning : ModuleKind → List ℕ → ModuleRead T) → IsMeaning reads meaning → P meaning
+
+-- P of the sources that a folder holds, where it tells its files
+abbrev pub ForSources : {T : Type 0} → (told : Option Files) → (root : List ℕ) → List Package → (reads : ModuleKind → List ℕ → ModuleRead T → Type 0) → (P : Sources T → Type 0) → Type 0
+ForSources told root packages reads P =
+    (files : Files) → told ≡ Some files → ForMeaning reads (λ meaning. P (sources_of files root packages meaning))
 
 -- own: which files are modules of JSON
 abbrev pub kind_of : List ℕ → ModuleKind

@@ -1,9 +1,10 @@
 // What becomes of a loading by one requirement.
 
-ghost use Rattle.std.specs.Prelude.{◌≡◌, ◌+◌, ◌<◌, ℕ, Some, IfOk, length};
-ghost use Rattle.lava_streams.specs.Files.{Files};
+ghost use Rattle.std.specs.Prelude.{◌≡◌, ◌+◌, ◌<◌, ℕ, IfOk, IfErr, length};
 ghost use Rattle.pkg_load.specs.ModuleIds.{module_at};
-ghost use Rattle.pkg_load.specs.Sources.{sources_of};
+ghost use Rattle.pkg_load.specs.Reasons.{Plain, Tells, Explained};
+ghost use Rattle.pkg_load.specs.Sources.{ForMeaning, ForSources, without_reason};
+ghost use Rattle.lava_streams.specs.declared.folder.FileRead.TheVariants.{Bytes};
 ghost use Rattle.pkg_load.specs.LoadFaults.{CountsLoad, Says};
 ghost use Rattle.pkg_load.specs.Loading.{syntax_fault, missing_fault, taken_as, taken_text, taken, settled, Adds};
 ghost use Rattle.pkg_load.specs.declared.fault.LoadFault.TheVariants as fault;
@@ -91,7 +92,10 @@ fn take_read<T: Drop>(
     requires sum { bytes ≡ loading.old.bytes + length text }
     requires room { length loading.old.modules < MODULE_LIMIT }
     ensures gives { let id = module_at owner path in
-        Says (λ r. taken_as packages.now loading.old id text read ≡ r) loading.new result }
+        let told = without_reason read in
+        Says (Plain (λ r. taken_as packages.now loading.old id text told ≡ r)) loading.new result }
+    ensures reasons { let id = module_at owner path in
+        IfErr result (Tells (λ _ _ r. r ≡ read) packages.now id (Bytes text)) }
     ensures adds { IfOk result (λ more. Adds loading.old loading.new more) }
     ensures own { (count : ℕ) → CountsLoad count count result }
 {
@@ -125,9 +129,10 @@ fn take_text<R: ModuleReader>(
 ) -> Result<bool, LoadFault>
     requires { length loading.old.modules < MODULE_LIMIT }
     ensures gives { let id = module_at owner path in
-        let read = R.meaning reader.now in
-        let expected = taken_text packages.now read loading.old id text in
-        Says (λ r. expected ≡ r) loading.new result }
+        ForMeaning (R.Reads reader.now) (λ m.
+        Says (Plain (λ r. taken_text packages.now m loading.old id text ≡ r)) loading.new result) }
+    ensures reasons { let id = module_at owner path in
+        IfErr result (Tells (R.Reads reader.now) packages.now id (Bytes text)) }
     ensures adds { IfOk result (λ more. Adds loading.old loading.new more) }
     ensures own { (count : ℕ) → CountsLoad count count result }
 {
@@ -157,8 +162,11 @@ fn take_in<R: ModuleReader>(
     found: FoundFile,
 ) -> Result<bool, LoadFault>
     ensures gives { let id = module_at found.owner found.path in
-        let expected = taken packages.now (R.meaning reader.now) loading.old id found.read in
-        Says (λ r. expected ≡ r) loading.new result }
+        ForMeaning (R.Reads reader.now) (λ m.
+        let expected = taken packages.now m loading.old id found.read in
+        Says (Plain (λ r. expected ≡ r)) loading.new result) }
+    ensures reasons { let id = module_at found.owner found.path in
+        IfErr result (Tells (R.Reads reader.now) packages.now id found.read) }
     ensures adds { IfOk result (λ more. Adds loading.old loading.new more) }
     ensures own { (count : ℕ) → CountsLoad count count result }
 {
@@ -185,9 +193,11 @@ pub fn settle<F: Folder, R: ModuleReader>(
 ) -> Result<bool, LoadFault>
     ensures tells { (F.stand folder.new).told ≡ (F.stand folder.old).told }
     ensures counts { CountsLoad (F.stand folder.old).count (F.stand folder.new).count result }
-    ensures gives { (files : Files) → (F.stand folder.old).told ≡ Some files
-        → let w = sources_of files root.now packages.now (R.meaning reader.now) in
-        Says (λ r. settled w loading.old requirement.now ≡ r) loading.new result }
+    ensures gives { let told = (F.stand folder.old).told in
+        let reads = R.Reads reader.now in
+        let q = requirement.now in
+        ForSources told root.now packages.now reads
+        (λ w. Says (Explained reads w (λ r. settled w loading.old q ≡ r)) loading.new result) }
     ensures adds { IfOk result (λ more. Adds loading.old loading.new more) }
 {
     let lookup = lookup_of(alloc, packages, requirement)?;

@@ -82,7 +82,7 @@ fn text_read(alloc: Global, text: &str) -> Result<ModuleRead<usize>, OutOfMemory
 impl ModuleReader for Words {
     type Code = usize;
 
-    ghost meaning = { λ _ _ bytes. bytes_read bytes };
+    ghost Reads = { λ _ _ bytes r. r ≡ bytes_read bytes };
 
     fn read(
         &self,

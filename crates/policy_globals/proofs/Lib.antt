@@ -1,1 +1,3 @@
+mod Grant_laws
 mod Lists
+pub mod Prefix_laws

@@ -1,3 +1,4 @@
 pub mod Hosts
 pub mod Keys
+pub mod Laws
 pub mod Starts

@@ -12,4 +12,5 @@ mod granted;
 pub mod host;
 mod intrinsic;
 mod keys;
+pub mod laws;
 pub mod start;

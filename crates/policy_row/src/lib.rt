@@ -4,6 +4,7 @@
 pub mod entries;
 pub mod fault;
 pub mod grade;
+pub mod laws;
 pub mod merging;
 pub mod policy;
 pub mod reading;

@@ -1,0 +1,4 @@
+pub mod Fronts
+pub mod Founded
+pub mod Pushed
+pub mod Holding

@@ -1,0 +1,2 @@
+pub mod Numbers_read
+pub mod Primitive_values

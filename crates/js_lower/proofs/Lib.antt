@@ -1,0 +1,3 @@
+pub mod Deeper
+pub mod Var_laws
+pub mod Sources_laws

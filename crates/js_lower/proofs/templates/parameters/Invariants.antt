@@ -1,0 +1,11 @@
+use Rattle.std.proofs.Common.{◌≡◌, ◌+◌, ◌*◌, ◌++◌, map, length, [], ◌∷◌, Some, None}
+use Rattle.js_lower_table.specs.Templates as spec
+use Rattle.js_lower_table.specs.Table.{low}
+use Rattle.js_term_stack.specs.Stacks.{extended}
+use Rattle.js_lower.proofs.templates.parameters.Given as goal
+
+abbrev pub invariant-loop-list : goal.invariant-loop-list
+invariant-loop-list g l = (extended (spec.parameters (low l.lowerer.depth) l.fn.scopes l.level l.slot l.list) l.terms ≡ extended (spec.parameters (low l.lowerer.depth) l.fn.scopes l.level 0 l.fn.list) l.fn.terms) × (l.scopes ≡ l.fn.scopes)
+
+abbrev pub decreases-loop-list : goal.decreases-loop-list
+decreases-loop-list g l = length l.list

@@ -1,0 +1,9 @@
+use Rattle.js_machine.specs.declared.frame.Purpose.TheVariants as purpose
+use Rattle.js_machine.proofs.Called_laws.{applies}
+use Rattle.js_machine.proofs.machine.Machine.apply.Goals as goal
+
+pub returns-in-Call : goal.returns-in-Call
+returns-in-Call c = applies c.apply_call.result c.args.purpose purpose.Call c.args.done c.args.self.now c.apply_call.new.self c.in-Call.is c.apply_call.ensures
+
+pub returns-in-New : goal.returns-in-New
+returns-in-New c = applies c.apply_new.result c.args.purpose purpose.New c.args.done c.args.self.now c.apply_new.new.self c.in-New.is c.apply_new.ensures

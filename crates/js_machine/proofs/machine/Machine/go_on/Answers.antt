@@ -1,0 +1,51 @@
+use Rattle.js_machine.specs.declared.frame.Frame.TheVariants as frame
+use Rattle.js_machine.proofs.Leads.{arm}
+use Rattle.js_machine.proofs.machine.Machine.go_on.Goals as goal
+
+pub returns-in-BinaryLeft : goal.returns-in-BinaryLeft
+returns-in-BinaryLeft c = arm c.wait_with.result c.args.frame (frame.BinaryLeft c.in-BinaryLeft.operator c.in-BinaryLeft.right) c.args.value c.args.self.now c.wait_with.new.self c.in-BinaryLeft.is c.wait_with.ensures
+
+pub returns-in-SetLocal : goal.returns-in-SetLocal
+returns-in-SetLocal c = arm c.set_slot.result c.args.frame (frame.SetLocal c.in-SetLocal.hops c.in-SetLocal.slot c.in-SetLocal.constant) c.args.value c.args.self.now c.set_slot.new.self c.in-SetLocal.is c.set_slot.ensures
+
+pub returns-in-Init : goal.returns-in-Init
+returns-in-Init c = arm c.init_slot.result c.args.frame (frame.Init c.in-Init.hops c.in-Init.slot) c.args.value c.args.self.now c.init_slot.new.self c.in-Init.is c.init_slot.ensures
+
+pub returns-in-Updated : goal.returns-in-Updated
+returns-in-Updated c = arm c.test.result c.args.frame (frame.Updated c.in-Updated.turns) c.args.value c.args.self.now c.test.new.self c.in-Updated.is c.test.ensures
+
+pub returns-in-Return : goal.returns-in-Return
+returns-in-Return c = arm c.end_with.result c.args.frame frame.Return c.args.value c.args.self.now c.end_with.new.self c.in-Return.is c.end_with.ensures
+
+pub returns-in-Throw : goal.returns-in-Throw
+returns-in-Throw c = arm c.end_with-in-Throw.result c.args.frame frame.Throw c.args.value c.args.self.now c.end_with-in-Throw.new.self c.in-Throw.is c.end_with-in-Throw.ensures
+
+pub returns-in-GetObject : goal.returns-in-GetObject
+returns-in-GetObject c = arm c.wait_with-in-GetObject.result c.args.frame (frame.GetObject c.in-GetObject.key) c.args.value c.args.self.now c.wait_with-in-GetObject.new.self c.in-GetObject.is c.wait_with-in-GetObject.ensures
+
+pub returns-in-PutObject : goal.returns-in-PutObject
+returns-in-PutObject c = arm c.wait_with-in-PutObject.result c.args.frame (frame.PutObject c.in-PutObject.key c.in-PutObject.at) c.args.value c.args.self.now c.wait_with-in-PutObject.new.self c.in-PutObject.is c.wait_with-in-PutObject.ensures
+
+pub returns-in-PutKey : goal.returns-in-PutKey
+returns-in-PutKey c = arm c.wait_with-in-PutKey.result c.args.frame (frame.PutKey c.in-PutKey.at) c.args.value c.args.self.now c.wait_with-in-PutKey.new.self c.in-PutKey.is c.wait_with-in-PutKey.ensures
+
+pub returns-in-DeleteObject : goal.returns-in-DeleteObject
+returns-in-DeleteObject c = arm c.wait_with-in-DeleteObject.result c.args.frame (frame.DeleteObject c.in-DeleteObject.key) c.args.value c.args.self.now c.wait_with-in-DeleteObject.new.self c.in-DeleteObject.is c.wait_with-in-DeleteObject.ensures
+
+pub returns-in-PutGlobal : goal.returns-in-PutGlobal
+returns-in-PutGlobal c = arm c.put_global.result c.args.frame (frame.PutGlobal c.in-PutGlobal.name c.in-PutGlobal.there) c.args.value c.args.self.now c.put_global.new.self c.in-PutGlobal.is c.put_global.ensures
+
+pub returns-in-Decides : goal.returns-in-Decides
+returns-in-Decides c = arm c.resume_wait.result c.args.frame frame.Decides c.args.value c.args.self.now c.resume_wait.new.self c.in-Decides.is c.resume_wait.ensures
+
+pub returns-in-Seq : goal.returns-in-Seq
+returns-in-Seq c = arm c.in_order.result c.args.frame (frame.Seq c.in-Seq.start c.in-Seq.count) c.args.value c.args.self.now c.in_order.new.self c.in-Seq.is c.in_order.ensures
+
+pub returns-in-Callee : goal.returns-in-Callee
+returns-in-Callee c = arm c.callee_comes.result c.args.frame (frame.Callee c.in-Callee.arguments) c.args.value c.args.self.now c.callee_comes.new.self c.in-Callee.is c.callee_comes.ensures
+
+pub returns-in-NewCallee : goal.returns-in-NewCallee
+returns-in-NewCallee c = arm c.new_callee_comes.result c.args.frame (frame.NewCallee c.in-NewCallee.arguments) c.args.value c.args.self.now c.new_callee_comes.new.self c.in-NewCallee.is c.new_callee_comes.ensures
+
+pub returns-in-CallMethod : goal.returns-in-CallMethod
+returns-in-CallMethod c = arm c.method_comes.result c.args.frame (frame.CallMethod c.in-CallMethod.arguments) c.args.value c.args.self.now c.method_comes.new.self c.in-CallMethod.is c.method_comes.ensures

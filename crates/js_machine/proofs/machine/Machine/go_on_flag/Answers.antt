@@ -1,0 +1,10 @@
+use Rattle.js_desc.specs.declared.reply.Reply.TheVariants as reply
+use Rattle.js_machine.specs.declared.frame.Frame.TheVariants as frame
+use Rattle.js_machine.proofs.Replied.{arm_replied}
+use Rattle.js_machine.proofs.machine.Machine.go_on_flag.Goals as goal
+
+pub returns-in-Global : goal.returns-in-Global
+returns-in-Global c = arm_replied c.global_found.result c.args.frame (frame.Global c.in-Global.name c.in-Global.soft) (reply.Flag c.args.flag) c.args.self.now c.global_found.new.self c.in-Global.is c.global_found.ensures
+
+pub returns-in-SetGlobal : goal.returns-in-SetGlobal
+returns-in-SetGlobal c = arm_replied c.wait.result c.args.frame (frame.SetGlobal c.in-SetGlobal.name c.in-SetGlobal.value) (reply.Flag c.args.flag) c.args.self.now c.wait.new.self c.in-SetGlobal.is c.wait.ensures.leads

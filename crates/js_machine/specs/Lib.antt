@@ -1,0 +1,14 @@
+pub mod Bodies
+pub mod Views
+pub mod Steps
+pub mod Ways
+pub mod Decisions
+pub mod Keys
+pub mod Replies
+pub mod Looks
+pub mod Stops
+pub mod Made
+pub mod Filling
+pub mod Opened
+pub mod Called
+pub mod Closures

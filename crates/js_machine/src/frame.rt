@@ -1,0 +1,301 @@
+// What waits for a completion, and what is next. A frame's own values stand on the stack of values.
+
+ghost use Rattle.std.specs.Prelude.{◌≡◌};
+ghost use Rattle.js_machine.specs.Views.{has_value, is_completion, is_handed, owned, takes_answers, takes_values, held, is_throw};
+
+use js_tree::operator::{BinaryOperator, LogicalOperator, UnaryOperator};
+
+/// How a run ends within a party. None of these can be caught.
+#[derive(Clone, Copy, Debug, PartialEq, Eq)]
+pub enum Halt {
+    Number,
+    Text,
+    Depth,
+    Meter,
+    Outside,
+}
+
+/// What the arguments of a call are for. It has values on the stack, below the arguments.
+#[derive(Clone, Copy)]
+pub enum Purpose {
+    /// Has the function, and `this` below it.
+    Call,
+    /// Has the function, which is called with the `this` of the body that runs.
+    SuperCall,
+    /// Has the function that constructs.
+    New,
+    /// Has the parent that constructs.
+    SuperNew,
+}
+
+/// What is next: a form, an ask, a completion that comes to the newest frame, or the end of the run. A completion's value is the newest one; a label is a place in the table of texts. What is asked, and an answer that is no value, stand in the machine.
+#[derive(Clone, Copy)]
+pub enum Mode {
+    Eval(u32),
+    Ask,
+    Answer,
+    Value,
+    Throw,
+    Return,
+    Break(u32),
+    Continue(u32),
+    End(Halt),
+}
+
+/// What a body does once a completion comes: each frame stands for what follows in the rows of the core forms.
+#[derive(Clone, Copy)]
+pub enum Frame {
+    SetLocal {
+        hops: u32,
+        slot: u32,
+        constant: bool,
+    },
+    Init {
+        hops: u32,
+        slot: u32,
+    },
+    Unary {
+        operator: UnaryOperator,
+    },
+    BinaryLeft {
+        operator: BinaryOperator,
+        right: u32,
+    },
+    /// Has the left operand.
+    BinaryRight {
+        operator: BinaryOperator,
+    },
+    ShortLeft {
+        operator: LogicalOperator,
+        right: u32,
+    },
+    If {
+        consequent: u32,
+    },
+    IfElse {
+        consequent: u32,
+        alternate: u32,
+    },
+    /// The places that follow in a list.
+    Seq {
+        start: u32,
+        count: u32,
+    },
+    /// The scope where the body stood.
+    ScopeExit {
+        scope: u32,
+    },
+    /// The test of a loop's turn comes.
+    Tested {
+        turns: u32,
+    },
+    /// A turn is over.
+    Turned {
+        turns: u32,
+    },
+    /// What a loop does after a turn is done.
+    Updated {
+        turns: u32,
+    },
+    Label {
+        label: u32,
+    },
+    Return,
+    Throw,
+    /// The body of a `try`.
+    Guarded {
+        guarded: u32,
+    },
+    /// The handler of a `try`, and the scope where the body stood.
+    Handled {
+        guarded: u32,
+        scope: u32,
+    },
+    /// What stands last in a `try` runs; it has the value of the earlier completion.
+    Finally {
+        earlier: Mode,
+    },
+    /// What comes is given.
+    Given,
+    /// The object of a property comes.
+    GetObject {
+        key: u32,
+    },
+    /// Has the object.
+    GetKey,
+    PutObject {
+        key: u32,
+        value: u32,
+    },
+    /// Has the object.
+    PutKey {
+        value: u32,
+    },
+    /// Has the object and the key.
+    PutValue,
+    DeleteObject {
+        key: u32,
+    },
+    /// Has the object.
+    DeleteKey,
+    /// Whether a property was set comes; has the value.
+    HasSet,
+    /// Whether a property was deleted comes.
+    HasDeleted,
+    /// The key of a property of `super` comes.
+    SuperKey,
+    /// The object where `super` looks comes; has the key.
+    SuperHome,
+    /// Whether there is a global comes, which is read.
+    Global {
+        name: u32,
+        soft: bool,
+    },
+    /// Whether there is a global comes, which is written.
+    SetGlobal {
+        name: u32,
+        value: u32,
+    },
+    /// The value of a global comes.
+    PutGlobal {
+        name: u32,
+        there: bool,
+    },
+    /// A decision waits for an answer; what it needs then stands on the stack of what waits. It is open meanwhile.
+    Decides,
+    /// The body of a call.
+    Called,
+    /// The body of a constructor, for which the party made an object.
+    Constructed {
+        object: u32,
+    },
+    /// The body of the constructor of a class with a parent.
+    Derived,
+    /// The body of a constructor of the common part.
+    Built,
+    /// So many arguments are there, and so many follow from one on. Has those that are there, and what they are for.
+    Arguments {
+        purpose: Purpose,
+        done: u32,
+        start: u32,
+        left: u32,
+    },
+    /// The array of all arguments. Has what they are for.
+    ArgumentsOf {
+        purpose: Purpose,
+    },
+    Callee {
+        arguments: u32,
+    },
+    NewCallee {
+        arguments: u32,
+    },
+    CallObject {
+        key: u32,
+        arguments: u32,
+    },
+    /// Has the object.
+    CallMethod {
+        arguments: u32,
+    },
+}
+
+impl Purpose {
+    /// How many values are its own.
+    pub fn held(self) -> u64
+        ensures { result ≡ held self }
+    {
+        match self {
+            Purpose::Call => 2,
+            _ => 1,
+        }
+    }
+}
+
+impl Mode {
+    /// Whether it is a completion.
+    pub fn is_completion(self) -> bool
+        ensures { result ≡ is_completion self }
+    {
+        !matches!(
+            self,
+            Mode::Eval(_) | Mode::Ask | Mode::Answer | Mode::End(_)
+        )
+    }
+
+    /// Whether it is handed to a frame: a completion, or an answer that is no value.
+    pub fn is_handed(self) -> bool
+        ensures { result ≡ is_handed self }
+    {
+        !matches!(self, Mode::Eval(_) | Mode::Ask | Mode::End(_))
+    }
+
+    /// Whether it is a throw.
+    pub fn is_throw(self) -> bool
+        ensures { result ≡ is_throw self }
+    {
+        matches!(self, Mode::Throw)
+    }
+
+    /// Whether a completion has a value.
+    pub fn has_value(self) -> bool
+        ensures { result ≡ has_value self }
+    {
+        matches!(self, Mode::Value | Mode::Throw | Mode::Return)
+    }
+}
+
+impl Frame {
+    /// How many values are the frame's own.
+    pub fn owned(self) -> u64
+        ensures { result ≡ owned self }
+    {
+        match self {
+            Frame::BinaryRight { .. }
+            | Frame::GetKey
+            | Frame::PutKey { .. }
+            | Frame::DeleteKey
+            | Frame::HasSet
+            | Frame::SuperHome
+            | Frame::CallMethod { .. } => 1,
+            Frame::PutValue => 2,
+            Frame::Finally { earlier } => u64::from(earlier.has_value()),
+            Frame::Arguments { purpose, done, .. } => u64::from(done) + purpose.held(),
+            Frame::ArgumentsOf { purpose } => purpose.held(),
+            _ => 0,
+        }
+    }
+
+    /// Whether it goes on with an answer that is no value.
+    pub fn takes_answers(self) -> bool
+        ensures { result ≡ takes_answers self }
+    {
+        matches!(
+            self,
+            Frame::HasSet
+                | Frame::HasDeleted
+                | Frame::SuperHome
+                | Frame::Global { .. }
+                | Frame::SetGlobal { .. }
+        )
+    }
+
+    /// Whether it goes on with a value or an answer alone, so that every throw and every jump passes it.
+    pub fn takes_values(self) -> bool
+        ensures { result ≡ takes_values self }
+    {
+        !matches!(
+            self,
+            Frame::ScopeExit { .. }
+                | Frame::Turned { .. }
+                | Frame::Label { .. }
+                | Frame::Guarded { .. }
+                | Frame::Handled { .. }
+                | Frame::Decides
+                | Frame::Called
+                | Frame::Constructed { .. }
+                | Frame::Derived
+                | Frame::Built
+        )
+    }
+}

@@ -1,0 +1,64 @@
+// The state of the machine: frames, values and a party's own things.
+//
+// - `frame` has what waits, and what is next.
+// - `body` has a body that is open.
+// - `machine` has the state, and how frames and values come and go.
+// - `begin` begins forms.
+// - `deliver` brings completions to frames.
+// - `blocks` has scopes and labels.
+// - `branches` goes one way or another by a value.
+// - `loops` has loops.
+// - `slots` reads and writes the slots of scopes, and moves the body that runs from scope to scope.
+// - `faults` makes the errors that the machine throws.
+// - `keys` has the keys that the machine itself names.
+// - `running` reads the body that runs.
+// - `functions` makes functions.
+// - `parameters` fills the slots of a body's scope.
+// - `arguments` evaluates the arguments of calls, and `callees` asks what is called.
+// - `bodies` runs bodies, `returns` ends them, `calls` has what runs when a function is called, and `closures` runs functions.
+// - `sequences` has lists of forms, `places` what a body runs with, `jumps` jumps, `turns` what follows a turn of a loop, and `tries` has `try`.
+// - `steps` hands completions on and does what was charged for, `stop` has charges and how runs stop, and `run` runs.
+// - `asked` has what is asked, what is answered and what waits; `asks` asks, and brings replies.
+// - `ways` tells in which way an object decides, `decisions` decides and follows, `primitives` decides for values that are no objects.
+// - `answers` brings answers that are no values to frames, `looks` sees the marks of objects, and where an ask goes.
+// - `properties` and `globals` read and write properties and free names, `plain_keys` makes keys of values.
+#![tactic(auto)]
+
+pub mod answers;
+pub mod arguments;
+pub mod asked;
+pub mod asks;
+pub mod begin;
+pub mod blocks;
+pub mod bodies;
+mod body;
+pub mod branches;
+pub mod callees;
+pub mod calls;
+pub mod closures;
+pub mod decisions;
+pub mod deliver;
+pub mod faults;
+pub mod frame;
+pub mod functions;
+pub mod globals;
+pub mod jumps;
+pub mod keys;
+pub mod looks;
+pub mod loops;
+pub mod machine;
+pub mod parameters;
+pub mod places;
+pub mod plain_keys;
+pub mod primitives;
+pub mod properties;
+pub mod returns;
+pub mod run;
+pub mod running;
+pub mod sequences;
+pub mod slots;
+pub mod steps;
+pub mod stop;
+pub mod tries;
+pub mod turns;
+pub mod ways;

@@ -1,0 +1,37 @@
+// Property keys of values that are no objects.
+
+ghost use Rattle.std.specs.Prelude.{◌≡◌, IfOk, Some};
+ghost use Rattle.js_text.specs.declared.value.Value.TheVariants as truth_value;
+ghost use Rattle.js_machine.specs.Keys.{plain_key};
+
+use js_operations::names::{name_key, number_text};
+use js_text::copy::copy_symbol;
+use js_text::index::key_of_text;
+use js_text::value::{Key, Value};
+use lava_base::memory::OutOfMemory;
+use std::alloc::Global;
+
+/// The name of a truth value.
+fn truth_key(alloc: Global, truth: bool) -> Result<Key, OutOfMemory>
+    ensures { IfOk result (λ k. plain_key (truth_value.Bool truth) ≡ Some k) }
+{
+    if truth {
+        return name_key(alloc, "true");
+    }
+    name_key(alloc, "false")
+}
+
+/// The property key of a value that is no object (ECMA-262, ToPropertyKey). That of an object needs a conversion, which is not there yet: want of memory is answered.
+pub fn plain_key(alloc: Global, value: &Value) -> Result<Key, OutOfMemory>
+    ensures { IfOk result (λ k. plain_key value.now ≡ Some k) }
+{
+    match value {
+        Value::Undefined => name_key(alloc, "undefined"),
+        Value::Null => name_key(alloc, "null"),
+        Value::Bool(truth) => truth_key(alloc, *truth),
+        Value::Int(number) => Ok(key_of_text(number_text(alloc, *number)?)),
+        Value::Text(text) => Ok(key_of_text(text.copy()?)),
+        Value::Symbol(symbol) => Ok(Key::Symbol(copy_symbol(symbol)?)),
+        Value::Ref(_) => Err(OutOfMemory),
+    }
+}

@@ -1,0 +1,69 @@
+// Runs: charges, and what each leads to.
+
+ghost use Rattle.std.specs.Prelude.{◌≡◌, ◌<◌, IfOk};
+ghost use Rattle.js_machine.specs.Stops.{IsRun, RunsFor};
+
+use crate::frame::{Halt, Mode};
+use crate::machine::Machine;
+use crate::stop::{Charge, Stop, charge_steps};
+use lava_base::memory::OutOfMemory;
+
+/// How many charges a run may make that is free of charge.
+pub const FREE_CHARGES: u64 = 1000;
+
+impl Machine {
+    /// At most so many charges, and steps up to the limit.
+    fn run_for(
+        &mut self,
+        charges: u64,
+        meter: Option<u64>,
+        limit: u64,
+        steps: u64,
+        mode: Mode,
+    ) -> Result<Stop, OutOfMemory>
+        ensures { IfOk result (RunsFor meter charges limit steps mode self.old self.new) }
+    {
+        let mut mode = mode;
+        let mut spent = steps;
+        for _i in 0..charges {
+            mode = self.settle(mode)?;
+            let price = match self.cost(mode) {
+                Some(cost) => u64::from(cost) + 1,
+                None => return Ok(self.stop_at(mode, spent)),
+            };
+            match charge_steps(meter, spent, limit, price) {
+                Charge::Charged => {
+                    spent += price;
+                    mode = self.work(mode)?;
+                }
+                Charge::Lacks => return Ok(Stop::Short { steps: spent }),
+                Charge::Stops => {
+                    let halt = Halt::Meter;
+                    return Ok(Stop::Stopped { halt, steps: spent });
+                }
+            }
+        }
+        mode = self.settle(mode)?;
+        Ok(self.stop_at(mode, spent))
+    }
+
+    /// Runs until the body is over, the run ends, or the limit lacks what is to be paid. A run that
+    /// is free of charge has a bound of its own, and leaves the steps as they are.
+    pub fn run(
+        &mut self,
+        free: bool,
+        meter: Option<u64>,
+        limit: u64,
+        steps: u64,
+        mode: Mode,
+    ) -> Result<Stop, OutOfMemory>
+        requires { limit < 18446744073709551615 }
+        ensures { IfOk result (IsRun free meter limit steps mode self.old self.new) }
+    {
+        if free {
+            let stop = self.run_for(FREE_CHARGES, meter, FREE_CHARGES, 0, mode)?;
+            return Ok(stop.with_steps(steps));
+        }
+        self.run_for(limit.saturating_sub(steps) + 1, meter, limit, steps, mode)
+    }
+}

@@ -1,0 +1,4 @@
+pub mod Kinds
+pub mod MakerDecisions
+pub mod Makers
+pub mod Resumed

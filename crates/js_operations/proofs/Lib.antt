@@ -1,0 +1,2 @@
+pub mod Made_laws
+pub mod Sets_of_keys

@@ -1,0 +1,6 @@
+-- The bytes before the place are units.
+use Rattle.std.proofs.Common.{◌≡◌, take}
+use Rattle.js_operations.proofs.names.units_of_ascii.Given as goal
+
+abbrev pub invariant-loop-byte : goal.invariant-loop-byte
+invariant-loop-byte l = l.units.items ≡ take l.byte-index l.bytes

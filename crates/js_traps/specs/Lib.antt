@@ -1,0 +1,9 @@
+pub mod DenyingTraps
+pub mod ExtensibleTraps
+pub mod KeysTrap
+pub mod Laws
+pub mod PropertyTraps
+pub mod PrototypeTraps
+pub mod Resumed
+pub mod TrapDecisions
+pub mod ValueTraps

@@ -1,0 +1,2 @@
+pub mod Pending_laws
+pub mod Lines_laws

@@ -1,0 +1,3 @@
+pub mod Atoms
+pub mod Lines
+pub mod Pending_lines

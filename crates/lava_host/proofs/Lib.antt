@@ -1,0 +1,3 @@
+mod Fault_laws
+mod Inside_laws
+mod Path_laws

@@ -1,0 +1,2 @@
+mod Module_laws
+mod Source_laws

@@ -1,0 +1,42 @@
+// Why nothing came of a line.
+
+use lava_base::memory::OutOfMemory;
+use std::alloc::{AllocError, AllocFailed};
+use std::fmt;
+
+/// Why nothing came of a line.
+#[derive(Clone, Copy, Debug)]
+pub enum Fault {
+    /// The line is of no kind, or lacks a part.
+    Line,
+    /// There is no memory left.
+    OutOfMemory,
+}
+
+impl fmt::Display for Fault {
+    fn fmt<W: fmt::Write>(&self, f: &mut fmt::Formatter<W>) -> fmt::Result {
+        let text = match self {
+            Fault::Line => "no such line",
+            Fault::OutOfMemory => "out of memory",
+        };
+        write!(f, "{text}")
+    }
+}
+
+impl From<OutOfMemory> for Fault {
+    fn from(_: OutOfMemory) -> Fault {
+        Fault::OutOfMemory
+    }
+}
+
+impl From<AllocError> for Fault {
+    fn from(_: AllocError) -> Fault {
+        Fault::OutOfMemory
+    }
+}
+
+impl<T: Drop> From<AllocFailed<T>> for Fault {
+    fn from(_: AllocFailed<T>) -> Fault {
+        Fault::OutOfMemory
+    }
+}
