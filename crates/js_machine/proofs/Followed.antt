@@ -17,15 +17,13 @@ use Rattle.js_run.specs.Decisions.{decides, decides_object, follows, follows_onc
 use Rattle.js_exotic.specs.declared.next.Next.TheVariants as exotic
 use Rattle.js_ordinary.specs.declared.next.Next.{Next as OrdinaryNext}
 use Rattle.js_store.specs.Objects.{Object}
-use Rattle.js_run.specs.Acts.{Closes}
 use Rattle.js_run.specs.Completions.{Replied}
 use Rattle.js_run.specs.Going.{go_on}
 use Rattle.js_machine.specs.Decisions.{object_of_value, wants_number}
-use Rattle.js_machine.specs.Steps.{IsDecided, IsDelivered, LeadsTo, over, under, without_top}
-use Rattle.js_machine.specs.Views.{View, first_wait, next_of_wait, party_of, reply_of_answer, top, waits_under}
+use Rattle.js_machine.specs.Steps.{IsDecided, IsDelivered, LeadsTo, Wakes, over, under, without_top}
+use Rattle.js_machine.specs.Views.{View, first_wait, party_of, reply_of_answer, top, waits_under}
 use Rattle.js_machine.specs.declared.asked.Answer.{Answer}
 use Rattle.js_machine.specs.declared.asked.Wait.{Wait}
-use Rattle.js_machine.specs.declared.asked.Wait.TheVariants as wait
 use Rattle.js_machine.specs.declared.frame.Frame.TheVariants as frame
 use Rattle.js_machine.specs.declared.frame.Mode.TheVariants as mode
 use Rattle.js_machine.specs.declared.frame.Mode.{Mode}
@@ -96,19 +94,14 @@ primitive_asks r o target x n d old new e f h =
 
 -- WHAT WAITS
 
-abbrev Woken : Wait → Reply Ref MadeSymbol → View → View → Mode → Type 0
-Woken k y old new m = LeadsTo (λ a. go_on (naming_of old.me) a.shared (Closes (next_of_wait k)) (Replied y) (party_of a old)) (under frame.Decides old) new m
-
-pub woken : {E : Type 0} (r : Result Mode E) (w : Wait) (me : Ref) (n : ExoticNext Ref MadeSymbol) (y : Reply Ref MadeSymbol) (old mid more new : View) → w ≡ first_wait old.waits → w ≡ wait.Object me n
-    → mid ≡ record old { waits = waits_under frame.Decides old.waits } → more ≡ record mid { depth = mid.depth - 1 }
-    → IfOk r (LeadsTo (λ a. goes_on (naming_of more.me) a.shared me n y (party_of a more)) more new)
+pub woken : {E : Type 0} (r : Result Mode E) (w : Wait) (y : Reply Ref MadeSymbol) (old mid more new : View) → w ≡ first_wait old.waits
+    → mid ≡ record old { waits = waits_under frame.Decides old.waits } → more ≡ record mid { depth = mid.depth - 1 } → IfOk r (Wakes w y more new)
     → IfOk r (LeadsTo (λ a. go_on (naming_of old.me) a.shared (over frame.Decides old a) (Replied y) (party_of a old)) (under frame.Decides old) new)
-woken (Ok m) w me n y old mid more new e f s t h =
-    let g = subst (λ (x : View). LeadsTo (λ a. goes_on (naming_of x.me) a.shared me n y (party_of a x)) x new m) (t ∙ ap (λ (x : View). record x { depth = x.depth - 1 }) s) h in
-    let start : Woken (wait.Object me n) y old new m = record { leads = λ a. g.leads a; keeps = g.keeps } in
-    let done = subst (λ k. Woken k y old new m) (sym f ∙ e) start in
-    record { leads = λ a. done.leads a; keeps = done.keeps }
-woken (Err x) w me n y old mid more new e f s t h = tt
+woken (Ok m) w y old mid more new e s t h =
+    let g = subst (λ (x : View). Wakes w y x new m) (t ∙ ap (λ (x : View). record x { depth = x.depth - 1 }) s) h in
+    let g = subst (λ k. Wakes k y (record old { waits = waits_under frame.Decides old.waits; depth = old.depth - 1 }) new m) e g in
+    record { leads = λ a. g.leads a; keeps = g.keeps }
+woken (Err x) w y old mid more new e s t h = tt
 
 pub woken_answered : {E : Type 0} (r : Result Mode E) (y : Reply Ref MadeSymbol) (old mid new : View) (x : Answer) → y ≡ reply_of_answer old.answer → mid ≡ record old { answer = x }
     → IfOk r (LeadsTo (λ a. go_on (naming_of mid.me) a.shared (over frame.Decides mid a) (Replied y) (party_of a mid)) (under frame.Decides mid) new) → IfOk r (IsDelivered frame.Decides mode.Answer old new)

@@ -1,14 +1,16 @@
 -- Completions that are handed on, and what is charged for.
-use Rattle.std.proofs.Common.{◌≡◌, ℕ, List, [], ◌∷◌, drop, length, reverse, Option, Some, None, refl, sym, ap, ◌∙◌, subst, arith, Result, Ok, Err, IfOk}
+use Rattle.std.proofs.Common.{◌≡◌, ℕ, true, List, [], ◌∷◌, drop, length, reverse, Option, Some, None, refl, sym, ap, ◌∙◌, subst, arith, Result, Ok, Err, IfOk}
 use Rattle.std.proofs.lemmas.List.{length-reverse}
 use Rattle.lava_base.specs.Ids.{same_ref}
 use Rattle.lava_base.specs.declared.ids.Ref.{Ref}
 use Rattle.js_text.specs.Naming.{naming_of}
+use Rattle.js_text.specs.declared.value.Value.TheVariants as value
+use Rattle.js_run.specs.Acts.{give}
 use Rattle.js_store.specs.Foreign.{marks_of}
 use Rattle.js_machine.specs.Looks.{foreign_in}
-use Rattle.js_machine.specs.Steps.{IsBegun, IsDecided, IsDelivered, Keeps, point_of}
+use Rattle.js_machine.specs.Steps.{IsBegun, IsDecided, IsDelivered, Keeps, LeadsTo, point_of}
 use Rattle.js_machine.specs.Stops.{IsWorked, Stays, worked}
-use Rattle.js_machine.specs.Views.{Around, View, fitting, newest, nexts_of, party_of, templates_at}
+use Rattle.js_machine.specs.Views.{Around, View, fitting, is_due, newest, nexts_of, party_of, templates_at}
 use Rattle.js_machine.specs.declared.frame.Frame.{Frame}
 use Rattle.js_machine.specs.declared.frame.Mode.{Mode}
 use Rattle.js_machine.specs.declared.frame.Mode.TheVariants as mode
@@ -83,3 +85,17 @@ sent_works m o r old d e f =
           there ∙ ap (worked (naming_of old.me) b.shared b.env) (sym there));
       keeps = (refl, (refl, (refl, (refl, refl))));
     })
+
+-- what was paid for gives undefined
+pub paid_works : {E : Type 0} (r : Result Mode E) (m : Mode) (old new : View) → is_due m ≡ true → IfOk r (LeadsTo (λ a. give value.Undefined (party_of a old)) old new) → IfOk r (IsWorked m old new)
+paid_works (Ok k) (mode.Pay n) old new d h = record { stands = λ a. h.leads a; keeps = h.keeps }
+paid_works (Ok k) (mode.Eval at) old new d h = cc
+paid_works (Ok k) mode.Ask old new d h = cc
+paid_works (Ok k) mode.Answer old new d h = cc
+paid_works (Ok k) mode.Value old new d h = cc
+paid_works (Ok k) mode.Throw old new d h = cc
+paid_works (Ok k) mode.Return old new d h = cc
+paid_works (Ok k) (mode.Break l) old new d h = cc
+paid_works (Ok k) (mode.Continue l) old new d h = cc
+paid_works (Ok k) (mode.End h') old new d h = cc
+paid_works (Err x) m old new d h = tt

@@ -36,6 +36,7 @@ module _ (names : Naming Ref MadeSymbol) (shared : Shared) (c : Tables) (v : Val
   abrupt (mode.Break l) a p go = refl
   abrupt (mode.Continue l) a p go = refl
   abrupt (mode.End h) a p go = cc
+  abrupt (mode.Pay i) a p go = cc
 
   after_last : (m : Mode) → is_abrupt m ≡ true → (earlier : Completion Ref MadeSymbol) (p : Party Ref MadeSymbol) → finally_ends earlier (completion_with c m v) p ≡ Give (completion_with c m v) p
   after_last (mode.Eval at) a e p = cc
@@ -47,6 +48,7 @@ module _ (names : Naming Ref MadeSymbol) (shared : Shared) (c : Tables) (v : Val
   after_last (mode.Break l) a e p = refl
   after_last (mode.Continue l) a e p = refl
   after_last (mode.End h) a e p = cc
+  after_last (mode.Pay i) a e p = cc
 
   no_flag : (m : Mode) → is_abrupt m ≡ true → (p : Party Ref MadeSymbol) (go : Bool → Party Ref MadeSymbol → Act Ref MadeSymbol) → on_flag (completion_with c m v) p go ≡ Give (completion_with c m v) p
   no_flag (mode.Eval at) a p go = cc
@@ -58,6 +60,7 @@ module _ (names : Naming Ref MadeSymbol) (shared : Shared) (c : Tables) (v : Val
   no_flag (mode.Break l) a p go = refl
   no_flag (mode.Continue l) a p go = refl
   no_flag (mode.End h) a p go = cc
+  no_flag (mode.Pay i) a p go = cc
 
   no_prototype : (m : Mode) → is_abrupt m ≡ true → (p : Party Ref MadeSymbol) (go : Option Ref → Party Ref MadeSymbol → Act Ref MadeSymbol) → on_prototype (completion_with c m v) p go ≡ Give (completion_with c m v) p
   no_prototype (mode.Eval at) a p go = cc
@@ -69,6 +72,7 @@ module _ (names : Naming Ref MadeSymbol) (shared : Shared) (c : Tables) (v : Val
   no_prototype (mode.Break l) a p go = refl
   no_prototype (mode.Continue l) a p go = refl
   no_prototype (mode.End h) a p go = cc
+  no_prototype (mode.Pay i) a p go = cc
 
   by_frame : (f : Frame) (m : Mode) (vs : Values) (ws : Waits) → takes_values f ≡ true → is_abrupt m ≡ true → (p : Party Ref MadeSymbol) → go_on names shared (next_over names shared c f vs ws) (completion_with c m v) p ≡ Give (completion_with c m v) p
   by_frame (frame.SetLocal h s constant) m vs ws t a p = abrupt m a p (set_slot names h s constant)
@@ -140,6 +144,7 @@ with_value_passed f mode.Return w t x v a = passed f mode.Return w t x a
 with_value_passed f (mode.Break l) w t x v a = cc
 with_value_passed f (mode.Continue l) w t x v a = cc
 with_value_passed f (mode.End h) w t x v a = cc
+with_value_passed f (mode.Pay i) w t x v a = cc
 
 without_passed : (f : Frame) (m : Mode) (w : View) → takes_values f ≡ true → is_abrupt m ≡ true → has_value m ≡ false → (a : Around)
     → point_of a (record w { values = drop (owned f) w.values }) m ≡ point_of a (record w { frames = f ∷ w.frames }) m
@@ -152,6 +157,7 @@ without_passed f mode.Return w t x v a = cc
 without_passed f (mode.Break l) w t x v a = passed f (mode.Break l) w t x a
 without_passed f (mode.Continue l) w t x v a = passed f (mode.Continue l) w t x a
 without_passed f (mode.End h) w t x v a = cc
+without_passed f (mode.Pay i) w t x v a = cc
 
 -- what a step that changes only values keeps
 pub kept : (old new : View) (vs : Values) → new ≡ record old { values = vs } → Keeps old new

@@ -54,10 +54,10 @@ answers r old new e = led _ old (record old { answer = r }) new mode.Answer mode
 
 -- whether a party is too deep
 abbrev Opened : Bool → Ref → Ask Ref MadeSymbol → Wait → View → View → Mode → Type 0
-Opened b o x k old new m = LeadsTo (λ a. if b then asks (naming_of old.me) o x (deeper (party_of a old)) (Closes (next_of_wait k)) else End halt_kind.Depth) old new m
+Opened b o x k old new m = LeadsTo (λ a. if b then asks (naming_of old.me) o x (deeper (party_of a old)) (Closes (next_of_wait (naming_of old.me) a.shared old.code k)) else End halt_kind.Depth) old new m
 
 pub too_deep : {E : Type 0} (r : Result Mode E) (b : Bool) (o : Ref) (x : Ask Ref MadeSymbol) (k : Wait) (old mid new : View) → b ≡ nat_lt old.depth MAX_DEPTH → b ≡ false → mid ≡ old
-    → IfOk r (LeadsTo (λ a. End halt_kind.Depth) mid new) → IfOk r (LeadsTo (λ a. waits_for (naming_of old.me) o x (party_of a old) (next_of_wait k)) old new)
+    → IfOk r (LeadsTo (λ a. End halt_kind.Depth) mid new) → IfOk r (LeadsTo (λ a. waits_for (naming_of old.me) o x (party_of a old) (next_of_wait (naming_of old.me) a.shared old.code k)) old new)
 too_deep r b o x k old mid new e f s h =
     let l = subst (λ w. IfOk r (LeadsTo (λ a. End halt_kind.Depth) w new)) s h in
     subst (λ c. IfOk r (Opened c o x k old new)) (sym f ∙ e) l
@@ -66,7 +66,7 @@ opened_so : (o : Ref) (x : Ask Ref MadeSymbol) (k : Wait) (old new : View) (m : 
 opened_so o x k old new m h = record { leads = λ a. h.leads a; keeps = h.keeps }
 
 pub waited_for : {E : Type 0} (r : Result Mode E) (b : Bool) (o : Ref) (x : Ask Ref MadeSymbol) (k : Wait) (old mid more new : View) → b ≡ nat_lt old.depth MAX_DEPTH → b ≡ true → mid ≡ record old { depth = old.depth + 1 }
-    → more ≡ record mid { waits = k ∷ mid.waits } → IfOk r (WaitsFor frame.Decides o x more new) → IfOk r (LeadsTo (λ a. waits_for (naming_of old.me) o x (party_of a old) (next_of_wait k)) old new)
+    → more ≡ record mid { waits = k ∷ mid.waits } → IfOk r (WaitsFor frame.Decides o x more new) → IfOk r (LeadsTo (λ a. waits_for (naming_of old.me) o x (party_of a old) (next_of_wait (naming_of old.me) a.shared old.code k)) old new)
 waited_for (Ok m) b o x k old mid more new e f s t h =
     let one : old.depth + 1 ≡ suc old.depth = omega arith in
     let w = subst (λ (y : View). WaitsFor frame.Decides o x y new m) (t ∙ ap (λ (y : View). record y { waits = k ∷ y.waits }) s ∙ ap (λ n. record old { depth = n; waits = k ∷ old.waits }) one) h in

@@ -9,20 +9,22 @@ use Rattle.js_text.specs.declared.value.Value.{Value}
 use Rattle.js_text.specs.declared.value.Value.TheVariants as value
 use Rattle.js_desc.specs.declared.ask.Ask.{Ask}
 use Rattle.js_desc.specs.declared.fault.NativeError.{NativeError}
+use Rattle.js_desc.specs.declared.reply.Reply.{Reply}
 use Rattle.js_desc.specs.declared.reply.Reply.TheVariants as reply
 use Rattle.js_code.specs.Decoded.{layer_of, term_at}
 use Rattle.js_code.specs.declared.node.Node.{Node}
-use Rattle.js_run.specs.Acts.{Act, Evaluate, Next, asks, asks_value}
+use Rattle.js_run.specs.Acts.{Act, Evaluate, Next, Pay, asks, asks_value}
 use Rattle.js_run.specs.Completions.{Completion, Replied}
 use Rattle.js_run.specs.Decisions.{decides}
 use Rattle.js_run.specs.Faults.{error_marks, error_object, error_prototype, hidden_property}
 use Rattle.js_run.specs.Going.{go_on}
 use Rattle.js_run.specs.Parties.{Party}
 use Rattle.js_run.specs.Rows.{row, row_at}
-use Rattle.js_run.specs.Runs.{Asks, Begins, Decides, Due, Ended, Gives, Move, Point, Sends, answered, settle}
+use Rattle.js_run.specs.Runs.{Asks, Begins, Decides, Due, Ended, Gives, Move, Nothing, Point, Sends, answered, settle}
 use Rattle.js_store.specs.Objects.{Object}
 use Rattle.js_store.specs.declared.slot.Slot.TheVariants as slot
-use Rattle.js_machine.specs.Views.{Around, Values, View, below, completion_with, fitting, halt_of, next_over, nexts_of, party_of, reply_of_answer, rest_of, top, values_without, waits_under}
+use Rattle.js_machine.specs.Views.{Around, Values, View, below, completion_with, fitting, halt_of, next_of_wait, next_over, nexts_of, party_of, reply_of_answer, rest_of, top, values_without, waits_under}
+use Rattle.js_machine.specs.declared.asked.Wait.{Wait}
 use Rattle.js_machine.specs.declared.frame.Frame.{Frame}
 use Rattle.js_machine.specs.declared.frame.Mode.{Mode}
 use Rattle.js_machine.specs.declared.frame.Mode.TheVariants as mode
@@ -51,6 +53,7 @@ point_of a w (mode.Eval at) = Due 0 (Begins (term_at w.code at)) (party_of a w) 
 point_of a w mode.Ask = asked_at (naming_of w.me) w.asked.target w.asked.ask (party_of a w) (nexts_of (naming_of w.me) a.shared w.code w.frames w.values w.waits)
 point_of a w mode.Answer = settles a w w.values (Gives (Replied (reply_of_answer w.answer)) (party_of a w))
 point_of a w (mode.End h) = Ended (halt_of h)
+point_of a w (mode.Pay n) = Due n Nothing (party_of a w) (nexts_of (naming_of w.me) a.shared w.code w.frames w.values w.waits)
 point_of a w m = comes a w m
 
 -- an act, whatever stands around the party
@@ -94,6 +97,14 @@ WaitsFor f o x old new m = LeadsTo (λ a. asks (naming_of old.me) o x (party_of 
 -- a value is asked, and a frame waits for its answer
 abbrev pub WaitsForValue : Frame → Value Ref MadeSymbol → Ask Ref MadeSymbol → (old new : View) → Mode → Type 0
 WaitsForValue f v x old new m = LeadsTo (λ a. asks_value (naming_of old.me) v x (party_of a old) (over f old a)) (under f old) new m
+
+-- so much and one is to be paid, and a frame waits
+abbrev pub Pays : ℕ → Frame → (old new : View) → Mode → Type 0
+Pays n f old new m = LeadsTo (λ a. Pay n (party_of a old) (over f old a)) (under f old) new m
+
+-- what waits goes on with a reply
+abbrev pub Wakes : Wait → Reply Ref MadeSymbol → (old new : View) → Mode → Type 0
+Wakes w y old new m = LeadsTo (λ a. go_on (naming_of old.me) a.shared (next_of_wait (naming_of old.me) a.shared old.code w) (Replied y) (party_of a old)) old new m
 
 -- the ask of the machine is decided
 pub record IsDecided (old new : View) (m : Mode) : Type 0 where

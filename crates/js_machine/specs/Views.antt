@@ -40,6 +40,8 @@ use Rattle.js_machine.specs.Bodies.{scope_of, stood_in}
 use Rattle.js_store.specs.Objects.{Object}
 use Rattle.js_term.specs.declared.term.Term.{Term}
 use Rattle.js_run.specs.Truth.{is_nullish, to_boolean}
+use Rattle.js_conversions.specs.Primitives.{ReadsNumbers}
+use Rattle.js_native.specs.TextNatives.{FindsFirst}
 use Rattle.js_tree.specs.declared.operator.LogicalOperator.{LogicalOperator}
 use Rattle.js_tree.specs.declared.operator.LogicalOperator.TheVariants as logical
 use Rattle.js_machine.specs.declared.asked.Answer.{Answer}
@@ -81,11 +83,13 @@ pub record View : Type 0 where
   pub known : List (Ref × Marks)
   pub common_templates : List ℕ
 
--- what a machine's steps don't change: what all parties share, the party's surroundings, and the party's other things
+-- what a machine's steps don't change: what all parties share, the party's surroundings, and the party's other things. Texts are read as the numbers that they stand for, and a part is found where it stands first
 pub record Around : Type 0 where
   pub shared : Shared
   pub env : Env Ref
   pub rest : Party Ref MadeSymbol
+  pub numbers : ReadsNumbers shared.number_of
+  pub finds : FindsFirst shared.find
 
 -- the templates at these places of the code
 abbrev pub templates_at : Tables → List ℕ → List Template
@@ -184,9 +188,6 @@ no_wait = wait.Object (reference.Common (record { 0 = 0 })) (exotic.Ordinary ord
 abbrev pub first_wait : Waits → Wait
 first_wait [] = no_wait
 first_wait (w ∷ ws) = w
-
-abbrev pub next_of_wait : Wait → Next Ref MadeSymbol
-next_of_wait (wait.Object me n) = Decides_on me n
 
 -- FRAMES
 
@@ -325,6 +326,10 @@ module _ (names : Naming Ref MadeSymbol) (shared : Shared) (c : Tables) where
   next_of (frame.CallObject k args) vs = with_value (call_on_object names shared (term_at c k) (arguments_at c (term_at c) args))
   next_of (frame.CallMethod args) vs = with_value (calls_with names shared (top vs) (arguments_at c (term_at c) args))
 
+  -- what waits goes on with its answer
+  abbrev pub next_of_wait : Wait → Next Ref MadeSymbol
+  next_of_wait (wait.Object me n) = Decides_on me n
+
   -- what a frame goes on with where it has something that waits. What decides is open meanwhile
   abbrev pub next_over : Frame → Values → Waits → Next Ref MadeSymbol
   next_over f vs ws = if has_wait f then Closes (next_of_wait (first_wait ws)) else next_of f vs
@@ -349,13 +354,20 @@ is_completion (mode.Eval at) = false
 is_completion mode.Ask = false
 is_completion mode.Answer = false
 is_completion (mode.End h) = false
+is_completion (mode.Pay n) = false
 is_completion _ = true
+
+-- so much is due
+abbrev pub is_due : Mode → Bool
+is_due (mode.Pay n) = true
+is_due _ = false
 
 -- what is handed to a frame: a completion, or an answer that is no value
 abbrev pub is_handed : Mode → Bool
 is_handed (mode.Eval at) = false
 is_handed mode.Ask = false
 is_handed (mode.End h) = false
+is_handed (mode.Pay n) = false
 is_handed _ = true
 
 -- the body that runs stands in a new scope

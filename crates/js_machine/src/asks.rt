@@ -6,7 +6,7 @@ ghost use Rattle.js_run.specs.Acts.{Give};
 ghost use Rattle.js_run.specs.Asking.{waits_for};
 ghost use Rattle.js_run.specs.Completions.{Replied};
 ghost use Rattle.js_run.specs.declared.TheConstants.{MAX_DEPTH as most};
-ghost use Rattle.js_machine.specs.Steps.{LeadsTo, WaitsFor, WaitsForValue};
+ghost use Rattle.js_machine.specs.Steps.{LeadsTo, Pays, WaitsFor, WaitsForValue};
 ghost use Rattle.js_machine.specs.Views.{first_wait, next_of_wait, party_of, reply_of_answer, waits_under};
 ghost use Rattle.js_machine.specs.declared.frame.Frame.TheVariants as frame;
 
@@ -110,15 +110,22 @@ impl Machine {
 
     /// An object is asked, and something waits that is open meanwhile.
     pub fn wait_for(&mut self, target: Ref, ask: Ask, wait: Wait) -> Result<Mode, OutOfMemory>
-        ensures { let next = next_of_wait wait in
-            IfOk result (LeadsTo (λ a. waits_for (naming_of self.old.me) target ask
-            (party_of a self.old) next)
-            self.old self.new) }
+        ensures { let names = naming_of self.old.me in
+            IfOk result (LeadsTo (λ a. waits_for names target ask (party_of a self.old)
+            (next_of_wait names a.shared self.old.code wait)) self.old self.new) }
     {
         if !self.open_one() {
             return self.end_run(Halt::Depth);
         }
         self.push_wait(wait)?;
         self.ask(target, ask, Frame::Decides)
+    }
+
+    /// So much and one is to be paid, and a frame waits.
+    pub fn pay(&mut self, cost: u32, frame: Frame) -> Result<Mode, OutOfMemory>
+        ensures { IfOk result (Pays cost frame self.old self.new) }
+    {
+        self.push_frame(frame)?;
+        Ok(Mode::Pay(cost))
     }
 }

@@ -11,10 +11,9 @@ ghost use Rattle.js_run.specs.Following.{halt_of};
 ghost use Rattle.js_machine.specs.Decisions.{object_of_value, wants_number};
 ghost use Rattle.js_run.specs.Completions.{Replied};
 ghost use Rattle.js_run.specs.Going.{go_on};
-ghost use Rattle.js_machine.specs.Steps.{IsDecided, IsDelivered, LeadsTo, over, under};
+ghost use Rattle.js_machine.specs.Steps.{IsDecided, IsDelivered, LeadsTo, Wakes, over, under};
 ghost use Rattle.js_machine.specs.Views.{party_of, reply_of_answer};
 ghost use Rattle.js_machine.specs.declared.asked.Answer.TheVariants as answer_kind;
-ghost use Rattle.js_machine.specs.declared.asked.Wait.TheVariants as wait_kind;
 ghost use Rattle.js_machine.specs.declared.frame.Frame.TheVariants as frame;
 ghost use Rattle.js_machine.specs.declared.frame.Mode.TheVariants as mode_kind;
 
@@ -50,15 +49,6 @@ fn wants_number(decision: &Decision<ExoticNext>) -> bool
     ensures { result ≡ wants_number decision.now }
 {
     matches!(decision, Decision::Number { .. })
-}
-
-/// The object whose decision waits, and for what.
-fn parts_of_wait(wait: Wait) -> (Ref, ExoticNext)
-    ensures { wait ≡ wait_kind.Object result.0 result.1 }
-{
-    match wait {
-        Wait::Object { me, next } => (me, next),
-    }
 }
 
 impl Machine {
@@ -254,6 +244,15 @@ impl Machine {
         self.depth = self.depth.saturating_sub(1);
     }
 
+    /// What waited is open no longer, and goes on with a reply.
+    fn wake(&mut self, wait: Wait, reply: Reply) -> Result<Mode, OutOfMemory>
+        ensures { IfOk result (Wakes wait reply self.old self.new) }
+    {
+        match wait {
+            Wait::Object { me, next } => self.resume_object(me, next, reply),
+        }
+    }
+
     /// What waits goes on with a reply.
     pub fn resume_wait(&mut self, reply: Reply) -> Result<Mode, OutOfMemory>
         ensures { let old = self.old in
@@ -262,8 +261,7 @@ impl Machine {
     {
         let wait = self.take_wait();
         self.close_one();
-        let (me, next) = parts_of_wait(wait);
-        self.resume_object(me, next, reply)
+        self.wake(wait, reply)
     }
 
     /// The answer of the machine, as a reply.

@@ -40,6 +40,8 @@ pub enum Mode {
     Break(u32),
     Continue(u32),
     End(Halt),
+    /// So much and one is to be paid, before undefined is given.
+    Pay(u32),
 }
 
 /// What a body does once a completion comes: each frame stands for what follows in the rows of the core forms.
@@ -219,7 +221,7 @@ impl Mode {
     {
         !matches!(
             self,
-            Mode::Eval(_) | Mode::Ask | Mode::Answer | Mode::End(_)
+            Mode::Eval(_) | Mode::Ask | Mode::Answer | Mode::End(_) | Mode::Pay(_)
         )
     }
 
@@ -227,7 +229,10 @@ impl Mode {
     pub fn is_handed(self) -> bool
         ensures { result ≡ is_handed self }
     {
-        !matches!(self, Mode::Eval(_) | Mode::Ask | Mode::End(_))
+        !matches!(
+            self,
+            Mode::Eval(_) | Mode::Ask | Mode::End(_) | Mode::Pay(_)
+        )
     }
 
     /// Whether it is a throw.

@@ -3,12 +3,13 @@
 ghost use Rattle.std.specs.Prelude.{◌≡◌, [], IfOk, drop, true};
 ghost use Rattle.js_machine.specs.Steps.{IsDelivered};
 ghost use Rattle.js_machine.specs.Stops.{IsWorked, Stays};
-ghost use Rattle.js_machine.specs.Views.{is_completion, is_handed, newest, takes_values};
+ghost use Rattle.js_machine.specs.Views.{is_completion, is_due, is_handed, newest, takes_values};
 ghost use Rattle.js_machine.specs.declared.frame.Frame.TheVariants as frame_kind;
 ghost use Rattle.js_machine.specs.declared.frame.Mode.TheVariants as mode_kind;
 
 use crate::frame::{Frame, Mode};
 use crate::machine::Machine;
+use js_text::value::Value;
 use lava_base::memory::OutOfMemory;
 
 impl Machine {
@@ -119,6 +120,15 @@ impl Machine {
         }
     }
 
+    /// What was paid for goes on with undefined.
+    #[tactic(auto, using(crate::proofs::Handed::paid_works))]
+    fn work_paid(&mut self, mode: Mode) -> Result<Mode, OutOfMemory>
+        requires { is_due mode ≡ true }
+        ensures { IfOk result (IsWorked mode self.old self.new) }
+    {
+        self.give(Value::Undefined)
+    }
+
     /// What was charged for is done.
     pub fn work(&mut self, mode: Mode) -> Result<Mode, OutOfMemory>
         ensures { IfOk result (IsWorked mode self.old self.new) }
@@ -126,6 +136,7 @@ impl Machine {
         match mode {
             Mode::Eval(at) => self.begin(at),
             Mode::Ask => self.work_ask(),
+            Mode::Pay(_) => self.work_paid(mode),
             // Nothing else is charged for.
             _ => Err(OutOfMemory),
         }
