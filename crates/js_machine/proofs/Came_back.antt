@@ -41,6 +41,7 @@ followed f (mode.Break l) old new after c h = record { stands = λ a. h.leads a;
 followed f (mode.Continue l) old new after c h = record { stands = λ a. h.leads a; keeps = h.keeps }
 followed f (mode.End h) old new after c g = cc
 followed f (mode.Pay i) old new after c g = cc
+followed f (mode.Serve i) old new after c g = cc
 
 returned_is : (m : Mode) (c : Tables) (v : V) (p : Party Ref MadeSymbol) (go : V → Party Ref MadeSymbol → Act Ref MadeSymbol) → is_completion m ≡ true → is_throw m ≡ false → returned (completion_with c m v) p go ≡ go (returned_value m v) p
 returned_is (mode.Eval at) c v p go k n = cc
@@ -53,6 +54,7 @@ returned_is (mode.Break l) c v p go k n = refl
 returned_is (mode.Continue l) c v p go k n = refl
 returned_is (mode.End h) c v p go k n = cc
 returned_is (mode.Pay i) c v p go k n = cc
+returned_is (mode.Serve i) c v p go k n = cc
 
 throw_is : (m : Mode) → is_throw m ≡ true → m ≡ mode.Throw
 throw_is (mode.Eval at) t = cc
@@ -65,6 +67,7 @@ throw_is (mode.Break l) t = cc
 throw_is (mode.Continue l) t = cc
 throw_is (mode.End h) t = cc
 throw_is (mode.Pay i) t = cc
+throw_is (mode.Serve i) t = cc
 
 -- the body's end leads on
 abbrev Ends : Going → Mode → View → View → Mode → Type 0

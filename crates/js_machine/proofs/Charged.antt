@@ -70,6 +70,10 @@ module _ (names : Naming Ref MadeSymbol) (shared : Shared) (env : Env Ref) where
       let z : i ≡ n = cc in
       subst (λ x. charge a.rest.meter steps limit (suc x) ≡ c → run_for names shared env (suc k) limit steps (point_of a w (mode.Pay i)) ≡ paid k limit steps x (point_of a w (mode.Pay i)) c) z
       (λ h. due_paid k limit steps i Nothing (party_of a w) (nexts_of (naming_of w.me) a.shared w.code w.frames w.values w.waits) c h) d
+  pays k limit steps n c a (mode.Serve i) w e d =
+      let z : i ≡ n = cc in
+      subst (λ x. charge a.rest.meter steps limit (suc x) ≡ c → run_for names shared env (suc k) limit steps (point_of a w (mode.Serve i)) ≡ paid k limit steps x (point_of a w (mode.Serve i)) c) z
+      (λ h. due_paid k limit steps i (Decides w.asked.target w.asked.ask) (party_of a w) (nexts_of (naming_of w.me) a.shared w.code w.frames w.values w.waits) c h) d
 
   -- where no frame is left, a completion is over
   over_by : (k limit n : ℕ) (a : Around) (w : View) (vs : Values) (d : Completion Ref MadeSymbol) → w.frames ≡ [] → runs.Gave d (party_of a w) n ≡ run_for names shared env k limit n (settles a w vs (Gives d (party_of a w)))
@@ -93,6 +97,7 @@ module _ (names : Naming Ref MadeSymbol) (shared : Shared) (env : Env Ref) where
   stops_there k limit n a (mode.Continue l) w c e = over_by k limit n a w w.values (completion_of w (mode.Continue l)) (e refl)
   stops_there k limit n a (mode.End h) w c e = refl
   stops_there k limit n a (mode.Pay i) w c e = cc
+  stops_there k limit n a (mode.Serve i) w c e = cc
 
   last_ask : (limit n : ℕ) (a : Around) (o : Option Ref) (w : View) → foreign_in (naming_of w.me) w.asked.target ≡ o → stop_of a w (ask_stop o n) ≡ run_for names shared env zero limit n (point_of a w mode.Ask)
   last_ask limit n a None w e =
@@ -110,6 +115,7 @@ module _ (names : Naming Ref MadeSymbol) (shared : Shared) (env : Env Ref) where
   stops_last limit n a (mode.Continue l) w e = stops_there zero limit n a (mode.Continue l) w refl e
   stops_last limit n a (mode.End h) w e = refl
   stops_last limit n a (mode.Pay i) w e = refl
+  stops_last limit n a (mode.Serve i) w e = refl
 
 -- A RUN ON ITS WAY
 

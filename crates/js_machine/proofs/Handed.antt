@@ -6,6 +6,7 @@ use Rattle.lava_base.specs.declared.ids.Ref.{Ref}
 use Rattle.js_text.specs.Naming.{naming_of}
 use Rattle.js_text.specs.declared.value.Value.TheVariants as value
 use Rattle.js_run.specs.Acts.{give}
+use Rattle.js_run.specs.Requests.{is_link}
 use Rattle.js_store.specs.Foreign.{marks_of}
 use Rattle.js_machine.specs.Looks.{foreign_in}
 use Rattle.js_machine.specs.Steps.{IsBegun, IsDecided, IsDelivered, Keeps, LeadsTo, point_of}
@@ -19,7 +20,7 @@ use Rattle.js_machine.proofs.Looked.{decided_here, sent_away}
 -- WHAT STAYS
 
 pub fits : (old new : View) (a : Around) → Keeps old new → fitting new a ≡ fitting old a
-fits old new a (m, (d, (c, (t, k)))) = λ j. record a { shared = record a.shared { objects = c j; templates = templates_at (d j) (t j) }; env = record a.env { marks = λ r. marks_of same_ref r (k j) } }
+fits old new a (m, (d, (c, (t, k)))) = λ j. record a { shared = record a.shared { objects = c j; templates = templates_at (d j) (t j) }; env = record a.env { marks = λ r. marks_of same_ref r (k j).0; allows = λ l. is_link l (k j).1 } }
 
 pub me_kept : (old new : View) → Keeps old new → new.me ≡ old.me
 me_kept old new (m, k) = m
@@ -98,4 +99,10 @@ paid_works (Ok k) mode.Return old new d h = cc
 paid_works (Ok k) (mode.Break l) old new d h = cc
 paid_works (Ok k) (mode.Continue l) old new d h = cc
 paid_works (Ok k) (mode.End h') old new d h = cc
+paid_works (Ok k) (mode.Serve n) old new d h = cc
 paid_works (Err x) m old new d h = tt
+
+-- an ask that came from another party is decided
+pub served_works : {E : Type 0} (r : Result Mode E) (n : ℕ) (m : Mode) (old new : View) → m ≡ mode.Serve n → IfOk r (IsDecided old new) → IfOk r (IsWorked m old new)
+served_works (Ok k) n m old new d h = subst (λ x. IsWorked x old new k) (sym d) (record { stands = λ a. h.leads.leads a; keeps = h.leads.keeps })
+served_works (Err x) n m old new d h = tt

@@ -18,7 +18,7 @@ use Rattle.js_run.specs.Properties.{delete_property, init_slot, put_global, put_
 use Rattle.js_run.specs.Rows.{binary_left, delete_object, get_key, get_object, if_test, put_key, put_object, short_left, super_key, call_on_object, new_callee}
 use Rattle.js_run.specs.Runs.{Gives, answered, settle}
 use Rattle.js_run.specs.Truth.{to_boolean}
-use Rattle.js_machine.specs.Views.{Around, Values, View, Waits, below, completion_with, fitting, has_value, has_wait, is_abrupt, next_over, nexts_of, owned, party_of, rest_of, takes_values, top, turns_at, values_without, applied, args_on, next_of}
+use Rattle.js_machine.specs.Views.{Around, Values, View, Waits, below, completion_with, fitting, has_value, has_wait, is_abrupt, knows, next_over, nexts_of, owned, party_of, rest_of, takes_values, top, turns_at, values_without, applied, args_on, next_of}
 use Rattle.js_machine.specs.Steps.{IsDelivered, Keeps, comes, point_of, settles}
 use Rattle.js_machine.specs.declared.frame.Frame.{Frame}
 use Rattle.js_machine.specs.declared.frame.Frame.TheVariants as frame
@@ -37,6 +37,7 @@ module _ (names : Naming Ref MadeSymbol) (shared : Shared) (c : Tables) (v : Val
   abrupt (mode.Continue l) a p go = refl
   abrupt (mode.End h) a p go = cc
   abrupt (mode.Pay i) a p go = cc
+  abrupt (mode.Serve i) a p go = cc
 
   after_last : (m : Mode) → is_abrupt m ≡ true → (earlier : Completion Ref MadeSymbol) (p : Party Ref MadeSymbol) → finally_ends earlier (completion_with c m v) p ≡ Give (completion_with c m v) p
   after_last (mode.Eval at) a e p = cc
@@ -49,6 +50,7 @@ module _ (names : Naming Ref MadeSymbol) (shared : Shared) (c : Tables) (v : Val
   after_last (mode.Continue l) a e p = refl
   after_last (mode.End h) a e p = cc
   after_last (mode.Pay i) a e p = cc
+  after_last (mode.Serve i) a e p = cc
 
   no_flag : (m : Mode) → is_abrupt m ≡ true → (p : Party Ref MadeSymbol) (go : Bool → Party Ref MadeSymbol → Act Ref MadeSymbol) → on_flag (completion_with c m v) p go ≡ Give (completion_with c m v) p
   no_flag (mode.Eval at) a p go = cc
@@ -61,6 +63,7 @@ module _ (names : Naming Ref MadeSymbol) (shared : Shared) (c : Tables) (v : Val
   no_flag (mode.Continue l) a p go = refl
   no_flag (mode.End h) a p go = cc
   no_flag (mode.Pay i) a p go = cc
+  no_flag (mode.Serve i) a p go = cc
 
   no_prototype : (m : Mode) → is_abrupt m ≡ true → (p : Party Ref MadeSymbol) (go : Option Ref → Party Ref MadeSymbol → Act Ref MadeSymbol) → on_prototype (completion_with c m v) p go ≡ Give (completion_with c m v) p
   no_prototype (mode.Eval at) a p go = cc
@@ -73,6 +76,7 @@ module _ (names : Naming Ref MadeSymbol) (shared : Shared) (c : Tables) (v : Val
   no_prototype (mode.Continue l) a p go = refl
   no_prototype (mode.End h) a p go = cc
   no_prototype (mode.Pay i) a p go = cc
+  no_prototype (mode.Serve i) a p go = cc
 
   by_frame : (f : Frame) (m : Mode) (vs : Values) (ws : Waits) → takes_values f ≡ true → is_abrupt m ≡ true → (p : Party Ref MadeSymbol) → go_on names shared (next_over names shared c f vs ws) (completion_with c m v) p ≡ Give (completion_with c m v) p
   by_frame (frame.SetLocal h s constant) m vs ws t a p = abrupt m a p (set_slot names h s constant)
@@ -145,6 +149,7 @@ with_value_passed f (mode.Break l) w t x v a = cc
 with_value_passed f (mode.Continue l) w t x v a = cc
 with_value_passed f (mode.End h) w t x v a = cc
 with_value_passed f (mode.Pay i) w t x v a = cc
+with_value_passed f (mode.Serve i) w t x v a = cc
 
 without_passed : (f : Frame) (m : Mode) (w : View) → takes_values f ≡ true → is_abrupt m ≡ true → has_value m ≡ false → (a : Around)
     → point_of a (record w { values = drop (owned f) w.values }) m ≡ point_of a (record w { frames = f ∷ w.frames }) m
@@ -158,10 +163,11 @@ without_passed f (mode.Break l) w t x v a = passed f (mode.Break l) w t x a
 without_passed f (mode.Continue l) w t x v a = passed f (mode.Continue l) w t x a
 without_passed f (mode.End h) w t x v a = cc
 without_passed f (mode.Pay i) w t x v a = cc
+without_passed f (mode.Serve i) w t x v a = cc
 
 -- what a step that changes only values keeps
 pub kept : (old new : View) (vs : Values) → new ≡ record old { values = vs } → Keeps old new
-kept old new vs e = (ap (λ (w : View). w.me) e, (ap (λ (w : View). w.code) e, (ap (λ (w : View). w.common) e, (ap (λ (w : View). w.common_templates) e, ap (λ (w : View). w.known) e))))
+kept old new vs e = (ap (λ (w : View). w.me) e, (ap (λ (w : View). w.code) e, (ap (λ (w : View). w.common) e, (ap (λ (w : View). w.common_templates) e, ap knows e))))
 
 pub passes_with_value : (f : Frame) (m : Mode) (old new : View) → takes_values f ≡ true → is_abrupt m ≡ true → has_value m ≡ true
     → new ≡ record old { values = top old.values ∷ drop (owned f) (below old.values) } → IsDelivered f m old new m

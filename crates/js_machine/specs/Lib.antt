@@ -1,4 +1,5 @@
 pub mod Bodies
+pub mod Packages
 pub mod Views
 pub mod Steps
 pub mod Ways
@@ -12,3 +13,5 @@ pub mod Filling
 pub mod Opened
 pub mod Called
 pub mod Closures
+pub mod Begun
+pub mod Served

@@ -23,7 +23,7 @@ use Rattle.js_run.specs.Rows.{row, row_at}
 use Rattle.js_run.specs.Runs.{Asks, Begins, Decides, Due, Ended, Gives, Move, Nothing, Point, Sends, answered, settle}
 use Rattle.js_store.specs.Objects.{Object}
 use Rattle.js_store.specs.declared.slot.Slot.TheVariants as slot
-use Rattle.js_machine.specs.Views.{Around, Values, View, below, completion_with, fitting, halt_of, next_of_wait, next_over, nexts_of, party_of, reply_of_answer, rest_of, top, values_without, waits_under}
+use Rattle.js_machine.specs.Views.{Around, Values, View, below, completion_with, fitting, halt_of, knows, next_of_wait, next_over, nexts_of, party_of, reply_of_answer, rest_of, top, values_without, waits_under}
 use Rattle.js_machine.specs.declared.asked.Wait.{Wait}
 use Rattle.js_machine.specs.declared.frame.Frame.{Frame}
 use Rattle.js_machine.specs.declared.frame.Mode.{Mode}
@@ -54,6 +54,7 @@ point_of a w mode.Ask = asked_at (naming_of w.me) w.asked.target w.asked.ask (pa
 point_of a w mode.Answer = settles a w w.values (Gives (Replied (reply_of_answer w.answer)) (party_of a w))
 point_of a w (mode.End h) = Ended (halt_of h)
 point_of a w (mode.Pay n) = Due n Nothing (party_of a w) (nexts_of (naming_of w.me) a.shared w.code w.frames w.values w.waits)
+point_of a w (mode.Serve n) = Due n (Decides w.asked.target w.asked.ask) (party_of a w) (nexts_of (naming_of w.me) a.shared w.code w.frames w.values w.waits)
 point_of a w m = comes a w m
 
 -- an act, whatever stands around the party
@@ -62,7 +63,7 @@ Deed = Around → Act Ref MadeSymbol
 
 -- the party and its code stay, and what the machine knows of others
 abbrev pub Keeps : (old new : View) → Type 0
-Keeps old new = (new.me ≡ old.me) × ((new.code ≡ old.code) × ((new.common ≡ old.common) × ((new.common_templates ≡ old.common_templates) × (new.known ≡ old.known))))
+Keeps old new = (new.me ≡ old.me) × ((new.code ≡ old.code) × ((new.common ≡ old.common) × ((new.common_templates ≡ old.common_templates) × (knows new ≡ knows old))))
 
 -- the machine stands where an act leads, whatever stands around
 pub record LeadsTo (deed : Deed) (old new : View) (m : Mode) : Type 0 where

@@ -39,6 +39,7 @@ abbrev pub cost_of : View → Mode → Option ℕ
 cost_of w (mode.Eval at) = Some 0
 cost_of w mode.Ask = ask_cost (foreign_in (naming_of w.me) w.asked.target)
 cost_of w (mode.Pay n) = Some n
+cost_of w (mode.Serve n) = Some n
 cost_of w _ = None
 
 abbrev pub ask_stop : Option Ref → ℕ → stop_type.Stop
@@ -51,6 +52,7 @@ stop_at w (mode.Eval at) n = stop.Short n
 stop_at w mode.Ask n = ask_stop (foreign_in (naming_of w.me) w.asked.target) n
 stop_at w (mode.End h) n = stop.Stopped h n
 stop_at w (mode.Pay i) n = stop.Short n
+stop_at w (mode.Serve i) n = stop.Short n
 stop_at w m n = stop.Gave m n
 
 abbrev pub with_steps : ℕ → stop_type.Stop → stop_type.Stop

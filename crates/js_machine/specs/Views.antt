@@ -39,11 +39,13 @@ use Rattle.js_state.specs.Scopes.{Scope, outwards, scope_at, with_slot}
 use Rattle.js_machine.specs.Bodies.{scope_of, stood_in}
 use Rattle.js_store.specs.Objects.{Object}
 use Rattle.js_term.specs.declared.term.Term.{Term}
+use Rattle.js_run.specs.Requests.{is_link}
 use Rattle.js_run.specs.Truth.{is_nullish, to_boolean}
 use Rattle.js_conversions.specs.Primitives.{ReadsNumbers}
 use Rattle.js_native.specs.TextNatives.{FindsFirst}
 use Rattle.js_tree.specs.declared.operator.LogicalOperator.{LogicalOperator}
 use Rattle.js_tree.specs.declared.operator.LogicalOperator.TheVariants as logical
+use Rattle.js_machine.specs.Packages.{Package, loaded_in}
 use Rattle.js_machine.specs.declared.asked.Answer.{Answer}
 use Rattle.js_machine.specs.declared.asked.Answer.TheVariants as answer
 use Rattle.js_machine.specs.declared.asked.Asked.{Asked}
@@ -65,7 +67,7 @@ abbrev pub Waits : Type 0
 Waits = List Wait
 
 -- a machine as contracts see it: frames, values, what waits, and bodies, the newest first, and the things of the party that runs. Templates are places in the code, those of the common part apart.
--- What is asked and what was answered stand there for the modes that say so. The common objects and the marks of foreign ones are what it knows of others
+-- What is asked and what was answered stand there for the modes that say so. The common objects and the marks of foreign ones are what it knows of others, and it may import over the links that are allowed
 pub record View : Type 0 where
   pub me : ℕ
   pub code : Tables
@@ -82,6 +84,8 @@ pub record View : Type 0 where
   pub common : List CommonObject
   pub known : List (Ref × Marks)
   pub common_templates : List ℕ
+  pub package : Package
+  pub allowed : List (List ℕ)
 
 -- what a machine's steps don't change: what all parties share, the party's surroundings, and the party's other things. Texts are read as the numbers that they stand for, and a part is found where it stands first
 pub record Around : Type 0 where
@@ -95,13 +99,23 @@ pub record Around : Type 0 where
 abbrev pub templates_at : Tables → List ℕ → List Template
 templates_at c ts = map (template_at c (term_at c)) ts
 
--- what stands around has the common objects and templates and the marks that the machine knows
+-- what it knows of others and may ask of them
+abbrev pub knows : View → List (Ref × Marks) × List (List ℕ)
+knows w = (w.known, w.allowed)
+
+-- what stands around has the common objects and templates, the marks that the machine knows, and allows the links that it may use
 abbrev pub fitting : View → Around → Around
-fitting w a = record a { shared = record a.shared { objects = w.common; templates = templates_at w.code w.common_templates }; env = record a.env { marks = λ r. marks_of same_ref r w.known } }
+fitting w a = record a { shared = record a.shared { objects = w.common; templates = templates_at w.code w.common_templates }; env = record a.env { marks = λ r. marks_of same_ref r w.known; allows = λ l. is_link l w.allowed } }
 
 -- the party that runs
 abbrev pub party_of : Around → View → Party Ref MadeSymbol
 party_of a w = record a.rest {
+  name = w.package.name;
+  main = w.package.main;
+  modules = loaded_in w.code w.package;
+  links = w.package.links;
+  builtin = w.package.builtin;
+  module_map = w.package.mapped;
   objects = w.objects;
   templates = templates_at w.code w.templates;
   scopes = w.scopes;
@@ -355,6 +369,7 @@ is_completion mode.Ask = false
 is_completion mode.Answer = false
 is_completion (mode.End h) = false
 is_completion (mode.Pay n) = false
+is_completion (mode.Serve n) = false
 is_completion _ = true
 
 -- so much is due
@@ -368,6 +383,7 @@ is_handed (mode.Eval at) = false
 is_handed mode.Ask = false
 is_handed (mode.End h) = false
 is_handed (mode.Pay n) = false
+is_handed (mode.Serve n) = false
 is_handed _ = true
 
 -- the body that runs stands in a new scope

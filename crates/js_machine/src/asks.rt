@@ -24,7 +24,7 @@ use lava_base::memory::OutOfMemory;
 
 impl Machine {
     /// What is asked.
-    fn set_asked(&mut self, target: Value, ask: Ask)
+    pub(crate) fn set_asked(&mut self, target: Value, ask: Ask)
         ensures { self.new ≡ record self.old { asked = record { target = target; ask = ask } } }
     {
         self.asked = Asked { target, ask };

@@ -42,6 +42,8 @@ pub enum Mode {
     End(Halt),
     /// So much and one is to be paid, before undefined is given.
     Pay(u32),
+    /// So much and one is to be paid for an ask that came from another party.
+    Serve(u32),
 }
 
 /// What a body does once a completion comes: each frame stands for what follows in the rows of the core forms.
@@ -221,7 +223,7 @@ impl Mode {
     {
         !matches!(
             self,
-            Mode::Eval(_) | Mode::Ask | Mode::Answer | Mode::End(_) | Mode::Pay(_)
+            Mode::Eval(_) | Mode::Ask | Mode::Answer | Mode::End(_) | Mode::Pay(_) | Mode::Serve(_)
         )
     }
 
@@ -231,7 +233,7 @@ impl Mode {
     {
         !matches!(
             self,
-            Mode::Eval(_) | Mode::Ask | Mode::End(_) | Mode::Pay(_)
+            Mode::Eval(_) | Mode::Ask | Mode::End(_) | Mode::Pay(_) | Mode::Serve(_)
         )
     }
 

@@ -17,6 +17,7 @@
 // - `arguments` evaluates the arguments of calls, and `callees` asks what is called.
 // - `bodies` runs bodies, `returns` ends them, `calls` has what runs when a function is called, and `closures` runs functions.
 // - `sequences` has lists of forms, `places` what a body runs with, `jumps` jumps, `turns` what follows a turn of a loop, and `tries` has `try`.
+// - `new` makes a machine, `own` has a party's things and bodies while others run, and `serve` takes what comes from other parties.
 // - `steps` hands completions on and does what was charged for, `stop` has charges and how runs stop, and `run` runs.
 // - `asked` has what is asked, what is answered and what waits; `asks` asks, and brings replies.
 // - `ways` tells in which way an object decides, `decisions` decides and follows, `primitives` decides for values that are no objects.
@@ -47,6 +48,9 @@ pub mod keys;
 pub mod looks;
 pub mod loops;
 pub mod machine;
+pub mod new;
+pub mod own;
+pub mod package;
 pub mod parameters;
 pub mod places;
 pub mod plain_keys;
@@ -56,6 +60,7 @@ pub mod returns;
 pub mod run;
 pub mod running;
 pub mod sequences;
+pub mod serve;
 pub mod slots;
 pub mod steps;
 pub mod stop;

@@ -12,11 +12,13 @@ use crate::asked::{Answer, Asked, Wait};
 use crate::body::Body;
 use crate::frame::{Frame, Mode};
 use crate::keys::KnownKeys;
+use crate::package::Package;
 use js_code::code::Code;
 use js_state::scopes::Scopes;
 use js_store::flat::FlatStore;
 use js_store::foreign::Foreign;
 use js_store::frozen::FrozenStore;
+use js_text::text::Text;
 use js_text::value::Value;
 use lava_base::memory::OutOfMemory;
 use std::alloc::Global;
@@ -48,6 +50,9 @@ pub struct Machine {
     /// The place of the template that has nothing to do.
     pub(crate) empty_template: u32,
     pub(crate) keys: KnownKeys,
+    pub(crate) package: Package,
+    /// The links that the party may import over.
+    pub(crate) allowed: Vec<Text>,
 }
 
 impl Model for Machine {
@@ -75,6 +80,8 @@ impl Model for Machine {
       common = m.common;
       known = m.foreign;
       common_templates = m.common_templates.items;
+      package = m.package;
+      allowed = m.allowed.items;
     } };
 
     ghost invariant = { λ m. (is_grounded m.scope (reverse m.bodies.items) ≡ true)

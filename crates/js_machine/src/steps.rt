@@ -137,6 +137,7 @@ impl Machine {
             Mode::Eval(at) => self.begin(at),
             Mode::Ask => self.work_ask(),
             Mode::Pay(_) => self.work_paid(mode),
+            Mode::Serve(_) => self.decide(),
             // Nothing else is charged for.
             _ => Err(OutOfMemory),
         }

@@ -83,7 +83,7 @@ impl Machine {
         match mode {
             Mode::Eval(_) => Some(0),
             Mode::Ask => self.ask_cost(),
-            Mode::Pay(cost) => Some(cost),
+            Mode::Pay(cost) | Mode::Serve(cost) => Some(cost),
             _ => None,
         }
     }
@@ -103,7 +103,7 @@ impl Machine {
         ensures { result ≡ stop_at self.now mode steps }
     {
         match mode {
-            Mode::Eval(_) | Mode::Pay(_) => Stop::Short { steps },
+            Mode::Eval(_) | Mode::Pay(_) | Mode::Serve(_) => Stop::Short { steps },
             Mode::Ask => self.stop_ask(steps),
             Mode::End(halt) => Stop::Stopped { halt, steps },
             _ => Stop::Gave { mode, steps },
