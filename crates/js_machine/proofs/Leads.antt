@@ -18,7 +18,7 @@ use Rattle.js_run.specs.Rows.{row_at}
 use Rattle.js_run.specs.Runs.{answered}
 use Rattle.js_term.specs.declared.term.Term.{out-Term}
 use Rattle.js_machine.specs.Views.{View, completion_with, fitting, has_value, keeps_left, party_of, top, turns_at}
-use Rattle.js_machine.specs.Steps.{Deed, Waits, WaitsWith, deed_with, IsBegun, IsDelivered, LeadsTo, deed_of_frame, deed_of_row, settles, under, with_top, without_top}
+use Rattle.js_machine.specs.Steps.{Deed, Pays, Waits, WaitsWith, deed_with, IsBegun, IsDelivered, LeadsTo, deed_of_frame, deed_of_row, settles, under, with_top, without_top}
 use Rattle.js_machine.specs.declared.frame.Frame.{Frame}
 use Rattle.js_machine.specs.declared.frame.Mode.{Mode}
 use Rattle.js_machine.specs.declared.frame.Mode.TheVariants as mode
@@ -111,3 +111,7 @@ tested r b v t old new e h = subst (λ x. IfOk r (Turn x t old new)) e h
 -- a frame that is known
 pub arm : {E : Type 0} (r : Result Mode E) (f g : Frame) (v : Value Ref MadeSymbol) (old new : View) → f ≡ g → IfOk r (LeadsTo (deed_with g v old) (under g old) new) → IfOk r (LeadsTo (deed_with f v old) (under f old) new)
 arm r f g v old new e h = subst (λ x. IfOk r (LeadsTo (deed_with x v old) (under x old) new)) (sym e) h
+
+-- so much is to be paid, and a frame waits
+pub paid : (n : ℕ) (f : Frame) (old new : View) (m : Mode) → new ≡ record old { frames = f ∷ old.frames } → m ≡ mode.Pay n → Pays n f old new m
+paid n f old new m e d = led _ _ (record old { frames = f ∷ old.frames }) new (mode.Pay n) m (record { leads = λ a. refl; keeps = (refl, (refl, (refl, (refl, refl)))) }) e d

@@ -28,3 +28,4 @@ pub mod Numbered
 pub mod Argued
 pub mod Called_laws
 pub mod Closed
+pub mod Served_laws

@@ -6,8 +6,9 @@ use Rattle.js_text.specs.declared.value.Value.{Value}
 use Rattle.js_code.specs.Tables.{Tables}
 use Rattle.js_run.specs.Parties as parties
 use Rattle.js_state.specs.Scopes.{Scope, no_scope}
-use Rattle.js_store.specs.Objects.{CommonObject, Object, Owned}
-use Rattle.js_desc.specs.declared.marks.Marks.{Marks}
+use Rattle.js_store.specs.Objects.{Object, Owned}
+use Rattle.js_store.specs.Frozen.{CommonObject}
+use Rattle.lava_base.specs.declared.marks.Marks.{Marks}
 use Rattle.js_machine.specs.Packages.{Package}
 use Rattle.js_machine.specs.Views.{View, Values, Waits}
 use Rattle.js_machine.specs.declared.asked.Answer.{Answer}
@@ -20,7 +21,7 @@ outermost = no_scope ∷ []
 
 -- a machine that has done nothing yet
 abbrev pub as_new : Tables → Owned → Package → (allowed : List (List ℕ)) → List CommonObject → (common_templates : List ℕ) → List (Ref × Marks) → Asked → Answer → View
-as_new c s package allowed common ts known asked answer = record {
+as_new c s own_package allowed common ts known asked answer = record {
   me = s.party.0;
   code = c;
   frames = [];
@@ -36,7 +37,7 @@ as_new c s package allowed common ts known asked answer = record {
   common = common;
   known = known;
   common_templates = ts;
-  package = package;
+  own_package = own_package;
   allowed = allowed;
 }
 
@@ -48,18 +49,18 @@ pub record Own : Type 0 where
   pub scopes : List (Scope Ref MadeSymbol)
   pub bodies : List (parties.Body Ref MadeSymbol)
   pub depth : ℕ
-  pub package : Package
+  pub own_package : Package
   pub allowed : List (List ℕ)
 
 abbrev pub new_own : Owned → Package → (allowed : List (List ℕ)) → Own
-new_own s package allowed = record { me = s.party.0; objects = s.objects; templates = []; scopes = outermost; bodies = []; depth = 0; package = package; allowed = allowed }
+new_own s own_package allowed = record { me = s.party.0; objects = s.objects; templates = []; scopes = outermost; bodies = []; depth = 0; own_package = own_package; allowed = allowed }
 
 abbrev pub own_of : View → Own
-own_of w = record { me = w.me; objects = w.objects; templates = w.templates; scopes = w.scopes; bodies = w.bodies; depth = w.depth; package = w.package; allowed = w.allowed }
+own_of w = record { me = w.me; objects = w.objects; templates = w.templates; scopes = w.scopes; bodies = w.bodies; depth = w.depth; own_package = w.own_package; allowed = w.allowed }
 
 -- the machine runs the party that has these things
 abbrev pub with_own : Own → View → View
-with_own o w = record w { me = o.me; objects = o.objects; templates = o.templates; scopes = o.scopes; bodies = o.bodies; depth = o.depth; package = o.package; allowed = o.allowed }
+with_own o w = record w { me = o.me; objects = o.objects; templates = o.templates; scopes = o.scopes; bodies = o.bodies; depth = o.depth; own_package = o.own_package; allowed = o.allowed }
 
 -- what is left of a body that waits
 pub record Left : Type 0 where

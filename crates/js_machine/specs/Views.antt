@@ -84,7 +84,7 @@ pub record View : Type 0 where
   pub common : List CommonObject
   pub known : List (Ref × Marks)
   pub common_templates : List ℕ
-  pub package : Package
+  pub own_package : Package
   pub allowed : List (List ℕ)
 
 -- what a machine's steps don't change: what all parties share, the party's surroundings, and the party's other things. Texts are read as the numbers that they stand for, and a part is found where it stands first
@@ -110,12 +110,12 @@ fitting w a = record a { shared = record a.shared { objects = w.common; template
 -- the party that runs
 abbrev pub party_of : Around → View → Party Ref MadeSymbol
 party_of a w = record a.rest {
-  name = w.package.name;
-  main = w.package.main;
-  modules = loaded_in w.code w.package;
-  links = w.package.links;
-  builtin = w.package.builtin;
-  module_map = w.package.mapped;
+  name = w.own_package.name;
+  main = w.own_package.main;
+  modules = loaded_in w.code w.own_package;
+  links = w.own_package.links;
+  builtin = w.own_package.builtin;
+  module_map = w.own_package.mapped;
   objects = w.objects;
   templates = templates_at w.code w.templates;
   scopes = w.scopes;

@@ -50,7 +50,7 @@ pub struct Machine {
     /// The place of the template that has nothing to do.
     pub(crate) empty_template: u32,
     pub(crate) keys: KnownKeys,
-    pub(crate) package: Package,
+    pub(crate) own_package: Package,
     /// The links that the party may import over.
     pub(crate) allowed: Vec<Text>,
 }
@@ -80,7 +80,7 @@ impl Model for Machine {
       common = m.common;
       known = m.foreign;
       common_templates = m.common_templates.items;
-      package = m.package;
+      own_package = m.own_package;
       allowed = m.allowed.items;
     } };
 

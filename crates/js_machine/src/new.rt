@@ -69,7 +69,7 @@ impl Machine {
         alloc: Global,
         code: Code,
         store: FlatStore,
-        package: Package,
+        own_package: Package,
         allowed: Vec<Text>,
         common: FrozenStore,
         common_templates: Vec<u32>,
@@ -77,7 +77,7 @@ impl Machine {
     ) -> Result<Machine, OutOfMemory>
         ensures code { IfOk result (λ m. Extends code m.code) }
         ensures new { let templates = common_templates.items in
-            IfOk result (λ m. m ≡ as_new m.code store package allowed.items common templates
+            IfOk result (λ m. m ≡ as_new m.code store own_package allowed.items common templates
             foreign m.asked m.answer) }
     {
         let mut code = code;
@@ -106,7 +106,7 @@ impl Machine {
             common_templates,
             empty_template,
             keys,
-            package,
+            own_package,
             allowed,
         })
     }

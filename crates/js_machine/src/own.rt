@@ -27,7 +27,7 @@ pub struct Own {
     bodies: Vec<Body>,
     scope: u32,
     depth: u32,
-    package: Package,
+    own_package: Package,
     allowed: Vec<Text>,
 }
 
@@ -45,7 +45,7 @@ impl Model for Own {
       scopes = o.scopes;
       bodies = bodies_of o.scope (reverse o.bodies.items);
       depth = o.depth;
-      package = o.package;
+      own_package = o.own_package;
       allowed = o.allowed.items;
     } };
 
@@ -78,10 +78,10 @@ impl Own {
     pub fn new(
         alloc: Global,
         store: FlatStore,
-        package: Package,
+        own_package: Package,
         allowed: Vec<Text>,
     ) -> Result<Own, OutOfMemory>
-        ensures { IfOk result (λ o. o ≡ new_own store package allowed.items) }
+        ensures { IfOk result (λ o. o ≡ new_own store own_package allowed.items) }
     {
         let scopes = first_scope(alloc)?;
         Ok(Own {
@@ -91,7 +91,7 @@ impl Own {
             bodies: Vec::new(alloc),
             scope: 0,
             depth: 0,
-            package,
+            own_package,
             allowed,
         })
     }
@@ -109,7 +109,7 @@ impl Machine {
         mem::swap(&mut self.bodies, &mut own.bodies);
         mem::swap(&mut self.scope, &mut own.scope);
         mem::swap(&mut self.depth, &mut own.depth);
-        mem::swap(&mut self.package, &mut own.package);
+        mem::swap(&mut self.own_package, &mut own.own_package);
         mem::swap(&mut self.allowed, &mut own.allowed);
     }
 

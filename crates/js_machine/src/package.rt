@@ -56,12 +56,12 @@ impl Package {
         mapped: Vec<(Text, Value)>,
     ) -> Package
         ensures { result ≡ record {
-            name = name;
-            main = main;
-            modules = modules.items;
-            links = links.items;
-            builtin = builtin;
-            mapped = mapped.items;
+          name = name;
+          main = main;
+          modules = modules.items;
+          links = links.items;
+          builtin = builtin;
+          mapped = mapped.items;
         } }
     {
         Package {

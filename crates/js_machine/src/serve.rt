@@ -9,10 +9,10 @@ ghost use Rattle.js_machine.specs.Served.{IsServed};
 use crate::frame::Mode;
 use crate::machine::Machine;
 use js_desc::ask::Ask;
-use js_desc::marks::Marks;
 use js_native::costs::native_cost;
 use js_text::value::Value;
 use lava_base::ids::Ref;
+use lava_base::marks::Marks;
 use lava_base::memory::OutOfMemory;
 
 /// The steps of an ask that came, without the one of each decision. Want of memory is answered too past 4,294,967,295.
@@ -38,7 +38,7 @@ fn served_units(ask: &Ask) -> Result<u32, OutOfMemory>
 impl Machine {
     /// The marks of an object of another party are known; what is known of one stays.
     pub fn learn(&mut self, object: Ref, marks: Marks) -> Result<(), OutOfMemory>
-        ensures { let known = with_marks same_ref object marks self.old.known in
+        ensures known { let known = with_marks same_ref object marks self.old.known in
             OnOk result (self.new ≡ record self.old { known = known }) }
         ensures err { OnErr result (self.new ≡ self.old) }
     {

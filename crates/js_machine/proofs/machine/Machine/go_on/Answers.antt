@@ -49,3 +49,6 @@ returns-in-NewCallee c = arm c.new_callee_comes.result c.args.frame (frame.NewCa
 
 pub returns-in-CallMethod : goal.returns-in-CallMethod
 returns-in-CallMethod c = arm c.method_comes.result c.args.frame (frame.CallMethod c.in-CallMethod.arguments) c.args.value c.args.self.now c.method_comes.new.self c.in-CallMethod.is c.method_comes.ensures
+
+pub returns-in-Arguments : goal.returns-in-Arguments
+returns-in-Arguments c = arm c.argument_comes.result c.args.frame (frame.Arguments c.in-Arguments.purpose c.in-Arguments.done c.in-Arguments.start c.in-Arguments.left) c.args.value c.args.self.now c.argument_comes.new.self c.in-Arguments.is c.argument_comes.ensures
