@@ -15,3 +15,4 @@ pub mod Called
 pub mod Closures
 pub mod Begun
 pub mod Served
+pub mod Shown

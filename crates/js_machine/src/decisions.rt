@@ -265,7 +265,7 @@ impl Machine {
     }
 
     /// The answer of the machine, as a reply.
-    fn take_answer(&mut self) -> Reply
+    pub(crate) fn take_answer(&mut self) -> Reply
         ensures value { result ≡ reply_of_answer self.old.answer }
         ensures rest { self.new ≡ record self.old { answer = answer_kind.Flag Bool.false } }
     {

@@ -17,7 +17,7 @@
 // - `arguments` evaluates the arguments of calls, and `callees` asks what is called.
 // - `bodies` runs bodies, `returns` ends them, `calls` has what runs when a function is called, and `closures` runs functions.
 // - `sequences` has lists of forms, `places` what a body runs with, `jumps` jumps, `turns` what follows a turn of a loop, and `tries` has `try`.
-// - `new` makes a machine, `own` has a party's things and bodies while others run, and `serve` takes what comes from other parties.
+// - `new` makes a machine, `own` has a party's things and bodies while others run, `serve` takes what comes from other parties, and `shown` has what goes to them.
 // - `steps` hands completions on and does what was charged for, `stop` has charges and how runs stop, and `run` runs.
 // - `asked` has what is asked, what is answered and what waits; `asks` asks, and brings replies.
 // - `ways` tells in which way an object decides, `decisions` decides and follows, `primitives` decides for values that are no objects.
@@ -61,6 +61,7 @@ pub mod run;
 pub mod running;
 pub mod sequences;
 pub mod serve;
+pub mod shown;
 pub mod slots;
 pub mod steps;
 pub mod stop;

@@ -14,7 +14,7 @@ use lava_base::marks::Marks;
 impl Machine {
     /// The marks of an own object.
     #[tactic(auto, using(crate::proofs::Looked::past_marks))]
-    fn own_marks(&self, id: ObjId) -> Marks
+    pub(crate) fn own_marks(&self, id: ObjId) -> Marks
         ensures { result ≡ (object_at self.now.objects id.0).marks }
     {
         if id.0 < self.store.count() {
