@@ -1,0 +1,5 @@
+pub mod Steps
+pub mod Seen
+pub mod Families
+pub mod Decided
+pub mod Deeds

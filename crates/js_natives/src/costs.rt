@@ -1,0 +1,75 @@
+// What a native costs.
+
+ghost use Rattle.std.specs.Prelude.{◌≡◌, ◌≤◌, ◌*◌, IfOk};
+ghost use Rattle.js_text.specs.Naming.{naming_of};
+ghost use Rattle.js_native.specs.Costs.{native_cost};
+ghost use Rattle.js_operations.specs.Lists.{list_items};
+ghost use Rattle.js_run.specs.NativeTurns.{listed_units, units_of_items};
+
+use js_native::costs::{native_cost, units_of_values};
+use js_operations::lists::list_items;
+use js_store::flat::FlatStore;
+use js_store::frozen::FrozenStore;
+use js_text::native::Native;
+use js_text::value::Value;
+use lava_base::memory::OutOfMemory;
+use std::alloc::Global;
+
+/// How many units the texts have in an array that a native reads. Want of memory is answered too where it has more than 4,294,967,295 items.
+fn units_of_items(
+    alloc: Global,
+    store: &FlatStore,
+    common: &FrozenStore,
+    list: &Value,
+) -> Result<u64, OutOfMemory>
+    ensures units { let items = list_items (naming_of store.now.party.0) store.now.objects common.now list.now in
+        IfOk result (λ n. n ≡ units_of_items items) }
+    ensures short { IfOk result (λ n. n ≤ 1048576 * 4294967296) }
+{
+    let Some(items) = list_items(alloc, store, common, list)? else {
+        return Ok(0);
+    };
+    if items.len() > u32::MAX as usize {
+        return Err(OutOfMemory);
+    }
+    Ok(units_of_values(items.as_slice()))
+}
+
+/// How many units the texts have in the arrays that a native reads. Want of memory is answered too for `makeCompartment`, which reads more than one.
+fn listed_units(
+    alloc: Global,
+    store: &FlatStore,
+    common: &FrozenStore,
+    which: Native,
+    args: &[Value],
+) -> Result<u64, OutOfMemory>
+    ensures units { let items = list_items (naming_of store.now.party.0) store.now.objects common.now in
+        IfOk result (λ n. n ≡ listed_units items which args.now) }
+    ensures short { IfOk result (λ n. n ≤ 1048576 * 4294967296) }
+{
+    match (which, args) {
+        (Native::Apply | Native::Bind, [_, _, list]) => units_of_items(alloc, store, common, list),
+        (Native::Construct, [_, list, _]) => units_of_items(alloc, store, common, list),
+        (Native::SortTexts, [list]) => units_of_items(alloc, store, common, list),
+        (Native::MakeCompartment, _) => Err(OutOfMemory),
+        _ => Ok(0),
+    }
+}
+
+/// What a native costs, in steps, before it begins. Want of memory is answered too where there are more than 4,294,967,295 operands, or items of an array that it reads, and for `makeCompartment`.
+pub fn cost(
+    alloc: Global,
+    store: &FlatStore,
+    common: &FrozenStore,
+    which: Native,
+    args: &[Value],
+) -> Result<u64, OutOfMemory>
+    ensures { let items = list_items (naming_of store.now.party.0) store.now.objects common.now in
+        IfOk result (λ n. n ≡ native_cost which args.now (listed_units items which args.now)) }
+{
+    if args.len() > u32::MAX as usize {
+        return Err(OutOfMemory);
+    }
+    let listed = listed_units(alloc, store, common, which, args)?;
+    Ok(native_cost(which, args, listed))
+}
