@@ -15,3 +15,6 @@ pub mod Called
 pub mod Closures
 pub mod Begun
 pub mod Served
+pub mod Constructions
+pub mod Spreads
+pub mod Supers

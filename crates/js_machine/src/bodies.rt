@@ -73,12 +73,14 @@ impl Machine {
         self.wait(frame, at)
     }
 
-    /// Makes the array of a rest parameter. Left out: it answers want of memory.
+    /// Makes the array of a rest parameter (ECMA-262, CreateArrayFromList).
     fn make_rest(&mut self, at: u32, count: u32) -> Result<Ref, OutOfMemory>
         ensures name { IfOk result (λ r. r ≡ next_own self.old) }
         ensures made { OnOk result (self.new ≡ with_rest at count self.old) }
     {
-        Err(OutOfMemory)
+        let fixed = self.template(at).params.saturating_sub(1);
+        let rest = self.rest_arguments(fixed, count)?;
+        self.add_array(&rest)
     }
 
     /// Opens the scope of a body without a rest parameter.
