@@ -1,7 +1,7 @@
 -- The arguments of a rest parameter, and the array of them.
-use Rattle.std.proofs.Common.{◌≡◌, ℕ, zero, suc, ◌+◌, ◌-◌, ◌<◌, ◌≤◌, min, Bool, true, false, List, [], ◌∷◌, ◌++◌, length, get_or, take, drop, reverse, Some, codes, pos, eqb, ltb, if◌then◌else◌, refl, sym, ap, ◌∙◌, arith, append-nil, append_assoc, drop-drop, get_or-drop, take_all, take-append-drop, length-append, length-drop}
+use Rattle.std.proofs.Common.{◌≡◌, ℕ, zero, suc, ◌+◌, ◌-◌, ◌<◌, ◌≤◌, Bool, true, false, List, [], ◌∷◌, ◌++◌, length, take, drop, reverse, Some, codes, pos, eqb, ltb, if◌then◌else◌, refl, sym, ap, ◌∙◌, subst, arith, append-nil, append_assoc, take-append-drop, length-append, Result, OnOk, IfOk}
 use Rattle.std.proofs.lemmas.Bool.{eqb-true, le-ltb}
-use Rattle.std.proofs.lemmas.List.{drop_min, length-reverse, reverse-append, reverse-reverse, take_more}
+use Rattle.std.proofs.lemmas.List.{drop_all, reverse-reverse}
 use Rattle.lava_base.specs.Ids.{same_made_symbol}
 use Rattle.lava_base.specs.declared.ids.MadeSymbol.{MadeSymbol}
 use Rattle.lava_base.specs.declared.ids.Ref.{Ref}
@@ -18,33 +18,34 @@ use Rattle.js_store.specs.Objects.{Object, written}
 use Rattle.js_store.specs.declared.slot.Slot.TheVariants as slot
 use Rattle.js_run.specs.Functions.{array_length_entry, array_marks, array_of, elements_from, open_property}
 use Rattle.js_run.specs.declared.intrinsics.TheConstants.{ARRAY_PROTOTYPE}
-use Rattle.js_machine.specs.Views.{Values, args_on}
-use Rattle.js_machine.proofs.Closed.{take_front}
+use Rattle.js_code.specs.declared.node.TemplateRow.{TemplateRow}
+use Rattle.js_machine.specs.Made.{next_own, row_of, with_object}
+use Rattle.js_machine.specs.Opened.{with_rest}
+use Rattle.js_machine.specs.Views.{Values, View, args_on}
 
 abbrev V : Type 0
 V = Value Ref MadeSymbol
 
--- THE LAST ARGUMENTS ON THE STACK
+-- THE ARGUMENTS OF A REST PARAMETER
 
--- the newest values, the oldest of them first
-last_reversed : (n : ℕ) (xs : Values) → n ≤ length xs → reverse (take n (reverse xs)) ≡ drop (length xs - n) xs
-last_reversed n xs l =
-    let k = length xs - n in
-    let count : n ≡ length (reverse (drop k xs)) = omega (arith, l, length-reverse (drop k xs), length-drop k xs) in
-    let split : reverse xs ≡ reverse (drop k xs) ++ reverse (take k xs) = ap (λ ys. reverse ys) (sym (take-append-drop k xs)) ∙ reverse-append (take k xs) (drop k xs) in
-    ap (λ ys. reverse (take n ys)) split ∙ ap (λ ys. reverse ys) (take_front n (reverse (drop k xs)) (reverse (take k xs)) count) ∙ reverse-reverse (drop k xs)
+pub none_behind : (n : ℕ) (xs : Values) → length xs ≤ n → [] ≡ drop n xs
+none_behind n xs l = sym (drop_all n xs l)
 
-pub rest_taken : (xs : Values) (given fixed taken start i : ℕ) (args : Values) → given ≤ length xs → taken ≡ given - fixed → start ≡ length xs - taken → taken ≤ i → args ≡ take i (drop start xs) → args ≡ drop fixed (args_on given (reverse xs))
-rest_taken xs given fixed taken start i args l t s m e =
-    let all : take i (drop start xs) ≡ drop start xs = take_all i (drop start xs) (omega (arith, s, m, length-drop start xs)) in
-    let both : min start (length xs) ≡ min (length xs - given + fixed) (length xs) = omega (arith, l, t, s) in
-    let behind : drop start xs ≡ drop (length xs - given + fixed) xs = sym (drop_min start xs) ∙ ap (λ n. drop n xs) both ∙ drop_min (length xs - given + fixed) xs in
-    e ∙ all ∙ behind ∙ sym (drop-drop fixed (length xs - given) xs) ∙ ap (drop fixed) (sym (last_reversed given xs l))
+-- arguments that were taken are on the stack again
+again : (n : ℕ) (args : Values) (old mid more : View) → args ≡ args_on n old.values → mid ≡ record old { values = drop n old.values } → more ≡ record mid { values = reverse args ++ mid.values } → more ≡ old
+again n args old mid more s e d =
+    d ∙ (λ j. record (e j) { values = reverse (s j) ++ (e j).values }) ∙ ap (λ xs. record old { values = xs ++ drop n old.values }) (reverse-reverse (take n old.values))
+    ∙ ap (λ xs. record old { values = xs }) (take-append-drop n old.values)
 
-pub rest_more : (xs : Values) (start i : ℕ) (v : V) (args more : Values) → start + i < length xs → args ≡ take i (drop start xs) → v ≡ get_or xs (start + i) v → more ≡ args ++ v ∷ [] → more ≡ take (i + 1) (drop start xs)
-rest_more xs start i v args more l e s p =
-    let there : v ≡ get_or (drop start xs) i v = s ∙ sym (get_or-drop start xs i v) in
-    p ∙ (λ j. e j ++ there j ∷ []) ∙ sym (take_more (drop start xs) i v (omega (arith, l, length-drop start xs)))
+pub rest_named : {E : Type 0} (r : Result Ref E) (n : ℕ) (args : Values) (old mid more : View) → args ≡ args_on n old.values → mid ≡ record old { values = drop n old.values } → more ≡ record mid { values = reverse args ++ mid.values }
+    → IfOk r (λ x. x ≡ next_own more) → IfOk r (λ x. x ≡ next_own old)
+rest_named r n args old mid more s e d h = subst (λ w. IfOk r (λ x. x ≡ next_own w)) (again n args old mid more s e d) h
+
+pub rest_made : {E : Type 0} (r : Result Ref E) (at n fixed : ℕ) (row : TemplateRow) (args rest : Values) (old mid more new : View) → row ≡ row_of old at → fixed ≡ row.params - 1 → args ≡ args_on n old.values → mid ≡ record old { values = drop n old.values }
+    → more ≡ record mid { values = reverse args ++ mid.values } → rest ≡ drop fixed args → OnOk r (new ≡ with_object (array_of (naming_of more.me) rest) more) → OnOk r (new ≡ with_rest at n old)
+rest_made r at n fixed row args rest old mid more new t f s e d p h =
+    let there : rest ≡ drop ((row_of old at).params - 1) (args_on n old.values) = p ∙ (λ j. drop ((f ∙ ap (λ (x : TemplateRow). x.params - 1) t) j) (s j)) in
+    subst (λ xs. OnOk r (new ≡ with_object (array_of (naming_of old.me) xs) old)) there (subst (λ (w : View). OnOk r (new ≡ with_object (array_of (naming_of w.me) rest) w)) (again n args old mid more s e d) h)
 
 -- AN ARRAY
 
@@ -66,7 +67,7 @@ module _ {R S : Type 0} (same : S → S → Bool) (m : ℕ) where
       (λ i. if other i then (key.Index k, d) ∷ rest else (if behind i then (key.Index n, d) ∷ open_property (key.Index k) u ∷ rest else open_property (key.Index k) u ∷ written same (key.Index n) d rest))
       ∙ ap (λ ps. open_property (key.Index k) u ∷ ps) (last_put (suc k) n us v (omega (arith, e)))
 
-array_with : List (Key MadeSymbol × Descriptor Ref MadeSymbol) → Object Ref MadeSymbol
+abbrev array_with : List (Key MadeSymbol × Descriptor Ref MadeSymbol) → Object Ref MadeSymbol
 array_with ps = record { prototype = Some (common_ref ARRAY_PROTOTYPE); extensible = true; properties = ps; slot = slot.Plain; marks = array_marks }
 
 elements_put : (m n : ℕ) (us vs : Values) → length us ≡ n
@@ -79,5 +80,8 @@ elements_put m n us (v ∷ vs) e =
     ∙ ap (λ xs. array_with (elements_from 0 xs ++ array_length_entry m ∷ [])) (append_assoc us (v ∷ []) vs)
 
 -- the array of js_operations is that of the rows
-pub array_same : (me : ℕ) (vs : Values) → operations.array_of same_made_symbol common_ref vs ≡ array_of (naming_of me) vs
+array_same : (me : ℕ) (vs : Values) → operations.array_of same_made_symbol common_ref vs ≡ array_of (naming_of me) vs
 array_same me vs = elements_put (length vs) 0 [] vs refl
+
+pub array_made : {A E : Type 0} (r : Result A E) (me : ℕ) (vs : Values) (os ns : List (Object Ref MadeSymbol)) → OnOk r (ns ≡ os ++ operations.array_of same_made_symbol common_ref vs ∷ []) → OnOk r (ns ≡ os ++ array_of (naming_of me) vs ∷ [])
+array_made r me vs os ns h = subst (λ o. OnOk r (ns ≡ os ++ o ∷ [])) (array_same me vs) h

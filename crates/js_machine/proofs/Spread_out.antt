@@ -1,5 +1,5 @@
 -- The items of arrays, which come on the stack of values.
-use Rattle.std.proofs.Common.{◌≡◌, ℕ, zero, suc, ◌+◌, ◌<◌, ◌≤◌, Bool, true, false, List, [], ◌∷◌, ◌++◌, length, nat_lt, drop, reverse, Option, Some, None, refl, sym, ap, ◌∙◌, subst, arith, drop-drop, Result, Ok, Err, IfOk, if◌then◌else◌}
+use Rattle.std.proofs.Common.{◌≡◌, ℕ, zero, suc, ◌+◌, ◌<◌, ◌≤◌, Bool, true, false, List, [], ◌∷◌, ◌++◌, length, nat_lt, drop, reverse, Option, Some, None, refl, sym, ap, ◌∙◌, subst, arith, drop-drop, Result, Ok, Err, IfOk, OnOk, if◌then◌else◌}
 use Rattle.std.specs.Option.{option_map}
 use Rattle.std.proofs.lemmas.Bool.{ltb-false}
 use Rattle.std.proofs.lemmas.List.{get_or_past, length-reverse, reverse-append, reverse-reverse}
@@ -76,20 +76,49 @@ module _ (os : List O) (cs : List CommonObject) where
   nowhere (Common c) e = past_common (nat_lt c (length cs)) c refl e
   nowhere Foreign e = refl
 
-pub no_items : (names : Naming Ref MadeSymbol) (os : List O) (cs : List CommonObject) (p : Origin) (t : Option Target) → option_map origin_of_target t ≡ there os cs p → t ≡ None → items_of names (object_of common_ref os cs p) ≡ []
+no_items : (names : Naming Ref MadeSymbol) (os : List O) (cs : List CommonObject) (p : Origin) (t : Option Target) → option_map origin_of_target t ≡ there os cs p → t ≡ None → items_of names (object_of common_ref os cs p) ≡ []
 no_items names os cs p t e f = ap (items_of names) (nowhere os cs p (sym e ∙ ap (option_map origin_of_target) f))
 
-pub same_items : (names : Naming Ref MadeSymbol) (os : List O) (cs : List CommonObject) (p : Origin) (o : Option Target) (t : Target) → option_map origin_of_target o ≡ there os cs p → o ≡ Some t → items_of names (object_seen os cs t) ≡ items_of names (object_of common_ref os cs p)
-same_items names os cs p o t e f = ap (items_of names) (seen_there os cs t o p e f)
+-- what is found of an object
+abbrev Found : View → Ref → Option Target → Type 0
+Found w r t = option_map origin_of_target t ≡ there w.objects w.common ((naming_of w.me).origin r)
+
+abbrev seen_in : View → Target → O
+seen_in w t = object_seen w.objects w.common t
+
+pub none_seen : (w : View) (r : Ref) (t : Option Target) → Found w r t → t ≡ None → [] ≡ items_of (naming_of w.me) (object_in w r)
+none_seen w r t e f = sym (no_items (naming_of w.me) w.objects w.common ((naming_of w.me).origin r) t e f)
+
+same_items : (w : View) (r : Ref) (o : Option Target) (t : Target) → Found w r o → o ≡ Some t → items_of (naming_of w.me) (seen_in w t) ≡ items_of (naming_of w.me) (object_in w r)
+same_items w r o t e f = ap (items_of (naming_of w.me)) (seen_there w.objects w.common t o ((naming_of w.me).origin r) e f)
+
+-- so many items are there, and on the stack
+abbrev Counts : {E : Type 0} → Result ℕ E → Values → Type 0
+Counts r xs = IfOk r (λ n. n ≡ length xs)
+
+abbrev Pushes : {E : Type 0} → Result ℕ E → View → View → Values → Type 0
+Pushes r old new xs = OnOk r (new ≡ record old { values = reverse xs ++ old.values })
+
+pub seen_count : {E : Type 0} (r : Result ℕ E) (w : View) (o : Ref) (x : Option Target) (t : Target) → Found w o x → x ≡ Some t → Counts r (items_of (naming_of w.me) (seen_in w t)) → Counts r (items_of (naming_of w.me) (object_in w o))
+seen_count r w o x t e f h = subst (λ xs. Counts r xs) (same_items w o x t e f) h
+
+pub seen_pushed : {E : Type 0} (r : Result ℕ E) (w new : View) (o : Ref) (x : Option Target) (t : Target) → Found w o x → x ≡ Some t → Pushes r w new (items_of (naming_of w.me) (seen_in w t)) → Pushes r w new (items_of (naming_of w.me) (object_in w o))
+seen_pushed r w new o x t e f h = subst (λ xs. Pushes r w new xs) (same_items w o x t e f) h
 
 -- THE ITEMS OF A VALUE
 
-pub of_object : (w : View) (v : V) (r : Ref) (o : Option Ref) → o ≡ object_of_value v → o ≡ Some r → items_of (naming_of w.me) (object_in w r) ≡ items_in w v
+of_object : (w : View) (v : V) (r : Ref) (o : Option Ref) → o ≡ object_of_value v → o ≡ Some r → items_of (naming_of w.me) (object_in w r) ≡ items_in w v
 of_object w v r o e f = ap (items_in w) (sym (is_object v r (sym e ∙ f)))
 
 pub of_other : (w : View) (v : V) (o : Option Ref) → o ≡ object_of_value v → o ≡ None → [] ≡ items_in w v
 of_other w (value.Ref r) o e f = cc
 of_other w v o e f = refl
+
+pub object_count : {E : Type 0} (r : Result ℕ E) (w : View) (v : V) (o : Ref) (x : Option Ref) → x ≡ object_of_value v → x ≡ Some o → Counts r (items_of (naming_of w.me) (object_in w o)) → Counts r (items_in w v)
+object_count r w v o x e f h = subst (λ xs. Counts r xs) (of_object w v o x e f) h
+
+pub object_pushed : {E : Type 0} (r : Result ℕ E) (w new : View) (v : V) (o : Ref) (x : Option Ref) → x ≡ object_of_value v → x ≡ Some o → Pushes r w new (items_of (naming_of w.me) (object_in w o)) → Pushes r w new (items_in w v)
+object_pushed r w new v o x e f h = subst (λ xs. Pushes r w new xs) (of_object w v o x e f) h
 
 listed_here : (w : View) (a : Around) (v : V) → listed (naming_of w.me) (fitting w a).shared v (party_of (fitting w a) w) ≡ items_in w v
 listed_here w a (value.Ref r) = refl

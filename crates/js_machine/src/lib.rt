@@ -16,7 +16,7 @@
 // - `parameters` fills the slots of a body's scope.
 // - `arguments` evaluates the arguments of calls, and `callees` asks what is called.
 // - `bodies` runs bodies, `returns` ends them, `calls` has what runs when a function is called, and `closures` runs functions.
-// - `rests` has the arguments of a rest parameter, `spreads` those of an array, `constructions` the objects that constructors make, `methods` methods that are called, and `supers` what stands on `super`.
+// - `rests` has the arguments of a rest parameter, `listed_arguments` those of an array, `constructions` the objects that constructors make, `methods` methods that are called, and `supers` what stands on `super`.
 // - `sequences` has lists of forms, `places` what a body runs with, `jumps` jumps, `turns` what follows a turn of a loop, and `tries` has `try`.
 // - `new` makes a machine, `own` has a party's things and bodies while others run, and `serve` takes what comes from other parties.
 // - `steps` hands completions on and does what was charged for, `stop` has charges and how runs stop, and `run` runs.
@@ -47,6 +47,7 @@ pub mod functions;
 pub mod globals;
 pub mod jumps;
 pub mod keys;
+pub mod listed_arguments;
 pub mod looks;
 pub mod loops;
 pub mod machine;
@@ -66,7 +67,6 @@ pub mod running;
 pub mod sequences;
 pub mod serve;
 pub mod slots;
-pub mod spreads;
 pub mod steps;
 pub mod stop;
 pub mod supers;

@@ -19,7 +19,7 @@ use lava_base::memory::OutOfMemory;
 
 impl Machine {
     /// A method of a value is read, and a frame that has the value waits for it (ECMA-262, GetValue, step 3).
-    fn get_method(
+    fn read_method(
         &mut self,
         object: Value,
         key: Value,
@@ -52,6 +52,6 @@ impl Machine {
             (party_of a self.old)) rest self.new) }
     {
         let object = self.take();
-        self.get_method(object, key, arguments)
+        self.read_method(object, key, arguments)
     }
 }

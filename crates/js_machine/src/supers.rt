@@ -1,6 +1,6 @@
 // Properties, methods and calls of `super`.
 
-ghost use Rattle.std.specs.Prelude.{◌≡◌, IfOk, Some, drop};
+ghost use Rattle.std.specs.Prelude.{◌≡◌, ◌+◌, IfOk, OnOk, Some, drop};
 ghost use Rattle.js_code.specs.Decoded.{arguments_at, term_at};
 ghost use Rattle.js_text.specs.Naming.{naming_of};
 ghost use Rattle.js_desc.specs.declared.reply.Reply.TheVariants as reply_kind;
@@ -275,6 +275,7 @@ impl Machine {
     }
 
     /// The body that runs has its `this` (ECMA-262, BindThisValue).
+    #[tactic(auto, using(crate::proofs::Reversed::reverse_push))]
     fn set_this(&mut self, value: Value) -> Result<(), OutOfMemory>
         ensures { let body = record (first_body self.old.bodies) { this = Some value } in
             let bodies = replaces_body body self.old.bodies in

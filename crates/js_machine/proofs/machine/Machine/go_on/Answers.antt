@@ -52,3 +52,24 @@ returns-in-CallMethod c = arm c.method_comes.result c.args.frame (frame.CallMeth
 
 pub returns-in-Arguments : goal.returns-in-Arguments
 returns-in-Arguments c = arm c.argument_comes.result c.args.frame (frame.Arguments c.in-Arguments.purpose c.in-Arguments.done c.in-Arguments.start c.in-Arguments.left) c.args.value c.args.self.now c.argument_comes.new.self c.in-Arguments.is c.argument_comes.ensures
+
+pub returns-in-CallObject : goal.returns-in-CallObject
+returns-in-CallObject c = arm c.wait_with-in-CallObject.result c.args.frame (frame.CallObject c.in-CallObject.key c.in-CallObject.arguments) c.args.value c.args.self.now c.wait_with-in-CallObject.new.self c.in-CallObject.is c.wait_with-in-CallObject.ensures
+
+pub returns-in-CallKey : goal.returns-in-CallKey
+returns-in-CallKey c = arm c.method_key_comes.result c.args.frame (frame.CallKey c.in-CallKey.arguments) c.args.value c.args.self.now c.method_key_comes.new.self c.in-CallKey.is c.method_key_comes.ensures
+
+pub returns-in-ArgumentsOf : goal.returns-in-ArgumentsOf
+returns-in-ArgumentsOf c = arm c.arguments_listed.result c.args.frame (frame.ArgumentsOf c.in-ArgumentsOf.purpose) c.args.value c.args.self.now c.arguments_listed.new.self c.in-ArgumentsOf.is c.arguments_listed.ensures
+
+pub returns-in-CallSuperKey : goal.returns-in-CallSuperKey
+returns-in-CallSuperKey c = arm c.super_method_key_comes.result c.args.frame (frame.CallSuperKey c.in-CallSuperKey.arguments) c.args.value c.args.self.now c.super_method_key_comes.new.self c.in-CallSuperKey.is c.super_method_key_comes.ensures
+
+pub returns-in-CallSuperMethod : goal.returns-in-CallSuperMethod
+returns-in-CallSuperMethod c = arm c.super_method_comes.result c.args.frame (frame.CallSuperMethod c.in-CallSuperMethod.arguments) c.args.value c.args.self.now c.super_method_comes.new.self c.in-CallSuperMethod.is c.super_method_comes.ensures
+
+pub returns-in-SuperKey : goal.returns-in-SuperKey
+returns-in-SuperKey c = arm c.super_key_comes.result c.args.frame frame.SuperKey c.args.value c.args.self.now c.super_key_comes.new.self c.in-SuperKey.is c.super_key_comes.ensures
+
+pub returns-in-BindThis : goal.returns-in-BindThis
+returns-in-BindThis c = arm c.bind_this.result c.args.frame frame.BindThis c.args.value c.args.self.now c.bind_this.new.self c.in-BindThis.is c.bind_this.ensures

@@ -1,9 +1,9 @@
 // The arguments of an array: its items, which are read directly.
 
-ghost use Rattle.std.specs.Prelude.{◌≡◌, ◌++◌, IfOk, OnOk, drop, length, option_map, reverse, zero};
-ghost use Rattle.lava_base.specs.Ids.{same_made_symbol};
+ghost use Rattle.std.specs.Prelude.{◌≡◌, ◌++◌, IfOk, IfSome, OnOk, drop, length, option_map, reverse};
 ghost use Rattle.js_text.specs.Naming.{naming_of};
-ghost use Rattle.js_ordinary.specs.Targets.{IsSeen, object_seen};
+ghost use Rattle.js_ordinary.specs.Origins.{there};
+ghost use Rattle.js_ordinary.specs.Targets.{IsSeen, object_seen, origin_of_target};
 ghost use Rattle.js_run.specs.Control.{listed};
 ghost use Rattle.js_run.specs.Functions.{data_or_undefined, items_from, items_of, length_read, own_data};
 ghost use Rattle.js_machine.specs.Spreads.{items_in};
@@ -47,8 +47,8 @@ impl Machine {
     fn own_data(&self, target: Target, key: &Key) -> Result<Value, OutOfMemory>
         requires { IsSeen self.now.objects self.now.common target }
         ensures { let object = object_seen self.now.objects self.now.common target in
-            let data = own_data (naming_of self.now.me) object key.now in
-            IfOk result (λ value. value ≡ data) }
+            let there = own_data (naming_of self.now.me) object key.now in
+            IfOk result (λ value. value ≡ there) }
     {
         data_or_undefined(own_property(&self.store, &self.common, target, key))
     }
@@ -85,7 +85,7 @@ impl Machine {
     }
 
     /// The items of an object come on the stack of values; how many there are.
-    fn spread_target(&mut self, target: Target) -> Result<u32, OutOfMemory>
+    fn push_all_items(&mut self, target: Target) -> Result<u32, OutOfMemory>
         requires { IsSeen self.old.objects self.old.common target }
         ensures count { let object = object_seen self.old.objects self.old.common target in
             let items = items_of (naming_of self.old.me) object in
@@ -100,29 +100,38 @@ impl Machine {
         Ok(count)
     }
 
+    /// The object of a reference, if the party can look at it.
+    fn item_target(&self, object: Ref) -> Option<Target>
+        ensures found { let origin = (naming_of self.now.me).origin object in
+            option_map origin_of_target result ≡ there self.now.objects self.now.common origin }
+        ensures seen { IfSome result (λ t. IsSeen self.now.objects self.now.common t) }
+    {
+        find_target(&self.store, &self.common, object)
+    }
+
     /// The items of an object come on the stack of values, where the party can look at it.
-    fn spread_object(&mut self, object: Ref) -> Result<u32, OutOfMemory>
+    fn push_items_of(&mut self, object: Ref) -> Result<u32, OutOfMemory>
         ensures count { let items = items_of (naming_of self.old.me) (object_in self.old object) in
             IfOk result (λ n. n ≡ length items) }
         ensures pushed { let items = items_of (naming_of self.old.me) (object_in self.old object) in
             let values = reverse items ++ self.old.values in
             OnOk result (self.new ≡ record self.old { values = values }) }
     {
-        match find_target(&self.store, &self.common, object) {
+        match self.item_target(object) {
             None => Ok(0),
-            Some(target) => self.spread_target(target),
+            Some(target) => self.push_all_items(target),
         }
     }
 
     /// The items of an array come on the stack of values; how many there are (ECMA-262, CreateListFromArrayLike).
-    fn spread(&mut self, list: &Value) -> Result<u32, OutOfMemory>
+    fn push_listed(&mut self, list: &Value) -> Result<u32, OutOfMemory>
         ensures count { IfOk result (λ n. n ≡ length (items_in self.old list.now)) }
         ensures pushed { let values = reverse (items_in self.old list.now) ++ self.old.values in
             OnOk result (self.new ≡ record self.old { values = values }) }
     {
         match object_of_value(list) {
             None => Ok(0),
-            Some(object) => self.spread_object(object),
+            Some(object) => self.push_items_of(object),
         }
     }
 
@@ -133,7 +142,7 @@ impl Machine {
             applied (naming_of self.old.me) a.shared purpose self.old.values
             (listed (naming_of self.old.me) a.shared list p) p) rest self.new) }
     {
-        let count = self.spread(&list)?;
+        let count = self.push_listed(&list)?;
         self.apply(purpose, count)
     }
 }
