@@ -62,7 +62,7 @@ pub home_asked : {E : Type 0} (r : Result Mode E) (o : Option Ref) (home : Ref) 
     → IfOk r (LeadsTo (λ a. super_key (naming_of old.me) a.shared k (party_of a old)) old new)
 home_asked (Ok m) o home k old mid new e f s h =
     let w = subst (λ x. WaitsFor frame.SuperHome home ask.GetPrototypeOf x new m) s h in
-    homed {E = ℕ} (λ a. with_value give) (Ok m) o (Some home) k old new e f (record { leads = λ a. w.leads a; keeps = w.keeps })
+    homed (λ a. with_value give) {E = ℕ} (Ok m) o (Some home) k old new e f (record { leads = λ a. w.leads a; keeps = w.keeps })
 home_asked (Err x) o home k old mid new e f s h = tt
 
 module _ (at : ℕ) where
@@ -78,7 +78,7 @@ module _ (at : ℕ) where
       → IfOk r (LeadsTo (λ a. call_super_key (naming_of old.me) a.shared (arguments_at old.code (term_at old.code) at) k (party_of a old)) old new)
   method_home_asked (Ok m) o home k old mid new e f s h =
       let w = subst (λ x. WaitsFor (frame.CallSuperHome at) home ask.GetPrototypeOf x new m) s h in
-      homed {E = ℕ} (method_next old) (Ok m) o (Some home) k old new e f (record { leads = λ a. w.leads a; keeps = w.keeps })
+      homed (method_next old) {E = ℕ} (Ok m) o (Some home) k old new e f (record { leads = λ a. w.leads a; keeps = w.keeps })
   method_home_asked (Err x) o home k old mid new e f s h = tt
 
 -- A PROPERTY ABOVE

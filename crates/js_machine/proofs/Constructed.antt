@@ -8,6 +8,7 @@ use Rattle.js_text.specs.declared.value.Key.{Key}
 use Rattle.js_text.specs.declared.value.Value.{Value}
 use Rattle.js_text.specs.declared.value.Value.TheVariants as value
 use Rattle.js_desc.specs.declared.ask.Ask.TheVariants as ask
+use Rattle.js_desc.specs.declared.reply.Reply.{Reply}
 use Rattle.js_term.specs.declared.term.Template.{out-Template}
 use Rattle.js_run.specs.Asking.{waits_for}
 use Rattle.js_run.specs.Bodies.{base_constructs, body_of, constructed, prepared, prototype_or, returned, runs_body}
@@ -18,9 +19,10 @@ use Rattle.js_machine.specs.Bodies.{running_of}
 use Rattle.js_machine.specs.Constructions.{constructing_body, constructs_made, prototype_given}
 use Rattle.js_machine.specs.Made.{row_of, with_object}
 use Rattle.js_machine.specs.Opened.{runs, template_of}
-use Rattle.js_machine.specs.Steps.{Deed, LeadsTo, over, under}
+use Rattle.js_machine.specs.Steps.{Deed, LeadsTo, Wakes, over, under}
 use Rattle.js_machine.specs.Views.{Values, View, args_on, fitting, next_of_wait, party_of}
 use Rattle.js_machine.specs.declared.asked.Construction.{Construction}
+use Rattle.js_machine.specs.declared.asked.Wait.{Wait}
 use Rattle.js_machine.specs.declared.asked.Wait.TheVariants as wait
 use Rattle.js_machine.specs.declared.body.Body.{Body}
 use Rattle.js_machine.specs.declared.frame.Frame.TheVariants as frame
@@ -94,3 +96,8 @@ module _ (k : Construction) (args : Values) (old : View) where
       let d = runs_so (prototype_given v) n new m c g in
       same_deed {E = ℕ} (Ok m) (Does (prototype_given v)) (λ a. constructs_made (naming_of old.me) a.shared (template_of old k.at) k args v (party_of a old)) old new (λ a. ap (λ x. Does x (fitting old a)) (same_prototype old.me (fitting old a).shared v)) d
   construct_runs (Err x) v p o id n body first mid new q i f c e t b h = tt
+
+-- WHAT WAITS
+
+pub woken_as : {E : Type 0} (r : Result Mode E) (w k : Wait) (y : Reply Ref MadeSymbol) (old new : View) → w ≡ k → IfOk r (Wakes k y old new) → IfOk r (Wakes w y old new)
+woken_as r w k y old new e h = subst (λ x. IfOk r (Wakes x y old new)) (sym e) h
