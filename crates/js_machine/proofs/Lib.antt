@@ -34,3 +34,4 @@ pub mod Constructed
 pub mod Keyed
 pub mod Spread_out
 pub mod Above
+pub mod Chosen

@@ -6,4 +6,4 @@ returns-in-Some c = bound_twice c.args.value c.args.self.now c.fault.result c.in
 
 pub returns-in_ok-set_this-in-None : goal.returns-in_ok-set_this-in-None
 returns-in_ok-set_this-in-None c =
-    bound_once c.args.value c.args.self.now c.give.result c.in_ok-this_value.field-0 c.in_ok-copy_value.field-0 c.set_this.new.self c.give.new.self c.in_ok-this_value.ensures c.in-None.is c.in_ok-copy_value.ensures c.in_ok-set_this.ensures c.give.ensures.leads
+    bound_once c.args.value c.args.self.now c.give.result c.in_ok-this_value.field-0 c.in_ok-copy_value-in-None.field-0 c.set_this.new.self c.give.new.self c.in_ok-this_value.ensures c.in-None.is c.in_ok-copy_value-in-None.ensures c.in_ok-set_this-in-None.ensures c.give.ensures.leads

@@ -73,3 +73,15 @@ returns-in-SuperKey c = arm c.super_key_comes.result c.args.frame frame.SuperKey
 
 pub returns-in-BindThis : goal.returns-in-BindThis
 returns-in-BindThis c = arm c.bind_this.result c.args.frame frame.BindThis c.args.value c.args.self.now c.bind_this.new.self c.in-BindThis.is c.bind_this.ensures
+
+pub returns-in-IfElse : goal.returns-in-IfElse
+returns-in-IfElse c = arm c.branch-self-in-IfElse.result c.args.frame (frame.IfElse c.in-IfElse.consequent c.in-IfElse.alternate) c.args.value c.args.self.now c.branch-self-in-IfElse.new.self c.in-IfElse.is c.branch-self-in-IfElse.ensures
+
+pub returns-in-ShortLeft : goal.returns-in-ShortLeft
+returns-in-ShortLeft c = arm c.short.result c.args.frame (frame.ShortLeft c.in-ShortLeft.operator c.in-ShortLeft.right) c.args.value c.args.self.now c.short.new.self c.in-ShortLeft.is c.short.ensures
+
+pub returns-in-Tested : goal.returns-in-Tested
+returns-in-Tested c = arm c.tested.result c.args.frame (frame.Tested c.in-Tested.turns) c.args.value c.args.self.now c.tested.new.self c.in-Tested.is c.tested.ensures
+
+pub returns-in-Given : goal.returns-in-Given
+returns-in-Given c = arm c.give.result c.args.frame frame.Given c.args.value c.args.self.now c.give.new.self c.in-Given.is c.give.ensures.leads
