@@ -95,8 +95,8 @@ module _ (v : V) (k : Key MadeSymbol) (o : Ref) (f : Frame) (old : View) where
   read_so r t u new g e d h =
       same_deed r (Reads u) (λ a. get_above (naming_of old.me) a.shared v (Some o) (party_of a old) (over f old a)) old new
       (λ a.
-          reference_known (naming_of old.me) (fitting old a).shared (value.Bool true) v k (party_of (fitting old a) old) (λ name q. with_this (naming_of old.me) q (λ this p. asks (naming_of old.me) o (ask.Get name this) p (over f old (fitting old a)))) refl g
-          ∙ ap (λ x. Reads x (fitting old a)) (sym e ∙ d))
+      reference_known (naming_of old.me) (fitting old a).shared (value.Bool true) v k (party_of (fitting old a) old) (λ name q. with_this (naming_of old.me) q (λ this p. asks (naming_of old.me) o (ask.Get name this) p (over f old (fitting old a)))) refl g
+      ∙ ap (λ x. Reads x (fitting old a)) (sym e ∙ d))
       h
 
   pub read_without : {E : Type 0} (r : Result Mode E) (t : Option V) (new : View) → plain_key v ≡ Some k → t ≡ (first_body old.bodies).this → t ≡ None → IfOk r (LeadsTo (λ a. faults (naming_of old.me) fault.NoThis (party_of a old)) old new) → IfOk r (Gets new)

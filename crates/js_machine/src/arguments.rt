@@ -140,7 +140,11 @@ impl Machine {
     }
 
     /// The arguments of a call begin.
-    pub(crate) fn begin_arguments(&mut self, purpose: Purpose, arguments: u32) -> Result<Mode, OutOfMemory>
+    pub(crate) fn begin_arguments(
+        &mut self,
+        purpose: Purpose,
+        arguments: u32,
+    ) -> Result<Mode, OutOfMemory>
         ensures { let names = naming_of self.old.me in
             let arguments = arguments_at self.old.code (term_at self.old.code) arguments in
             let rest = record self.old { values = drop (held purpose) self.old.values } in

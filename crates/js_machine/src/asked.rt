@@ -41,7 +41,10 @@ pub struct Construction {
 #[derive(Drop)]
 pub enum Wait {
     /// The decision of an object.
-    Object { me: Ref, next: ExoticNext },
+    Object {
+        me: Ref,
+        next: ExoticNext,
+    },
     /// A construction with these arguments; the prototype of what it makes comes.
     Construct {
         construction: Construction,

@@ -115,7 +115,11 @@ impl Machine {
             None => self.fault(FaultText::CannotConvert),
             Some(home) => {
                 self.push(key)?;
-                self.ask(home, Ask::GetPrototypeOf, Frame::CallSuperHome { arguments })
+                self.ask(
+                    home,
+                    Ask::GetPrototypeOf,
+                    Frame::CallSuperHome { arguments },
+                )
             }
         }
     }
@@ -135,11 +139,7 @@ impl Machine {
     }
 
     /// A method of `super` has its value, and its arguments begin (ECMA-262, EvaluateCall, of a super reference).
-    pub fn super_method_comes(
-        &mut self,
-        arguments: u32,
-        callee: Value,
-    ) -> Result<Mode, OutOfMemory>
+    pub fn super_method_comes(&mut self, arguments: u32, callee: Value) -> Result<Mode, OutOfMemory>
         ensures { let arguments = arguments_at self.old.code (term_at self.old.code) arguments in
             IfOk result (LeadsTo (λ a. super_method (naming_of self.old.me) a.shared arguments callee
             (party_of a self.old)) self.old self.new) }
@@ -187,7 +187,11 @@ impl Machine {
         match self.function() {
             None => self.fault(FaultText::NotAConstructor),
             Some(function) => {
-                self.ask(function, Ask::GetPrototypeOf, Frame::SuperParent { arguments })
+                self.ask(
+                    function,
+                    Ask::GetPrototypeOf,
+                    Frame::SuperParent { arguments },
+                )
             }
         }
     }
