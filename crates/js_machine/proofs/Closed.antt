@@ -85,13 +85,13 @@ runs_some (Err x) f b this args target o c old new e n h = tt
 
 -- ARGUMENTS ON THE STACK
 
-take_front : (n : ℕ) (xs ys : Values) → n ≡ length xs → take n (xs ++ ys) ≡ xs
+pub take_front : (n : ℕ) (xs ys : Values) → n ≡ length xs → take n (xs ++ ys) ≡ xs
 take_front zero [] ys e = refl
 take_front (suc n) [] ys e = cc
 take_front zero (x ∷ xs) ys e = cc
 take_front (suc n) (x ∷ xs) ys e = ap (λ zs. x ∷ zs) (take_front n xs ys (omega (arith, e)))
 
-drop_front : (n : ℕ) (xs ys : Values) → n ≡ length xs → drop n (xs ++ ys) ≡ ys
+pub drop_front : (n : ℕ) (xs ys : Values) → n ≡ length xs → drop n (xs ++ ys) ≡ ys
 drop_front zero [] ys e = refl
 drop_front (suc n) [] ys e = cc
 drop_front zero (x ∷ xs) ys e = cc

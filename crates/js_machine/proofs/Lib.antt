@@ -29,3 +29,9 @@ pub mod Argued
 pub mod Called_laws
 pub mod Closed
 pub mod Served_laws
+pub mod Rested
+pub mod Constructed
+pub mod Keyed
+pub mod Spread_out
+pub mod Above
+pub mod Chosen

@@ -24,6 +24,8 @@ use Rattle.js_machine.specs.declared.frame.Frame.{Frame}
 use Rattle.js_machine.specs.declared.frame.Frame.TheVariants as frame
 use Rattle.js_machine.specs.declared.frame.Mode.{Mode}
 use Rattle.js_machine.specs.declared.frame.Mode.TheVariants as mode
+use Rattle.js_run.specs.Rows.{call_on_key, call_super_key}
+use Rattle.js_machine.specs.Views.{super_method}
 
 module _ (names : Naming Ref MadeSymbol) (shared : Shared) (c : Tables) (v : Value Ref MadeSymbol) where
   abrupt : (m : Mode) → is_abrupt m ≡ true → (p : Party Ref MadeSymbol) (go : Value Ref MadeSymbol → Party Ref MadeSymbol → Act Ref MadeSymbol) → on_value (completion_with c m v) p go ≡ Give (completion_with c m v) p
@@ -124,6 +126,12 @@ module _ (names : Naming Ref MadeSymbol) (shared : Shared) (c : Tables) (v : Val
   by_frame (frame.SetGlobal n e) m vs ws t a p = no_flag m a p _
   by_frame (frame.PutGlobal n there) m vs ws t a p = abrupt m a p (put_global names (text_at c n) there)
   by_frame frame.Decides m vs ws t a p = cc
+  by_frame (frame.CallKey args) m vs ws t a p = abrupt m a p (call_on_key names shared (arguments_at c (term_at c) args) (top vs))
+  by_frame (frame.CallSuperKey args) m vs ws t a p = abrupt m a p (call_super_key names shared (arguments_at c (term_at c) args))
+  by_frame (frame.CallSuperHome args) m vs ws t a p = no_prototype m a p _
+  by_frame (frame.CallSuperMethod args) m vs ws t a p = abrupt m a p (super_method names shared (arguments_at c (term_at c) args))
+  by_frame (frame.SuperParent args) m vs ws t a p = no_prototype m a p _
+  by_frame frame.BindThis m vs ws t a p = abrupt m a p _
 
 -- nothing waits for a frame that takes values
 pub nothing_waits : (f : Frame) → takes_values f ≡ true → has_wait f ≡ false

@@ -84,6 +84,8 @@ module _ (names : Naming Ref MadeSymbol) (shared : Shared) (c : Tables) where
   by_frame frame.SuperHome x vs ws t n p = cc
   by_frame (frame.Global k soft) x vs ws t n p = cc
   by_frame (frame.SetGlobal k e) x vs ws t n p = cc
+  by_frame (frame.CallSuperHome args) x vs ws t n p = cc
+  by_frame (frame.SuperParent args) x vs ws t n p = cc
   by_frame f x vs ws t n p = untaken x p _
 
 passed : (f : Frame) (w : View) → takes_values f ≡ true → takes_answers f ≡ false → (a : Around)
@@ -104,6 +106,8 @@ passes_value frame.HasDeleted v m old new t h = record { leads = λ a. h.leads a
 passes_value frame.SuperHome v m old new t h = record { leads = λ a. h.leads a; keeps = h.keeps }
 passes_value (frame.Global k soft) v m old new t h = record { leads = λ a. h.leads a; keeps = h.keeps }
 passes_value (frame.SetGlobal k e) v m old new t h = record { leads = λ a. h.leads a; keeps = h.keeps }
+passes_value (frame.CallSuperHome args) v m old new t h = record { leads = λ a. h.leads a; keeps = h.keeps }
+passes_value (frame.SuperParent args) v m old new t h = record { leads = λ a. h.leads a; keeps = h.keeps }
 passes_value f v m old new t h = cc
 
 pub value_passes : {E : Type 0} (r : Result Mode E) (f : Frame) (v : Value Ref MadeSymbol) (old mid new : View) → takes_answers f ≡ true → mid ≡ record old { values = drop (owned f) old.values }

@@ -16,3 +16,6 @@ pub mod Closures
 pub mod Begun
 pub mod Served
 pub mod Shown
+pub mod Constructions
+pub mod Spreads
+pub mod Supers

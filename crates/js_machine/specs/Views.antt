@@ -59,6 +59,11 @@ use Rattle.js_machine.specs.declared.frame.Mode.{Mode}
 use Rattle.js_machine.specs.declared.frame.Mode.TheVariants as mode
 use Rattle.js_machine.specs.declared.frame.Purpose.{Purpose}
 use Rattle.js_machine.specs.declared.frame.Purpose.TheVariants as purpose
+use Rattle.js_run.specs.Calls.{binds_this, parent_value}
+use Rattle.js_run.specs.Control.{argument_values}
+use Rattle.js_run.specs.Rows.{call_on_key, call_super_key}
+use Rattle.js_machine.specs.Constructions.{constructs_made}
+use Rattle.js_term.specs.declared.term.Arguments.{Arguments}
 
 abbrev pub Values : Type 0
 Values = List (Value Ref MadeSymbol)
@@ -240,6 +245,8 @@ owned (frame.Finally m) = if has_value m then 1 else 0
 owned (frame.Arguments k done start left) = done + held k
 owned (frame.ArgumentsOf k) = held k
 owned (frame.CallMethod args) = 1
+owned (frame.CallKey args) = 1
+owned (frame.CallSuperHome args) = 1
 owned _ = 0
 
 -- it goes on with an answer that is no value
@@ -249,6 +256,8 @@ takes_answers frame.HasDeleted = true
 takes_answers frame.SuperHome = true
 takes_answers (frame.Global n soft) = true
 takes_answers (frame.SetGlobal n e) = true
+takes_answers (frame.CallSuperHome args) = true
+takes_answers (frame.SuperParent args) = true
 takes_answers _ = false
 
 -- it goes on with a value or an answer alone
@@ -290,6 +299,14 @@ applied names shared purpose.Call vs args p = calls names shared (top vs) (top (
 applied names shared purpose.SuperCall vs args p = with_this names p (λ this q. calls names shared (top vs) this args q (with_value give))
 applied names shared purpose.New vs args p = constructs_itself names shared (top vs) args p
 applied names shared purpose.SuperNew vs args p = super_constructs names shared (running p).new_target (top vs) args p
+
+-- a method of `super` is called with these arguments
+abbrev pub super_method : Naming Ref MadeSymbol → Shared → Arguments → Value Ref MadeSymbol → Party Ref MadeSymbol → Act Ref MadeSymbol
+super_method names shared args f p = argument_values names shared args p (applied names shared purpose.SuperCall (f ∷ []))
+
+-- what constructs in a `super` call does so with these arguments
+abbrev pub super_parent : Naming Ref MadeSymbol → Shared → Arguments → Option Ref → Party Ref MadeSymbol → Act Ref MadeSymbol
+super_parent names shared args o p = argument_values names shared args p (applied names shared purpose.SuperNew (parent_value names shared o ∷ []))
 
 module _ (names : Naming Ref MadeSymbol) (shared : Shared) (c : Tables) where
   -- what a frame goes on with
@@ -339,10 +356,17 @@ module _ (names : Naming Ref MadeSymbol) (shared : Shared) (c : Tables) where
   next_of (frame.NewCallee args) vs = with_value (new_callee names shared (arguments_at c (term_at c) args))
   next_of (frame.CallObject k args) vs = with_value (call_on_object names shared (term_at c k) (arguments_at c (term_at c) args))
   next_of (frame.CallMethod args) vs = with_value (calls_with names shared (top vs) (arguments_at c (term_at c) args))
+  next_of (frame.CallKey args) vs = with_value (call_on_key names shared (arguments_at c (term_at c) args) (top vs))
+  next_of (frame.CallSuperKey args) vs = with_value (call_super_key names shared (arguments_at c (term_at c) args))
+  next_of (frame.CallSuperHome args) vs = with_prototype (λ o p. get_above names shared (top vs) o p (with_value (super_method names shared (arguments_at c (term_at c) args))))
+  next_of (frame.CallSuperMethod args) vs = with_value (super_method names shared (arguments_at c (term_at c) args))
+  next_of (frame.SuperParent args) vs = with_prototype (super_parent names shared (arguments_at c (term_at c) args))
+  next_of frame.BindThis vs = with_value (λ v p. binds_this names shared (running p).this v p)
 
   -- what waits goes on with its answer
   abbrev pub next_of_wait : Wait → Next Ref MadeSymbol
   next_of_wait (wait.Object me n) = Decides_on me n
+  next_of_wait (wait.Construct k args) = with_value (constructs_made names shared (template_at c (term_at c) k.at) k args)
 
   -- what a frame goes on with where it has something that waits. What decides is open meanwhile
   abbrev pub next_over : Frame → Values → Waits → Next Ref MadeSymbol

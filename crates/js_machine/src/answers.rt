@@ -71,8 +71,7 @@ impl Machine {
     {
         match self.flag() {
             Some(flag) => self.go_on_flag(frame, flag),
-            // Another answer does not come: a Set, a Delete and a HasProperty give a truth value.
-            None => Err(OutOfMemory),
+            None => self.deliver_prototype(frame),
         }
     }
 

@@ -62,7 +62,7 @@ impl Machine {
     }
 
     /// What so many arguments are for goes on with them.
-    fn apply(&mut self, purpose: Purpose, done: u32) -> Result<Mode, OutOfMemory>
+    pub(crate) fn apply(&mut self, purpose: Purpose, done: u32) -> Result<Mode, OutOfMemory>
         ensures { let args = args_on done self.old.values in
             let below = drop done self.old.values in
             let rest = record self.old { values = drop (done + held purpose) self.old.values } in
@@ -72,8 +72,8 @@ impl Machine {
         match purpose {
             Purpose::Call => self.apply_call(done),
             Purpose::New => self.apply_new(done),
-            // No form begins the arguments of a `super` call yet.
-            Purpose::SuperCall | Purpose::SuperNew => Err(OutOfMemory),
+            Purpose::SuperCall => self.apply_super_call(done),
+            Purpose::SuperNew => self.apply_super_new(done),
         }
     }
 
@@ -140,7 +140,11 @@ impl Machine {
     }
 
     /// The arguments of a call begin.
-    fn begin_arguments(&mut self, purpose: Purpose, arguments: u32) -> Result<Mode, OutOfMemory>
+    pub(crate) fn begin_arguments(
+        &mut self,
+        purpose: Purpose,
+        arguments: u32,
+    ) -> Result<Mode, OutOfMemory>
         ensures { let names = naming_of self.old.me in
             let arguments = arguments_at self.old.code (term_at self.old.code) arguments in
             let rest = record self.old { values = drop (held purpose) self.old.values } in

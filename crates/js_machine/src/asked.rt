@@ -27,9 +27,27 @@ pub enum Answer {
     Keys(List<Key>),
 }
 
+/// What constructs: a function with the place of its template, the scope around it and its home object, and the new target.
+#[derive(Clone, Copy)]
+pub struct Construction {
+    pub at: u32,
+    pub function: Ref,
+    pub outer: u32,
+    pub home: Option<Ref>,
+    pub target: Ref,
+}
+
 /// What a decision needs once its answer comes.
 #[derive(Drop)]
 pub enum Wait {
     /// The decision of an object.
-    Object { me: Ref, next: ExoticNext },
+    Object {
+        me: Ref,
+        next: ExoticNext,
+    },
+    /// A construction with these arguments; the prototype of what it makes comes.
+    Construct {
+        construction: Construction,
+        args: List<Value>,
+    },
 }

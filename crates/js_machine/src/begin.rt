@@ -114,6 +114,8 @@ impl Machine {
                 key,
                 arguments,
             } => self.wait(Frame::CallObject { key, arguments }, object),
+            Node::CallSuper { key, arguments } => self.wait(Frame::CallSuperKey { arguments }, key),
+            Node::SuperNew { arguments } => self.begin_super_new(arguments),
             _ => Err(OutOfMemory),
         }
     }

@@ -6,8 +6,8 @@ ghost use Rattle.js_code.specs.Decoded.{term_at};
 ghost use Rattle.js_run.specs.Bodies.{prepared};
 ghost use Rattle.js_term.specs.declared.term.Template.{out-Template};
 ghost use Rattle.js_machine.specs.Bodies.{running_of};
-ghost use Rattle.js_machine.specs.Made.{next_own, row_of};
-ghost use Rattle.js_machine.specs.Opened.{runs, template_of, with_body, with_prepared, with_rest, with_slots, without_body};
+ghost use Rattle.js_machine.specs.Made.{row_of};
+ghost use Rattle.js_machine.specs.Opened.{runs, template_of, with_body, with_prepared, with_slots, without_body};
 ghost use Rattle.js_machine.specs.Steps.{LeadsTo, over, under};
 ghost use Rattle.js_machine.specs.Views.{args_on, party_of};
 
@@ -17,7 +17,6 @@ use crate::machine::Machine;
 use js_code::node::TemplateRow;
 use js_run::MAX_DEPTH;
 use js_text::value::Value;
-use lava_base::ids::Ref;
 use lava_base::memory::OutOfMemory;
 
 impl Machine {
@@ -71,14 +70,6 @@ impl Machine {
         }
         self.push_body(scope, body)?;
         self.wait(frame, at)
-    }
-
-    /// Makes the array of a rest parameter. Left out: it answers want of memory.
-    fn make_rest(&mut self, at: u32, count: u32) -> Result<Ref, OutOfMemory>
-        ensures name { IfOk result (λ r. r ≡ next_own self.old) }
-        ensures made { OnOk result (self.new ≡ with_rest at count self.old) }
-    {
-        Err(OutOfMemory)
     }
 
     /// Opens the scope of a body without a rest parameter.

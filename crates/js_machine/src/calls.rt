@@ -11,6 +11,7 @@ ghost use Rattle.js_machine.specs.Opened.{template_of};
 ghost use Rattle.js_machine.specs.Steps.{LeadsTo};
 ghost use Rattle.js_machine.specs.Views.{args_on, party_of};
 
+use crate::asked::Construction;
 use crate::body::Body;
 use crate::frame::{Frame, Mode};
 use crate::machine::Machine;
@@ -158,7 +159,7 @@ impl Machine {
         self.run_body(at, outer, count, body, Frame::Built)
     }
 
-    /// The body of a constructor runs, by the kind of its template (ECMA-262, "ECMAScript Function Objects", [[Construct]]). Left out: where an object is made for it, whose prototype is asked for first, it answers want of memory.
+    /// The body of a constructor runs, by the kind of its template (ECMA-262, "ECMAScript Function Objects", [[Construct]]).
     pub(crate) fn construct_by_kind(
         &mut self,
         at: u32,
@@ -180,7 +181,16 @@ impl Machine {
                 self.construct_derived(at, function, outer, home, target, count)
             }
             TemplateKind::Built => self.construct_built(at, function, outer, home, target, count),
-            _ => Err(OutOfMemory),
+            _ => {
+                let construction = Construction {
+                    at,
+                    function,
+                    outer,
+                    home,
+                    target,
+                };
+                self.construct_base(construction, count)
+            }
         }
     }
 

@@ -94,7 +94,7 @@ impl Machine {
     }
 
     /// Arguments come on the stack of values.
-    fn push_arguments(&mut self, args: &List<Value>) -> Result<(), OutOfMemory>
+    pub(crate) fn push_arguments(&mut self, args: &List<Value>) -> Result<(), OutOfMemory>
         ensures { let values = reverse args.now ++ self.old.values in
             OnOk result (self.new ≡ record self.old { values = values }) }
     {

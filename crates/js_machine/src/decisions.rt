@@ -250,6 +250,9 @@ impl Machine {
     {
         match wait {
             Wait::Object { me, next } => self.resume_object(me, next, reply),
+            Wait::Construct { construction, args } => {
+                self.resume_construct(construction, args, reply)
+            }
         }
     }
 

@@ -99,6 +99,15 @@ impl Machine {
             Frame::Callee { arguments } => self.callee_comes(Value::Undefined, arguments, value),
             Frame::NewCallee { arguments } => self.new_callee_comes(arguments, value),
             Frame::CallMethod { arguments } => self.method_comes(arguments, value),
+            Frame::CallObject { key, arguments } => {
+                self.wait_with(value, Frame::CallKey { arguments }, key)
+            }
+            Frame::CallKey { arguments } => self.method_key_comes(arguments, value),
+            Frame::ArgumentsOf { purpose } => self.arguments_listed(purpose, value),
+            Frame::SuperKey => self.super_key_comes(value),
+            Frame::CallSuperKey { arguments } => self.super_method_key_comes(arguments, value),
+            Frame::CallSuperMethod { arguments } => self.super_method_comes(arguments, value),
+            Frame::BindThis => self.bind_this(value),
             _ if frame.takes_answers() => self.pass_value(frame, value),
             _ => Err(OutOfMemory),
         }

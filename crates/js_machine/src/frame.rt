@@ -202,6 +202,28 @@ pub enum Frame {
     CallMethod {
         arguments: u32,
     },
+    /// The key of a method comes. Has the object.
+    CallKey {
+        arguments: u32,
+    },
+    /// The key of a method of `super` comes.
+    CallSuperKey {
+        arguments: u32,
+    },
+    /// The object where `super` looks comes. Has the key of a method.
+    CallSuperHome {
+        arguments: u32,
+    },
+    /// A method of `super` comes.
+    CallSuperMethod {
+        arguments: u32,
+    },
+    /// What constructs in a `super` call comes.
+    SuperParent {
+        arguments: u32,
+    },
+    /// What a `super` call constructs comes, and is `this`.
+    BindThis,
 }
 
 impl Purpose {
@@ -269,6 +291,7 @@ impl Frame {
             Frame::Finally { earlier } => u64::from(earlier.has_value()),
             Frame::Arguments { purpose, done, .. } => u64::from(done) + purpose.held(),
             Frame::ArgumentsOf { purpose } => purpose.held(),
+            Frame::CallKey { .. } | Frame::CallSuperHome { .. } => 1,
             _ => 0,
         }
     }
@@ -284,6 +307,8 @@ impl Frame {
                 | Frame::SuperHome
                 | Frame::Global { .. }
                 | Frame::SetGlobal { .. }
+                | Frame::CallSuperHome { .. }
+                | Frame::SuperParent { .. }
         )
     }
 

@@ -16,6 +16,7 @@
 // - `parameters` fills the slots of a body's scope.
 // - `arguments` evaluates the arguments of calls, and `callees` asks what is called.
 // - `bodies` runs bodies, `returns` ends them, `calls` has what runs when a function is called, and `closures` runs functions.
+// - `rests` has the arguments of a rest parameter, `listed_arguments` those of an array, `constructions` the objects that constructors make, `methods` methods that are called, and `supers` what stands on `super`.
 // - `sequences` has lists of forms, `places` what a body runs with, `jumps` jumps, `turns` what follows a turn of a loop, and `tries` has `try`.
 // - `new` makes a machine, `own` has a party's things and bodies while others run, `serve` takes what comes from other parties, and `shown` has what goes to them.
 // - `steps` hands completions on and does what was charged for, `stop` has charges and how runs stop, and `run` runs.
@@ -37,6 +38,7 @@ pub mod branches;
 pub mod callees;
 pub mod calls;
 pub mod closures;
+pub mod constructions;
 pub mod decisions;
 pub mod deliver;
 pub mod faults;
@@ -45,9 +47,11 @@ pub mod functions;
 pub mod globals;
 pub mod jumps;
 pub mod keys;
+pub mod listed_arguments;
 pub mod looks;
 pub mod loops;
 pub mod machine;
+pub mod methods;
 pub mod new;
 pub mod own;
 pub mod package;
@@ -56,6 +60,7 @@ pub mod places;
 pub mod plain_keys;
 pub mod primitives;
 pub mod properties;
+pub mod rests;
 pub mod returns;
 pub mod run;
 pub mod running;
@@ -65,6 +70,7 @@ pub mod shown;
 pub mod slots;
 pub mod steps;
 pub mod stop;
+pub mod supers;
 pub mod tries;
 pub mod turns;
 pub mod ways;

@@ -7,3 +7,9 @@ returns-in-Call c = applies c.apply_call.result c.args.purpose purpose.Call c.ar
 
 pub returns-in-New : goal.returns-in-New
 returns-in-New c = applies c.apply_new.result c.args.purpose purpose.New c.args.done c.args.self.now c.apply_new.new.self c.in-New.is c.apply_new.ensures
+
+pub returns-in-SuperCall : goal.returns-in-SuperCall
+returns-in-SuperCall c = applies c.apply_super_call.result c.args.purpose purpose.SuperCall c.args.done c.args.self.now c.apply_super_call.new.self c.in-SuperCall.is c.apply_super_call.ensures
+
+pub returns-in-SuperNew : goal.returns-in-SuperNew
+returns-in-SuperNew c = applies c.apply_super_new.result c.args.purpose purpose.SuperNew c.args.done c.args.self.now c.apply_super_new.new.self c.in-SuperNew.is c.apply_super_new.ensures

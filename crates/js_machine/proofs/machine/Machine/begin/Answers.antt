@@ -32,3 +32,19 @@ returns-in-New c = begun_ok c.wait-in-New.result c.args.at (node.New c.in-New.ca
 pub returns-in-CallOn : goal.returns-in-CallOn
 returns-in-CallOn c =
     begun_ok c.wait-in-CallOn.result c.args.at (node.CallOn c.in-CallOn.object c.in-CallOn.key c.in-CallOn.arguments) c.args.self.now c.wait-in-CallOn.new.self c.in-CallOn.ensures c.wait-in-CallOn.ensures.leads
+
+pub returns-in-Fresh : goal.returns-in-Fresh
+returns-in-Fresh c = begun_ok c.refresh.result c.args.at node.Fresh c.args.self.now c.refresh.new.self c.in-Fresh.ensures c.refresh.ensures
+
+pub returns-in-This : goal.returns-in-This
+returns-in-This c = begun_ok c.begin_this.result c.args.at node.This c.args.self.now c.begin_this.new.self c.in-This.ensures c.begin_this.ensures
+
+pub returns-in-NewTarget : goal.returns-in-NewTarget
+returns-in-NewTarget c = begun_ok c.begin_new_target.result c.args.at node.NewTarget c.args.self.now c.begin_new_target.new.self c.in-NewTarget.ensures c.begin_new_target.ensures
+
+pub returns-in-Return : goal.returns-in-Return
+returns-in-Return c = begun_ok c.begin_return.result c.args.at node.Return c.args.self.now c.begin_return.new.self c.in-Return.ensures c.begin_return.ensures
+
+pub returns-in-CallSuper : goal.returns-in-CallSuper
+returns-in-CallSuper c =
+    begun_ok c.wait-in-CallSuper.result c.args.at (node.CallSuper c.in-CallSuper.key c.in-CallSuper.arguments) c.args.self.now c.wait-in-CallSuper.new.self c.in-CallSuper.ensures c.wait-in-CallSuper.ensures.leads

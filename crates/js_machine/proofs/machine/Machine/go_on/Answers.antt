@@ -52,3 +52,36 @@ returns-in-CallMethod c = arm c.method_comes.result c.args.frame (frame.CallMeth
 
 pub returns-in-Arguments : goal.returns-in-Arguments
 returns-in-Arguments c = arm c.argument_comes.result c.args.frame (frame.Arguments c.in-Arguments.purpose c.in-Arguments.done c.in-Arguments.start c.in-Arguments.left) c.args.value c.args.self.now c.argument_comes.new.self c.in-Arguments.is c.argument_comes.ensures
+
+pub returns-in-CallObject : goal.returns-in-CallObject
+returns-in-CallObject c = arm c.wait_with-in-CallObject.result c.args.frame (frame.CallObject c.in-CallObject.key c.in-CallObject.arguments) c.args.value c.args.self.now c.wait_with-in-CallObject.new.self c.in-CallObject.is c.wait_with-in-CallObject.ensures
+
+pub returns-in-CallKey : goal.returns-in-CallKey
+returns-in-CallKey c = arm c.method_key_comes.result c.args.frame (frame.CallKey c.in-CallKey.arguments) c.args.value c.args.self.now c.method_key_comes.new.self c.in-CallKey.is c.method_key_comes.ensures
+
+pub returns-in-ArgumentsOf : goal.returns-in-ArgumentsOf
+returns-in-ArgumentsOf c = arm c.arguments_listed.result c.args.frame (frame.ArgumentsOf c.in-ArgumentsOf.purpose) c.args.value c.args.self.now c.arguments_listed.new.self c.in-ArgumentsOf.is c.arguments_listed.ensures
+
+pub returns-in-CallSuperKey : goal.returns-in-CallSuperKey
+returns-in-CallSuperKey c = arm c.super_method_key_comes.result c.args.frame (frame.CallSuperKey c.in-CallSuperKey.arguments) c.args.value c.args.self.now c.super_method_key_comes.new.self c.in-CallSuperKey.is c.super_method_key_comes.ensures
+
+pub returns-in-CallSuperMethod : goal.returns-in-CallSuperMethod
+returns-in-CallSuperMethod c = arm c.super_method_comes.result c.args.frame (frame.CallSuperMethod c.in-CallSuperMethod.arguments) c.args.value c.args.self.now c.super_method_comes.new.self c.in-CallSuperMethod.is c.super_method_comes.ensures
+
+pub returns-in-SuperKey : goal.returns-in-SuperKey
+returns-in-SuperKey c = arm c.super_key_comes.result c.args.frame frame.SuperKey c.args.value c.args.self.now c.super_key_comes.new.self c.in-SuperKey.is c.super_key_comes.ensures
+
+pub returns-in-BindThis : goal.returns-in-BindThis
+returns-in-BindThis c = arm c.bind_this.result c.args.frame frame.BindThis c.args.value c.args.self.now c.bind_this.new.self c.in-BindThis.is c.bind_this.ensures
+
+pub returns-in-IfElse : goal.returns-in-IfElse
+returns-in-IfElse c = arm c.branch-self-in-IfElse.result c.args.frame (frame.IfElse c.in-IfElse.consequent c.in-IfElse.alternate) c.args.value c.args.self.now c.branch-self-in-IfElse.new.self c.in-IfElse.is c.branch-self-in-IfElse.ensures
+
+pub returns-in-ShortLeft : goal.returns-in-ShortLeft
+returns-in-ShortLeft c = arm c.short.result c.args.frame (frame.ShortLeft c.in-ShortLeft.operator c.in-ShortLeft.right) c.args.value c.args.self.now c.short.new.self c.in-ShortLeft.is c.short.ensures
+
+pub returns-in-Tested : goal.returns-in-Tested
+returns-in-Tested c = arm c.tested.result c.args.frame (frame.Tested c.in-Tested.turns) c.args.value c.args.self.now c.tested.new.self c.in-Tested.is c.tested.ensures
+
+pub returns-in-Given : goal.returns-in-Given
+returns-in-Given c = arm c.give.result c.args.frame frame.Given c.args.value c.args.self.now c.give.new.self c.in-Given.is c.give.ensures.leads

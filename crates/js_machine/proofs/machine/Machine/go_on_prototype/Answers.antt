@@ -1,0 +1,10 @@
+use Rattle.js_desc.specs.declared.reply.Reply.TheVariants as reply
+use Rattle.js_machine.specs.declared.frame.Frame.TheVariants as frame
+use Rattle.js_machine.proofs.Replied.{arm_replied}
+use Rattle.js_machine.proofs.machine.Machine.go_on_prototype.Goals as goal
+
+pub returns-in-CallSuperHome : goal.returns-in-CallSuperHome
+returns-in-CallSuperHome c = arm_replied c.super_method_home_comes.result c.args.frame (frame.CallSuperHome c.in-CallSuperHome.arguments) (reply.Proto c.args.above) c.args.self.now c.super_method_home_comes.new.self c.in-CallSuperHome.is c.super_method_home_comes.ensures
+
+pub returns-in-SuperParent : goal.returns-in-SuperParent
+returns-in-SuperParent c = arm_replied c.super_parent_comes.result c.args.frame (frame.SuperParent c.in-SuperParent.arguments) (reply.Proto c.args.above) c.args.self.now c.super_parent_comes.new.self c.in-SuperParent.is c.super_parent_comes.ensures

@@ -1,0 +1,7 @@
+use Rattle.std.proofs.Common.{None}
+use Rattle.js_machine.proofs.Chosen.{target_given}
+use Rattle.js_machine.proofs.machine.Machine.run_template.Goals as goal
+
+pub returns-in-None : goal.returns-in-None
+returns-in-None c =
+    target_given c.call_by_kind.result c.args.at c.args.outer c.args.count c.args.function c.args.home c.args.lexical c.args.this c.args.target None c.args.self.now c.call_by_kind.new.self c.in-None.is c.call_by_kind.ensures
