@@ -29,3 +29,6 @@ pub mod Argued
 pub mod Called_laws
 pub mod Closed
 pub mod Served_laws
+pub mod Operated
+pub mod Instance_laws
+pub mod Converted

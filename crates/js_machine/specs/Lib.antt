@@ -15,3 +15,6 @@ pub mod Called
 pub mod Closures
 pub mod Begun
 pub mod Served
+pub mod Operands
+pub mod Conversions
+pub mod Instances

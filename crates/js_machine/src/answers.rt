@@ -4,7 +4,7 @@ ghost use Rattle.std.specs.Prelude.{◌≡◌, Bool, IfOk};
 ghost use Rattle.js_desc.specs.declared.reply.Reply.TheVariants as reply_kind;
 ghost use Rattle.js_machine.specs.Replies.{deed_replied};
 ghost use Rattle.js_machine.specs.Steps.{IsDelivered, LeadsTo, deed_with, under};
-ghost use Rattle.js_machine.specs.Views.{flag_in, takes_answers, takes_values};
+ghost use Rattle.js_machine.specs.Views.{flag_in, prototype_in, takes_answers, takes_values};
 ghost use Rattle.js_machine.specs.declared.frame.Frame.TheVariants as frame_kind;
 ghost use Rattle.js_machine.specs.declared.frame.Mode.TheVariants as mode_kind;
 
@@ -12,6 +12,7 @@ use crate::asked::Answer;
 use crate::frame::{Frame, Mode};
 use crate::machine::Machine;
 use js_text::value::Value;
+use lava_base::ids::Ref;
 use lava_base::memory::OutOfMemory;
 
 impl Machine {
@@ -49,6 +50,7 @@ impl Machine {
             Frame::SetGlobal { name, value } => {
                 self.wait(Frame::PutGlobal { name, there: flag }, value)
             }
+            Frame::Told => self.give(Value::Bool(flag)),
             // No other frame waits for one.
             _ => Err(OutOfMemory),
         }
@@ -71,6 +73,44 @@ impl Machine {
     {
         match self.flag() {
             Some(flag) => self.go_on_flag(frame, flag),
+            None => self.deliver_prototype(frame),
+        }
+    }
+
+    /// The answer, where it is a prototype.
+    fn prototype(&self) -> Option<Option<Ref>>
+        ensures { result ≡ prototype_in self.now.answer }
+    {
+        match &self.answer {
+            Answer::Proto(prototype) => Some(*prototype),
+            _ => None,
+        }
+    }
+
+    /// A frame that waits for a prototype goes on with it.
+    fn go_on_prototype(
+        &mut self,
+        frame: Frame,
+        prototype: Option<Ref>,
+    ) -> Result<Mode, OutOfMemory>
+        ensures { let reply = reply_kind.Proto prototype in
+            IfOk result (LeadsTo (deed_replied frame reply self.old)
+            (under frame self.old) self.new) }
+    {
+        match frame {
+            Frame::Inherits => self.deliver_inherits(prototype),
+            // No other frame waits for one.
+            _ => Err(OutOfMemory),
+        }
+    }
+
+    /// An answer comes to a frame that waits for a prototype.
+    #[tactic(auto, using(crate::proofs::Replied::prototype_comes))]
+    fn deliver_prototype(&mut self, frame: Frame) -> Result<Mode, OutOfMemory>
+        ensures { IfOk result (IsDelivered frame mode_kind.Answer self.old self.new) }
+    {
+        match self.prototype() {
+            Some(prototype) => self.go_on_prototype(frame, prototype),
             // Another answer does not come: a Set, a Delete and a HasProperty give a truth value.
             None => Err(OutOfMemory),
         }

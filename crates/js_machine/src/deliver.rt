@@ -99,6 +99,11 @@ impl Machine {
             Frame::Callee { arguments } => self.callee_comes(Value::Undefined, arguments, value),
             Frame::NewCallee { arguments } => self.new_callee_comes(arguments, value),
             Frame::CallMethod { arguments } => self.method_comes(arguments, value),
+            Frame::Unary { operator } => self.unary(operator, value),
+            Frame::BinaryRight { operator } => self.go_on_binary(operator, value),
+            Frame::InstanceOf => self.prototype_comes(value),
+            Frame::MethodGot { last, goal } => self.method_got(last, goal, value),
+            Frame::MethodCalled { last, goal } => self.method_gave(last, goal, value),
             _ if frame.takes_answers() => self.pass_value(frame, value),
             _ => Err(OutOfMemory),
         }

@@ -1,8 +1,9 @@
 // What waits for a completion, and what is next. A frame's own values stand on the stack of values.
 
 ghost use Rattle.std.specs.Prelude.{◌≡◌};
-ghost use Rattle.js_machine.specs.Views.{has_value, is_completion, is_handed, owned, takes_answers, takes_values, held, is_throw};
+ghost use Rattle.js_machine.specs.Views.{has_value, is_completion, is_handed, owned, takes_answers, takes_values, held, is_throw, as_text, goal_held, key_held};
 
+use js_operators::operation::Rest;
 use js_tree::operator::{BinaryOperator, LogicalOperator, UnaryOperator};
 
 /// How a run ends within a party. None of these can be caught.
@@ -202,6 +203,44 @@ pub enum Frame {
     CallMethod {
         arguments: u32,
     },
+    /// What was charged for is paid; has the value that is given then.
+    Paid,
+    /// A truth value comes, which is given.
+    Told,
+    /// What a function has as `prototype` comes; has the object that may inherit from it.
+    InstanceOf,
+    /// The prototype of an object comes; has the object that is sought.
+    Inherits,
+    /// A method that makes an object a primitive value comes. Has the object, and below it what that value is for.
+    MethodGot {
+        last: bool,
+        goal: Goal,
+    },
+    /// What such a method gives comes. Has the object, and below it what the primitive value is for.
+    MethodCalled {
+        last: bool,
+        goal: Goal,
+    },
+}
+
+/// What a property key is for. It has values on the stack.
+#[derive(Clone, Copy)]
+pub enum KeyGoal {
+    /// A property is read. Has the object.
+    Get,
+    /// A property is set. Has the value, and the object below it.
+    Put,
+    /// A property is deleted. Has the object.
+    Delete,
+}
+
+/// What the primitive value that an object becomes is for. It has values on the stack.
+#[derive(Clone, Copy)]
+pub enum Goal {
+    /// An operator goes on. Has the operand that is held.
+    Operand(Rest),
+    /// The value becomes a property key.
+    Key(KeyGoal),
 }
 
 impl Purpose {
@@ -212,6 +251,40 @@ impl Purpose {
         match self {
             Purpose::Call => 2,
             _ => 1,
+        }
+    }
+}
+
+impl KeyGoal {
+    /// How many values are its own.
+    pub fn held(self) -> u64
+        ensures { result ≡ key_held self }
+    {
+        match self {
+            KeyGoal::Put => 2,
+            _ => 1,
+        }
+    }
+}
+
+impl Goal {
+    /// How many values are its own.
+    pub fn held(self) -> u64
+        ensures { result ≡ goal_held self }
+    {
+        match self {
+            Goal::Operand(_) => 1,
+            Goal::Key(goal) => goal.held(),
+        }
+    }
+
+    /// Whether the methods of a text are tried first (ECMA-262, ToPrimitive).
+    pub fn as_text(self) -> bool
+        ensures { result ≡ as_text self }
+    {
+        match self {
+            Goal::Operand(rest) => matches!(rest, Rest::Key),
+            Goal::Key(_) => true,
         }
     }
 }
@@ -269,6 +342,8 @@ impl Frame {
             Frame::Finally { earlier } => u64::from(earlier.has_value()),
             Frame::Arguments { purpose, done, .. } => u64::from(done) + purpose.held(),
             Frame::ArgumentsOf { purpose } => purpose.held(),
+            Frame::Paid | Frame::InstanceOf | Frame::Inherits => 1,
+            Frame::MethodGot { goal, .. } | Frame::MethodCalled { goal, .. } => 1 + goal.held(),
             _ => 0,
         }
     }
@@ -284,6 +359,8 @@ impl Frame {
                 | Frame::SuperHome
                 | Frame::Global { .. }
                 | Frame::SetGlobal { .. }
+                | Frame::Told
+                | Frame::Inherits
         )
     }
 
@@ -303,6 +380,7 @@ impl Frame {
                 | Frame::Constructed { .. }
                 | Frame::Derived
                 | Frame::Built
+                | Frame::Paid
         )
     }
 }
