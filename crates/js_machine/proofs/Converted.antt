@@ -84,13 +84,14 @@ last_method r o g last old new l h = subst (λ b. IfOk r (BecomesBy (methods_beh
 
 -- METHODS ARE CALLED
 
-pub method_asks : {E : Type 0} (r : Result Mode E) (o : Ref) (g : Goal) (last : Bool) (f : Ref) (old mid new : View) → mid ≡ with_top (value.Ref o) old → IfOk r (WaitsFor (frame.MethodCalled last g) f (ask.Call (value.Ref o) []) mid new)
-    → IfOk r (CallsMethod last o g f old new)
-method_asks (Ok m) o g last f old mid new s h =
-    let w = subst (λ (x : View). WaitsFor (frame.MethodCalled last g) f (ask.Call (value.Ref o) []) x new m) s h in
-    let led : LeadsTo (λ a. asks (naming_of old.me) f (ask.Call (value.Ref o) []) (party_of a old) (with_value (method_gave (naming_of old.me) a.shared last o g old.values))) (record old { values = drop (1 + goal_held g) (value.Ref o ∷ old.values) }) new m = record { leads = λ a. w.leads a; keeps = w.keeps } in
+pub method_asks : {E : Type 0} (r : Result Mode E) (o : Ref) (g : Goal) (last : Bool) (f : Ref) (args : List V) (old mid new : View) → args ≡ [] → mid ≡ with_top (value.Ref o) old
+    → IfOk r (WaitsFor (frame.MethodCalled last g) f (ask.Call (value.Ref o) args) mid new) → IfOk r (CallsMethod last o g f old new)
+method_asks (Ok m) o g last f args old mid new e s h =
+    let w = subst (λ (x : View). WaitsFor (frame.MethodCalled last g) f (ask.Call (value.Ref o) args) x new m) s h in
+    let u = subst (λ xs. WaitsFor (frame.MethodCalled last g) f (ask.Call (value.Ref o) xs) (with_top (value.Ref o) old) new m) e w in
+    let led : LeadsTo (λ a. asks (naming_of old.me) f (ask.Call (value.Ref o) []) (party_of a old) (with_value (method_gave (naming_of old.me) a.shared last o g old.values))) (record old { values = drop (1 + goal_held g) (value.Ref o ∷ old.values) }) new m = record { leads = λ a. u.leads a; keeps = u.keeps } in
     subst (λ vs. LeadsTo (λ a. asks (naming_of old.me) f (ask.Call (value.Ref o) []) (party_of a old) (with_value (method_gave (naming_of old.me) a.shared last o g old.values))) (record old { values = vs }) new m) (sym (beneath (goal_held g) (value.Ref o ∷ old.values))) led
-method_asks (Err x) o g last f old mid new s h = tt
+method_asks (Err x) o g last f args old mid new e s h = tt
 
 same_marks : (w : View) (vs : Values) (r : Ref) (o : Origin) → marks_at (record w { values = vs }) r o ≡ marks_at w r o
 same_marks w vs r (Own i) = refl

@@ -52,14 +52,14 @@ stays_unbound w (suc n) r e = ap (λ o. unbound_in w n (unwrap_or o r)) e ∙ st
 pub one_behind : (w : View) (n left : ℕ) (r t : Ref) (o : Option Ref) → left ≡ suc n → o ≡ bound_target_in w r → o ≡ Some t → unbound_in w left r ≡ unbound_in w n t
 one_behind w n left r t o s e f = ap (λ i. unbound_in w i r) s ∙ ap (λ x. unbound_in w n (unwrap_or x r)) (sym e ∙ f)
 
-by_slot : (s : Slot Ref MadeSymbol) (r : Ref) → unbound_by s r ≡ unwrap_or (bound_target s) r
-by_slot (slot.Bound target this args) r = refl
-by_slot s r = refl
+by_slot : (w : View) (a : Around) (s : Slot Ref MadeSymbol) (r : Ref) → unbound_by (naming_of w.me) (fitting w a).shared s r ≡ unwrap_or (bound_target s) r
+by_slot w a (slot.Bound target this args) r = refl
+by_slot w a s r = refl
 
 -- as the definitions find it
 behind : (w : View) (a : Around) (n : ℕ) (r : Ref) → (let b = fitting w a in unbound (naming_of w.me) b.shared n r (party_of b w) ≡ unbound_in w n r)
 behind w a zero r = refl
-behind w a (suc n) r = behind w a n (unbound_by (object_in w r).slot r) ∙ ap (unbound_in w n) (by_slot (object_in w r).slot r)
+behind w a (suc n) r = behind w a n (unbound_by (naming_of w.me) (fitting w a).shared (object_in w r).slot r) ∙ ap (unbound_in w n) (by_slot w a (object_in w r).slot r)
 
 pub instance_unbound : {E : Type 0} (r : Result Mode E) (f g : Ref) (v : V) (old new : View) → g ≡ unbound_in old (length old.objects) f → IfOk r (LeadsTo (λ a. has_instance_by (naming_of old.me) a.shared g v (party_of a old)) old new)
     → IfOk r (LeadsTo (λ a. has_instance (naming_of old.me) a.shared v (value.Ref f) (party_of a old)) old new)

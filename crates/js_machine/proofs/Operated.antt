@@ -19,7 +19,6 @@ use Rattle.js_run.specs.Runs.{answered}
 use Rattle.js_operators.specs.Deeds.{Does, MachineAct, MachineNaming, MachineParty, act_of}
 use Rattle.js_operators.specs.declared.operation.Operation.{Operation}
 use Rattle.js_machine.specs.Looks.{marks_in}
-use Rattle.js_machine.specs.Operands.{number_in}
 use Rattle.js_machine.specs.Steps.{IsDelivered, LeadsTo, Pays, deed_with, settles, under, with_top, without_top}
 use Rattle.js_machine.specs.Views.{Around, View, fitting, has_value, is_completion, party_of, top, values_without}
 use Rattle.js_machine.specs.declared.frame.Frame.TheVariants as frame
@@ -39,14 +38,6 @@ pub does_so : {E : Type 0} (r : Result Mode E) (deed : MachineNaming → Shared 
 does_so r deed o old new d h =
     same_deed r (λ a. act_of (naming_of old.me) a.shared o (party_of a old)) (λ a. deed (naming_of old.me) a.shared (party_of a old)) old new
     (λ a. (let b = fitting old a in sym (d.does old.me b.shared b.numbers (party_of b old)))) h
-
-is_number : (v : V) (a : ℤ) → number_in v ≡ Some a → v ≡ value.Int a
-is_number (value.Int n) a e = cc
-is_number v a e = cc
-
-pub on_numbers : {E : Type 0} (r : Result Operation E) (o : BinaryOperator) (x y : Option ℤ) (a b : ℤ) (v w : V) → x ≡ number_in v → x ≡ Some a → y ≡ number_in w → y ≡ Some b → IfOk r (Does (λ n s. binary_value n s o (value.Int a) (value.Int b)))
-    → IfOk r (Does (λ n s. binary_value n s o v w))
-on_numbers r o x y a b v w e f g d h = subst (λ z. IfOk r (Does (λ n s. binary_value n s o z w))) (sym (is_number v a (sym e ∙ f))) (subst (λ z. IfOk r (Does (λ n s. binary_value n s o (value.Int a) z))) (sym (is_number w b (sym g ∙ d))) h)
 
 -- the left operand was taken off
 pub left_taken : {E : Type 0} (r : Result Mode E) (o : BinaryOperator) (v w : V) (old mid new : View) → v ≡ top old.values → mid ≡ without_top old
@@ -89,9 +80,16 @@ paid_by (mode.Break l) old c = record { stands = λ a. refl; keeps = (refl, (ref
 paid_by (mode.Continue l) old c = record { stands = λ a. refl; keeps = (refl, (refl, (refl, (refl, refl)))) }
 paid_by (mode.End h) old c = cc
 paid_by (mode.Pay i) old c = cc
+paid_by (mode.Serve i) old c = cc
 
-pub paid : (m : Mode) (n : ℕ) (old new : View) → is_completion m ≡ true → n ≡ (if has_value m then 1 else 0) → new ≡ record old { values = drop n old.values } → IsDelivered frame.Paid m old new mode.Value
-paid m n old new c e s = subst (λ w. IsDelivered frame.Paid m old w mode.Value) (sym (s ∙ ap (λ i. record old { values = drop i old.values }) e)) (paid_by m old c)
+paid : (m : Mode) (b : Bool) (old new : View) → is_completion m ≡ true → has_value m ≡ b → new ≡ record old { values = drop (if b then 1 else 0) old.values } → IsDelivered frame.Paid m old new mode.Value
+paid m b old new c e s = subst (λ w. IsDelivered frame.Paid m old w mode.Value) (sym (s ∙ ap (λ i. record old { values = drop (if i then 1 else 0) old.values }) (sym e))) (paid_by m old c)
+
+pub paid_with : (m : Mode) (b : Bool) (old new : View) → is_completion m ≡ true → b ≡ has_value m → b ≡ true → new ≡ without_top old → IsDelivered frame.Paid m old new mode.Value
+paid_with m b old new c e t s = paid m true old new c (sym e ∙ t) s
+
+pub paid_without : (m : Mode) (b : Bool) (old : View) → is_completion m ≡ true → b ≡ has_value m → b ≡ false → IsDelivered frame.Paid m old old mode.Value
+paid_without m b old c e t = paid m false old old c (sym e ∙ t) refl
 
 -- LOOKS
 

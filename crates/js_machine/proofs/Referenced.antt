@@ -65,21 +65,21 @@ named r o t k old new s h = subst (λ x. IfOk r (WaitsForValue frame.Given x (as
 abbrev Keyed : Type 0
 Keyed = Option (Key MadeSymbol)
 
-module _ (o v : Value Ref MadeSymbol) (b : Bool) (old : View) (e : b ≡ is_nullish o) (f : b ≡ false) where
+module _ (o v : Value Ref MadeSymbol) (old : View) (e : is_nullish o ≡ false) where
   abbrev Gets : View → Mode → Type 0
   Gets new m = LeadsTo (λ a. get_key (naming_of old.me) a.shared o v (party_of a old)) old new m
 
   pub got : {E : Type 0} (r : Result Mode E) (x : Keyed) (k : Key MadeSymbol) (new : View) → x ≡ plain_key v → x ≡ Some k → IfOk r (WaitsForValue frame.Given o (ask.Get k o) old new) → IfOk r (Gets new)
   got r x k new g s h =
       same_deed r (λ a. asks_value (naming_of old.me) o (ask.Get k o) (party_of a old) (over frame.Given old a)) (λ a. get_key (naming_of old.me) a.shared o v (party_of a old)) old new
-      (λ a. reference_known (naming_of old.me) (fitting old a).shared o v k (party_of (fitting old a) old) (λ name q. asks_value (naming_of old.me) o (ask.Get name o) q (with_value give)) (sym e ∙ f) (sym g ∙ s)) h
+      (λ a. reference_known (naming_of old.me) (fitting old a).shared o v k (party_of (fitting old a) old) (λ name q. asks_value (naming_of old.me) o (ask.Get name o) q (with_value give)) e (sym g ∙ s)) h
 
   pub got_later : {E : Type 0} (r : Result Mode E) (mid new : View) → mid ≡ with_top o old → IfOk r (BecomesKey v key_goal.Get mid new) → IfOk r (Gets new)
   got_later (Ok m) mid new s h =
       let w = subst (λ (x : View). BecomesKey v key_goal.Get x new m) s h in
       let made : LeadsTo (λ a. to_key (naming_of old.me) a.shared v (party_of a old) (key_deed (naming_of old.me) a.shared key_goal.Get (o ∷ old.values))) old new m = record { leads = λ a. w.leads a; keeps = w.keeps } in
       same_deed {E = ℕ} (Ok m) (λ a. to_key (naming_of old.me) a.shared v (party_of a old) (key_deed (naming_of old.me) a.shared key_goal.Get (o ∷ old.values))) (λ a. get_key (naming_of old.me) a.shared o v (party_of a old)) old new
-      (λ a. (let b = fitting old a in reference_made (naming_of old.me) b.shared o v (party_of b old) (key_deed (naming_of old.me) b.shared key_goal.Get (o ∷ old.values)) (sym e ∙ f))) made
+      (λ a. (let b = fitting old a in reference_made (naming_of old.me) b.shared o v (party_of b old) (key_deed (naming_of old.me) b.shared key_goal.Get (o ∷ old.values)) e)) made
   got_later (Err x) mid new s h = tt
 
   abbrev Deletes : View → Mode → Type 0
@@ -88,14 +88,14 @@ module _ (o v : Value Ref MadeSymbol) (b : Bool) (old : View) (e : b ≡ is_null
   pub deleted : {E : Type 0} (r : Result Mode E) (x : Keyed) (k : Key MadeSymbol) (new : View) → x ≡ plain_key v → x ≡ Some k → IfOk r (WaitsForValue frame.HasDeleted o (ask.Delete k) old new) → IfOk r (Deletes new)
   deleted r x k new g s h =
       same_deed r (λ a. asks_value (naming_of old.me) o (ask.Delete k) (party_of a old) (over frame.HasDeleted old a)) (λ a. delete_property (naming_of old.me) a.shared o v (party_of a old)) old new
-      (λ a. reference_known (naming_of old.me) (fitting old a).shared o v k (party_of (fitting old a) old) (λ name q. asks_value (naming_of old.me) o (ask.Delete name) q (has_deleted (naming_of old.me) (fitting old a).shared)) (sym e ∙ f) (sym g ∙ s)) h
+      (λ a. reference_known (naming_of old.me) (fitting old a).shared o v k (party_of (fitting old a) old) (λ name q. asks_value (naming_of old.me) o (ask.Delete name) q (has_deleted (naming_of old.me) (fitting old a).shared)) e (sym g ∙ s)) h
 
   pub deleted_later : {E : Type 0} (r : Result Mode E) (mid new : View) → mid ≡ with_top o old → IfOk r (BecomesKey v key_goal.Delete mid new) → IfOk r (Deletes new)
   deleted_later (Ok m) mid new s h =
       let w = subst (λ (x : View). BecomesKey v key_goal.Delete x new m) s h in
       let made : LeadsTo (λ a. to_key (naming_of old.me) a.shared v (party_of a old) (key_deed (naming_of old.me) a.shared key_goal.Delete (o ∷ old.values))) old new m = record { leads = λ a. w.leads a; keeps = w.keeps } in
       same_deed {E = ℕ} (Ok m) (λ a. to_key (naming_of old.me) a.shared v (party_of a old) (key_deed (naming_of old.me) a.shared key_goal.Delete (o ∷ old.values))) (λ a. delete_property (naming_of old.me) a.shared o v (party_of a old)) old new
-      (λ a. (let b = fitting old a in reference_made (naming_of old.me) b.shared o v (party_of b old) (key_deed (naming_of old.me) b.shared key_goal.Delete (o ∷ old.values)) (sym e ∙ f))) made
+      (λ a. (let b = fitting old a in reference_made (naming_of old.me) b.shared o v (party_of b old) (key_deed (naming_of old.me) b.shared key_goal.Delete (o ∷ old.values)) e)) made
   deleted_later (Err x) mid new s h = tt
 
 pub set_asked : {E : Type 0} (r : Result Mode E) (o t x y : Value Ref MadeSymbol) (k : Key MadeSymbol) (old mid new : View) → t ≡ o → y ≡ x → mid ≡ with_top y old

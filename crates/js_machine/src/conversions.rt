@@ -82,7 +82,6 @@ impl Machine {
     }
 
     /// The next method is tried, if there is one.
-    #[tactic(auto, using(crate::proofs::Converted::no_method))]
     fn next_method(&mut self, object: Ref, goal: Goal, last: bool) -> Result<Mode, OutOfMemory>
         ensures { let methods = methods_behind last (as_text goal) in
             IfOk result (BecomesBy methods object goal self.old self.new) }
@@ -95,7 +94,6 @@ impl Machine {
     }
 
     /// A method of an object is called.
-    #[tactic(auto, using(crate::proofs::Converted::method_asks))]
     fn call_method(
         &mut self,
         object: Ref,
@@ -108,13 +106,12 @@ impl Machine {
         self.push(Value::Ref(object))?;
         let ask = Ask::Call {
             this: Value::Ref(object),
-            args: List::new(),
+            args: List::new(self.alloc),
         };
         self.ask(function, ask, Frame::MethodCalled { last, goal })
     }
 
     /// A method of an object is known: it is called where it can be, and else the next one is tried.
-    #[tactic(auto, using(crate::proofs::Converted::method_calls, crate::proofs::Converted::method_missing))]
     fn method_known(
         &mut self,
         object: Ref,
@@ -131,7 +128,6 @@ impl Machine {
     }
 
     /// A method comes to the frame that has the object.
-    #[tactic(auto, using(crate::proofs::Converted::method_taken))]
     pub fn method_got(&mut self, last: bool, goal: Goal, method: Value) -> Result<Mode, OutOfMemory>
         ensures { let frame = frame_kind.MethodGot last goal in
             IfOk result (LeadsTo (deed_with frame method self.old) (under frame self.old) self.new) }
@@ -141,7 +137,6 @@ impl Machine {
     }
 
     /// What a method gave is known: a value that is no object is the primitive one, and else the next method is tried.
-    #[tactic(auto, using(crate::proofs::Converted::result_object, crate::proofs::Converted::result_reached))]
     fn result_known(
         &mut self,
         object: Ref,
@@ -158,7 +153,6 @@ impl Machine {
     }
 
     /// What a method gave comes to the frame that has the object.
-    #[tactic(auto, using(crate::proofs::Converted::result_taken))]
     pub fn method_gave(&mut self, last: bool, goal: Goal, value: Value) -> Result<Mode, OutOfMemory>
         ensures { let frame = frame_kind.MethodCalled last goal in
             IfOk result (LeadsTo (deed_with frame value self.old) (under frame self.old) self.new) }
@@ -178,7 +172,6 @@ impl Machine {
     }
 
     /// A primitive value becomes a property key (ECMA-262, ToPropertyKey, steps 2 and 3).
-    #[tactic(auto, using(crate::proofs::Converted::key_reached, crate::proofs::Converted::no_key))]
     fn reach_key(&mut self, goal: KeyGoal, value: Value) -> Result<Mode, OutOfMemory>
         ensures { let goal = goal_kind.Key goal in
             IfOk result (Reaches goal value self.old self.new) }
@@ -204,7 +197,6 @@ impl Machine {
     }
 
     /// A value becomes a property key, and what that is for goes on with it: at once, or once an object became a primitive value (ECMA-262, ToPropertyKey). What it is for stands on the stack of values.
-    #[tactic(auto, using(crate::proofs::Converted::key_plain, crate::proofs::Converted::key_converts))]
     pub fn with_key_of(&mut self, value: Value, goal: KeyGoal) -> Result<Mode, OutOfMemory>
         ensures { IfOk result (BecomesKey value goal self.old self.new) }
     {

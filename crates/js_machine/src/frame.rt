@@ -368,19 +368,12 @@ impl Frame {
     pub fn takes_values(self) -> bool
         ensures { result ≡ takes_values self }
     {
-        !matches!(
-            self,
-            Frame::ScopeExit { .. }
-                | Frame::Turned { .. }
-                | Frame::Label { .. }
-                | Frame::Guarded { .. }
-                | Frame::Handled { .. }
-                | Frame::Decides
-                | Frame::Called
-                | Frame::Constructed { .. }
-                | Frame::Derived
-                | Frame::Built
-                | Frame::Paid
-        )
+        match self {
+            Frame::ScopeExit { .. } | Frame::Turned { .. } | Frame::Label { .. } => false,
+            Frame::Guarded { .. } | Frame::Handled { .. } => false,
+            Frame::Decides | Frame::Paid => false,
+            Frame::Called | Frame::Constructed { .. } | Frame::Derived | Frame::Built => false,
+            _ => true,
+        }
     }
 }

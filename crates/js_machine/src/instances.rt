@@ -82,7 +82,6 @@ impl Machine {
     }
 
     /// An object is asked for its prototype, where another object is sought.
-    #[tactic(auto, using(crate::proofs::Instance_laws::sought))]
     pub fn seek(&mut self, object: Ref, prototype: Ref) -> Result<Mode, OutOfMemory>
         ensures { let inherited = value_kind.Ref prototype in
             IfOk result (LeadsTo (λ a. prototype_inherited (naming_of self.old.me) a.shared object inherited
@@ -114,7 +113,6 @@ impl Machine {
     }
 
     /// A function that is not bound is asked for its `prototype`, from which an object may inherit.
-    #[tactic(auto, using(crate::proofs::Instance_laws::prototype_asked))]
     pub fn get_prototype(&mut self, function: Ref, object: Ref) -> Result<Mode, OutOfMemory>
         ensures { let instance = value_kind.Ref object in
             IfOk result (LeadsTo (λ a. has_instance_by (naming_of self.old.me) a.shared function instance
@@ -130,7 +128,7 @@ impl Machine {
     }
 
     /// Whether a value inherits from a function that is not bound (ECMA-262, OrdinaryHasInstance, steps 3 to 6).
-    #[tactic(auto, using(crate::proofs::Instance_laws::instance_object, crate::proofs::Instance_laws::instance_other))]
+    #[tactic(auto, using(crate::proofs::Instance_laws::instance_other))]
     fn has_instance_by(&mut self, function: Ref, value: Value) -> Result<Mode, OutOfMemory>
         ensures { IfOk result (LeadsTo (λ a. has_instance_by (naming_of self.old.me) a.shared function value
             (party_of a self.old)) self.old self.new) }
@@ -142,7 +140,6 @@ impl Machine {
     }
 
     /// Whether a value inherits from a function (ECMA-262, OrdinaryHasInstance).
-    #[tactic(auto, using(crate::proofs::Instance_laws::instance_unbound))]
     pub fn has_instance(&mut self, function: Ref, value: Value) -> Result<Mode, OutOfMemory>
         ensures { let callee = value_kind.Ref function in
             IfOk result (LeadsTo (λ a. has_instance (naming_of self.old.me) a.shared value callee
@@ -176,7 +173,6 @@ impl Machine {
     }
 
     /// The prototype of an object comes to the frame that has the object that is sought.
-    #[tactic(auto, using(crate::proofs::Instance_laws::sought_known))]
     pub fn deliver_inherits(&mut self, prototype: Option<Ref>) -> Result<Mode, OutOfMemory>
         ensures { let reply = reply_kind.Proto prototype in
             IfOk result (LeadsTo (deed_replied frame_kind.Inherits reply self.old)

@@ -1,7 +1,8 @@
 // Operators: what they do with the values of their operands.
 
-ghost use Rattle.std.specs.Prelude.{◌≡◌, ◌/◌, IfOk, length, true};
+ghost use Rattle.std.specs.Prelude.{◌≡◌, ◌/◌, ◌≤◌, IfOk, IfSome, length, true};
 ghost use Rattle.js_text.specs.Naming.{naming_of};
+ghost use Rattle.js_text.specs.declared.text.TheConstants.{MAX_UNITS as most_units};
 ghost use Rattle.js_text.specs.declared.value.Value.TheVariants as value_kind;
 ghost use Rattle.js_native.specs.declared.costs.TheConstants.{UNITS_A_STEP as units_a_step};
 ghost use Rattle.js_run.specs.Acts.{give};
@@ -9,7 +10,7 @@ ghost use Rattle.js_run.specs.Asking.{see_callable};
 ghost use Rattle.js_run.specs.Operators.{binary_value, given_text, to_primitive, unary_value};
 ghost use Rattle.js_operators.specs.Deeds.{Does, act_of, becomes_key, look_deed, rest_deed};
 ghost use Rattle.js_machine.specs.Conversions.{Reaches};
-ghost use Rattle.js_machine.specs.Operands.{number_in, type_name};
+ghost use Rattle.js_machine.specs.Operands.{type_name};
 ghost use Rattle.js_machine.specs.Steps.{IsDelivered, LeadsTo, deed_with, under};
 ghost use Rattle.js_machine.specs.Views.{is_completion, party_of};
 ghost use Rattle.js_machine.specs.declared.frame.Frame.TheVariants as frame_kind;
@@ -35,23 +36,30 @@ use std::alloc::Global;
 
 /// How many steps a text costs that is made.
 fn text_steps(text: &Text) -> u32
-    ensures { result ≡ length text.now / units_a_step }
+    ensures steps { result ≡ length text.now / units_a_step }
+    ensures within { length text.now ≤ most_units }
 {
     text.len() / UNITS_A_STEP as u32
 }
 
-/// The number that a value is.
-fn number_in(value: &Value) -> Option<i64>
-    ensures { result ≡ number_in value.now }
+/// What a binary operator does with two numbers, which need no conversion.
+fn on_numbers(
+    operator: BinaryOperator,
+    left: &Value,
+    right: &Value,
+) -> Result<Option<Operation>, OutOfMemory>
+    ensures { IfOk result (λ o. IfSome o (Does (λ n s. binary_value n s operator left.now right.now))) }
 {
-    match value {
-        Value::Int(number) => Some(*number),
-        _ => None,
+    match left {
+        Value::Int(first) => match right {
+            Value::Int(second) => Ok(Some(integer_operation(operator, *first, *second)?)),
+            _ => Ok(None),
+        },
+        _ => Ok(None),
     }
 }
 
-/// What a binary operator does with its operands. Of two numbers nothing is converted.
-#[tactic(auto, using(crate::proofs::Operated::on_numbers))]
+/// What a binary operator does with its operands.
 fn operation_on(
     alloc: Global,
     operator: BinaryOperator,
@@ -60,17 +68,14 @@ fn operation_on(
 ) -> Result<Operation, OutOfMemory>
     ensures { IfOk result (Does (λ n s. binary_value n s operator left right)) }
 {
-    if let Some(first) = number_in(&left) {
-        if let Some(second) = number_in(&right) {
-            return integer_operation(operator, first, second);
-        }
+    match on_numbers(operator, &left, &right)? {
+        Some(operation) => Ok(operation),
+        None => binary_operation(alloc, operator, left, right),
     }
-    binary_operation(alloc, operator, left, right)
 }
 
 impl Machine {
     /// A text that was made is given, once its units are paid for.
-    #[tactic(auto, using(crate::proofs::Operated::short_given, crate::proofs::Operated::long_given))]
     fn give_made(&mut self, text: Text) -> Result<Mode, OutOfMemory>
         ensures { IfOk result (LeadsTo (λ a. given_text text (party_of a self.old))
             self.old self.new) }
@@ -84,12 +89,14 @@ impl Machine {
     }
 
     /// What was charged for is paid: the value is given.
-    #[tactic(auto, using(crate::proofs::Operated::paid))]
     pub fn deliver_paid(&mut self, mode: Mode) -> Result<Mode, OutOfMemory>
         requires { is_completion mode ≡ true }
         ensures { IfOk result (IsDelivered frame_kind.Paid mode self.old self.new) }
     {
-        self.discard(u64::from(mode.has_value()));
+        if mode.has_value() {
+            let _paid = self.take();
+            return Ok(Mode::Value);
+        }
         Ok(Mode::Value)
     }
 
@@ -126,7 +133,6 @@ impl Machine {
     }
 
     /// Looks whether an object can be called (ECMA-262, IsCallable).
-    #[tactic(auto, using(crate::proofs::Operated::seen_callable))]
     fn look(&mut self, look: Look, object: Ref, held: Value) -> Result<Mode, OutOfMemory>
         ensures { let names = naming_of self.old.me in
             let target = value_kind.Ref object in
@@ -138,7 +144,6 @@ impl Machine {
     }
 
     /// An object becomes a primitive value for an operator, which holds an operand.
-    #[tactic(auto, using(crate::proofs::Converted::operand_converts))]
     fn convert_operand(
         &mut self,
         object: Ref,
@@ -165,7 +170,7 @@ impl Machine {
             Operation::Fault(fault) => self.fault(fault),
             Operation::End(kind) => self.end_as(kind),
             Operation::Converts { object, rest, held } => self.convert_operand(object, rest, held),
-            Operation::Looks { object, look, held } => self.look(object, look, held),
+            Operation::Looks { object, look, held } => self.look(look, object, held),
             Operation::HasProperty { object, key } => {
                 self.ask(object, Ask::HasProperty { key }, Frame::Told)
             }
@@ -176,7 +181,6 @@ impl Machine {
     }
 
     /// A unary operator has its operand (ECMA-262, Unary Operators).
-    #[tactic(auto, using(crate::proofs::Operated::does_so))]
     pub fn unary(&mut self, operator: UnaryOperator, value: Value) -> Result<Mode, OutOfMemory>
         ensures { IfOk result (LeadsTo (λ a. unary_value (naming_of self.old.me) a.shared operator value
             (party_of a self.old)) self.old self.new) }
@@ -186,7 +190,6 @@ impl Machine {
     }
 
     /// A binary operator has its operands (ECMA-262, EvaluateStringOrNumericBinaryExpression).
-    #[tactic(auto, using(crate::proofs::Operated::does_so))]
     fn binary(
         &mut self,
         operator: BinaryOperator,

@@ -49,6 +49,16 @@ impl Machine {
         self.get_named(object, key)
     }
 
+    /// The key of a property that is read is an object.
+    fn convert_to_get(&mut self, object: Value, key: Value) -> Result<Mode, OutOfMemory>
+        requires { is_nullish object ≡ Bool.false }
+        ensures { IfOk result (LeadsTo (λ a. get_key (naming_of self.old.me) a.shared object key
+            (party_of a self.old)) self.old self.new) }
+    {
+        self.push(object)?;
+        self.with_key_of(key, KeyGoal::Get)
+    }
+
     /// The value of a property of a value (ECMA-262, GetValue, step 3).
     pub fn get_key(&mut self, object: Value, key: Value) -> Result<Mode, OutOfMemory>
         ensures { IfOk result (LeadsTo (λ a. get_key (naming_of self.old.me) a.shared object key
@@ -59,10 +69,7 @@ impl Machine {
         }
         match key_at_once(self.alloc, &key)? {
             Some(key) => self.get_named(object, key),
-            None => {
-                self.push(object)?;
-                self.with_key_of(key, KeyGoal::Get)
-            }
+            None => self.convert_to_get(object, key),
         }
     }
 
@@ -134,6 +141,16 @@ impl Machine {
         self.fault(FaultText::CannotSet)
     }
 
+    /// The key of a property that is deleted is an object.
+    fn convert_to_delete(&mut self, object: Value, key: Value) -> Result<Mode, OutOfMemory>
+        requires { is_nullish object ≡ Bool.false }
+        ensures { IfOk result (LeadsTo (λ a. delete_property (naming_of self.old.me) a.shared object key
+            (party_of a self.old)) self.old self.new) }
+    {
+        self.push(object)?;
+        self.with_key_of(key, KeyGoal::Delete)
+    }
+
     /// A property of a value is deleted (ECMA-262, "The delete Operator").
     pub fn delete_property(&mut self, object: Value, key: Value) -> Result<Mode, OutOfMemory>
         ensures { IfOk result (LeadsTo (λ a. delete_property (naming_of self.old.me) a.shared object key
@@ -144,10 +161,7 @@ impl Machine {
         }
         match key_at_once(self.alloc, &key)? {
             Some(key) => self.ask_value(object, Ask::Delete { key }, Frame::HasDeleted),
-            None => {
-                self.push(object)?;
-                self.with_key_of(key, KeyGoal::Delete)
-            }
+            None => self.convert_to_delete(object, key),
         }
     }
 

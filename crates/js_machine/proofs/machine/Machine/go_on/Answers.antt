@@ -52,3 +52,18 @@ returns-in-CallMethod c = arm c.method_comes.result c.args.frame (frame.CallMeth
 
 pub returns-in-Arguments : goal.returns-in-Arguments
 returns-in-Arguments c = arm c.argument_comes.result c.args.frame (frame.Arguments c.in-Arguments.purpose c.in-Arguments.done c.in-Arguments.start c.in-Arguments.left) c.args.value c.args.self.now c.argument_comes.new.self c.in-Arguments.is c.argument_comes.ensures
+
+pub returns-in-Unary : goal.returns-in-Unary
+returns-in-Unary c = arm c.unary.result c.args.frame (frame.Unary c.in-Unary.operator) c.args.value c.args.self.now c.unary.new.self c.in-Unary.is c.unary.ensures
+
+pub returns-in-BinaryRight : goal.returns-in-BinaryRight
+returns-in-BinaryRight c = arm c.go_on_binary.result c.args.frame (frame.BinaryRight c.in-BinaryRight.operator) c.args.value c.args.self.now c.go_on_binary.new.self c.in-BinaryRight.is c.go_on_binary.ensures
+
+pub returns-in-InstanceOf : goal.returns-in-InstanceOf
+returns-in-InstanceOf c = arm c.prototype_comes.result c.args.frame frame.InstanceOf c.args.value c.args.self.now c.prototype_comes.new.self c.in-InstanceOf.is c.prototype_comes.ensures
+
+pub returns-in-MethodGot : goal.returns-in-MethodGot
+returns-in-MethodGot c = arm c.method_got.result c.args.frame (frame.MethodGot c.in-MethodGot.last c.in-MethodGot.goal) c.args.value c.args.self.now c.method_got.new.self c.in-MethodGot.is c.method_got.ensures
+
+pub returns-in-MethodCalled : goal.returns-in-MethodCalled
+returns-in-MethodCalled c = arm c.method_gave.result c.args.frame (frame.MethodCalled c.in-MethodCalled.last c.in-MethodCalled.goal) c.args.value c.args.self.now c.method_gave.new.self c.in-MethodCalled.is c.method_gave.ensures
