@@ -88,11 +88,7 @@ impl Machine {
     }
 
     /// A frame that waits for a prototype goes on with it.
-    fn go_on_prototype(
-        &mut self,
-        frame: Frame,
-        prototype: Option<Ref>,
-    ) -> Result<Mode, OutOfMemory>
+    fn go_on_prototype(&mut self, frame: Frame, prototype: Option<Ref>) -> Result<Mode, OutOfMemory>
         ensures { let reply = reply_kind.Proto prototype in
             IfOk result (LeadsTo (deed_replied frame reply self.old)
             (under frame self.old) self.new) }

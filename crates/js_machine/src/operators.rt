@@ -1,6 +1,6 @@
 // Operators: what they do with the values of their operands.
 
-ghost use Rattle.std.specs.Prelude.{◌≡◌, ◌/◌, ◌≤◌, IfOk, IfSome, length, true};
+ghost use Rattle.std.specs.Prelude.{◌≡◌, ◌/◌, ◌≤◌, IfOk, length, true};
 ghost use Rattle.js_text.specs.Naming.{naming_of};
 ghost use Rattle.js_text.specs.declared.text.TheConstants.{MAX_UNITS as most_units};
 ghost use Rattle.js_text.specs.declared.value.Value.TheVariants as value_kind;
@@ -42,20 +42,19 @@ fn text_steps(text: &Text) -> u32
     text.len() / UNITS_A_STEP as u32
 }
 
-/// What a binary operator does with two numbers, which need no conversion.
-fn on_numbers(
+/// What a binary operator does with a number and its right operand. Of two numbers nothing is converted.
+fn operation_on_number(
+    alloc: Global,
     operator: BinaryOperator,
-    left: &Value,
-    right: &Value,
-) -> Result<Option<Operation>, OutOfMemory>
-    ensures { IfOk result (λ o. IfSome o (Does (λ n s. binary_value n s operator left.now right.now))) }
+    left: i64,
+    right: Value,
+) -> Result<Operation, OutOfMemory>
+    ensures { let number = value_kind.Int left in
+        IfOk result (Does (λ n s. binary_value n s operator number right)) }
 {
-    match left {
-        Value::Int(first) => match right {
-            Value::Int(second) => Ok(Some(integer_operation(operator, *first, *second)?)),
-            _ => Ok(None),
-        },
-        _ => Ok(None),
+    match right {
+        Value::Int(right) => integer_operation(operator, left, right),
+        right => binary_operation(alloc, operator, Value::Int(left), right),
     }
 }
 
@@ -68,9 +67,9 @@ fn operation_on(
 ) -> Result<Operation, OutOfMemory>
     ensures { IfOk result (Does (λ n s. binary_value n s operator left right)) }
 {
-    match on_numbers(operator, &left, &right)? {
-        Some(operation) => Ok(operation),
-        None => binary_operation(alloc, operator, left, right),
+    match left {
+        Value::Int(left) => operation_on_number(alloc, operator, left, right),
+        left => binary_operation(alloc, operator, left, right),
     }
 }
 
@@ -144,12 +143,7 @@ impl Machine {
     }
 
     /// An object becomes a primitive value for an operator, which holds an operand.
-    fn convert_operand(
-        &mut self,
-        object: Ref,
-        rest: Rest,
-        held: Value,
-    ) -> Result<Mode, OutOfMemory>
+    fn convert_operand(&mut self, object: Ref, rest: Rest, held: Value) -> Result<Mode, OutOfMemory>
         ensures { let names = naming_of self.old.me in
             let operand = value_kind.Ref object in
             IfOk result (LeadsTo (λ a. to_primitive names a.shared (becomes_key rest) operand

@@ -100,7 +100,12 @@ impl Machine {
     }
 
     /// The key of a property that is set is an object.
-    fn convert_to_put(&mut self, object: Value, key: Value, value: Value) -> Result<Mode, OutOfMemory>
+    fn convert_to_put(
+        &mut self,
+        object: Value,
+        key: Value,
+        value: Value,
+    ) -> Result<Mode, OutOfMemory>
         requires { is_nullish object ≡ Bool.false }
         ensures { IfOk result (LeadsTo (λ a. put_property (naming_of self.old.me) a.shared object key value
             (party_of a self.old)) self.old self.new) }
