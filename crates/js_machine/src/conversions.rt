@@ -130,7 +130,8 @@ impl Machine {
     /// A method comes to the frame that has the object.
     pub fn method_got(&mut self, last: bool, goal: Goal, method: Value) -> Result<Mode, OutOfMemory>
         ensures { let frame = frame_kind.MethodGot last goal in
-            IfOk result (LeadsTo (deed_with frame method self.old) (under frame self.old) self.new) }
+            IfOk result (LeadsTo (deed_with frame method self.old)
+            (under frame self.old) self.new) }
     {
         let object = self.take_object();
         self.method_known(object, goal, last, method)

@@ -84,8 +84,8 @@ impl Machine {
     /// An object is asked for its prototype, where another object is sought.
     pub fn seek(&mut self, object: Ref, prototype: Ref) -> Result<Mode, OutOfMemory>
         ensures { let inherited = value_kind.Ref prototype in
-            IfOk result (LeadsTo (λ a. prototype_inherited (naming_of self.old.me) a.shared object inherited
-            (party_of a self.old)) self.old self.new) }
+            IfOk result (LeadsTo (λ a. prototype_inherited (naming_of self.old.me) a.shared object
+            inherited (party_of a self.old)) self.old self.new) }
     {
         self.push(Value::Ref(prototype))?;
         self.ask(object, Ask::GetPrototypeOf, Frame::Inherits)
@@ -94,8 +94,8 @@ impl Machine {
     /// What a function has as `prototype` is known (ECMA-262, OrdinaryHasInstance, steps 5 and 6).
     #[tactic(auto, using(crate::proofs::Instance_laws::inherited_object, crate::proofs::Instance_laws::inherited_other))]
     fn prototype_inherited(&mut self, object: Ref, prototype: Value) -> Result<Mode, OutOfMemory>
-        ensures { IfOk result (LeadsTo (λ a. prototype_inherited (naming_of self.old.me) a.shared object prototype
-            (party_of a self.old)) self.old self.new) }
+        ensures { IfOk result (LeadsTo (λ a. prototype_inherited (naming_of self.old.me) a.shared
+            object prototype (party_of a self.old)) self.old self.new) }
     {
         match object_of_value(&prototype) {
             Some(prototype) => self.seek(object, prototype),
@@ -106,7 +106,8 @@ impl Machine {
     /// What a function has as `prototype` comes to the frame that has the object.
     pub fn prototype_comes(&mut self, prototype: Value) -> Result<Mode, OutOfMemory>
         ensures { let frame = frame_kind.InstanceOf in
-            IfOk result (LeadsTo (deed_with frame prototype self.old) (under frame self.old) self.new) }
+            IfOk result (LeadsTo (deed_with frame prototype self.old)
+            (under frame self.old) self.new) }
     {
         let object = self.take_object();
         self.prototype_inherited(object, prototype)
@@ -115,8 +116,8 @@ impl Machine {
     /// A function that is not bound is asked for its `prototype`, from which an object may inherit.
     pub fn get_prototype(&mut self, function: Ref, object: Ref) -> Result<Mode, OutOfMemory>
         ensures { let instance = value_kind.Ref object in
-            IfOk result (LeadsTo (λ a. has_instance_by (naming_of self.old.me) a.shared function instance
-            (party_of a self.old)) self.old self.new) }
+            IfOk result (LeadsTo (λ a. has_instance_by (naming_of self.old.me) a.shared function
+            instance (party_of a self.old)) self.old self.new) }
     {
         let key = self.keys.prototype()?;
         self.push(Value::Ref(object))?;
@@ -130,8 +131,8 @@ impl Machine {
     /// Whether a value inherits from a function that is not bound (ECMA-262, OrdinaryHasInstance, steps 3 to 6).
     #[tactic(auto, using(crate::proofs::Instance_laws::instance_other))]
     fn has_instance_by(&mut self, function: Ref, value: Value) -> Result<Mode, OutOfMemory>
-        ensures { IfOk result (LeadsTo (λ a. has_instance_by (naming_of self.old.me) a.shared function value
-            (party_of a self.old)) self.old self.new) }
+        ensures { IfOk result (LeadsTo (λ a. has_instance_by (naming_of self.old.me) a.shared
+            function value (party_of a self.old)) self.old self.new) }
     {
         match object_of_value(&value) {
             Some(object) => self.get_prototype(function, object),

@@ -117,8 +117,8 @@ impl Machine {
         held: Value,
         callable: bool,
     ) -> Result<Mode, OutOfMemory>
-        ensures { IfOk result (LeadsTo (λ a. look_deed (naming_of self.old.me) a.shared look object held
-            (party_of a self.old) callable) self.old self.new) }
+        ensures { IfOk result (LeadsTo (λ a. look_deed (naming_of self.old.me) a.shared look
+            object held (party_of a self.old) callable) self.old self.new) }
     {
         match look {
             Look::Typeof => self.give_type(callable),
@@ -176,8 +176,8 @@ impl Machine {
 
     /// A unary operator has its operand (ECMA-262, Unary Operators).
     pub fn unary(&mut self, operator: UnaryOperator, value: Value) -> Result<Mode, OutOfMemory>
-        ensures { IfOk result (LeadsTo (λ a. unary_value (naming_of self.old.me) a.shared operator value
-            (party_of a self.old)) self.old self.new) }
+        ensures { IfOk result (LeadsTo (λ a. unary_value (naming_of self.old.me) a.shared operator
+            value (party_of a self.old)) self.old self.new) }
     {
         let operation = unary_operation(self.alloc, operator, &value)?;
         self.operate(operation)
