@@ -35,3 +35,6 @@ pub mod Keyed
 pub mod Spread_out
 pub mod Above
 pub mod Chosen
+pub mod Operated
+pub mod Instance_laws
+pub mod Converted

@@ -27,7 +27,7 @@ to_delete (Ok m) o k old mid new e s h =
     record { leads = λ a. u.leads a; keeps = u.keeps }
 to_delete (Err x) o k old mid new e s h = tt
 
-twice : (vs : Values) → below (below vs) ≡ drop 2 vs
+pub twice : (vs : Values) → below (below vs) ≡ drop 2 vs
 twice [] = refl
 twice (v ∷ []) = refl
 twice (v ∷ u ∷ vs) = refl

@@ -132,6 +132,12 @@ module _ (names : Naming Ref MadeSymbol) (shared : Shared) (c : Tables) (v : Val
   by_frame (frame.CallSuperMethod args) m vs ws t a p = abrupt m a p (super_method names shared (arguments_at c (term_at c) args))
   by_frame (frame.SuperParent args) m vs ws t a p = no_prototype m a p _
   by_frame frame.BindThis m vs ws t a p = abrupt m a p _
+  by_frame frame.Paid m vs ws t a p = cc
+  by_frame frame.Told m vs ws t a p = no_flag m a p _
+  by_frame frame.InstanceOf m vs ws t a p = abrupt m a p _
+  by_frame frame.Inherits m vs ws t a p = no_prototype m a p _
+  by_frame (frame.MethodGot last g) m vs ws t a p = abrupt m a p _
+  by_frame (frame.MethodCalled last g) m vs ws t a p = abrupt m a p _
 
 -- nothing waits for a frame that takes values
 pub nothing_waits : (f : Frame) → takes_values f ≡ true → has_wait f ≡ false

@@ -1,5 +1,5 @@
 -- Properties and free names that are asked for.
-use Rattle.std.proofs.Common.{◌≡◌, ℕ, Bool, true, false, Some, sym, ap, ◌∙◌, subst, Result, Ok, Err, IfOk, if◌then◌else◌}
+use Rattle.std.proofs.Common.{◌≡◌, ℕ, Bool, true, false, ◌∷◌, Option, Some, sym, ap, ◌∙◌, subst, Result, Ok, Err, IfOk, if◌then◌else◌}
 use Rattle.std.specs.Option.{unwrap_or}
 use Rattle.lava_base.specs.declared.ids.MadeSymbol.{MadeSymbol}
 use Rattle.lava_base.specs.declared.ids.Ref.{Ref}
@@ -18,10 +18,12 @@ use Rattle.js_run.specs.Properties.{delete_property, get_global, global_value, h
 use Rattle.js_run.specs.Rows.{get_key}
 use Rattle.js_run.specs.Runs.{answered}
 use Rattle.js_run.specs.Truth.{is_nullish}
+use Rattle.js_machine.specs.Conversions.{BecomesKey}
 use Rattle.js_machine.specs.Keys.{plain_key}
 use Rattle.js_machine.specs.Steps.{Deed, LeadsTo, WaitsFor, WaitsForValue, over, settles, with_top}
-use Rattle.js_machine.specs.Views.{Around, View, fitting, party_of}
+use Rattle.js_machine.specs.Views.{Around, View, fitting, has_deleted, key_deed, party_of}
 use Rattle.js_machine.specs.declared.frame.Frame.TheVariants as frame
+use Rattle.js_machine.specs.declared.frame.KeyGoal.TheVariants as key_goal
 use Rattle.js_machine.specs.declared.frame.Mode.{Mode}
 
 -- two deeds that are the same act, whatever stands around
@@ -51,30 +53,73 @@ module _ (names : Naming Ref MadeSymbol) (shared : Shared) where
   pub reference_known : (o v : Value Ref MadeSymbol) (k : Key MadeSymbol) (p : Party Ref MadeSymbol) (go : Gone) → is_nullish o ≡ false → plain_key v ≡ Some k → on_reference names shared o v p go ≡ go k p
   reference_known o v k p go n e = ap (λ b. if b then faults names fault.CannotConvert p else to_key names shared v p go) n ∙ key_known v k p go e
 
+  pub reference_made : (o v : Value Ref MadeSymbol) (p : Party Ref MadeSymbol) (go : Gone) → is_nullish o ≡ false → on_reference names shared o v p go ≡ to_key names shared v p go
+  reference_made o v p go n = ap (λ b. if b then faults names fault.CannotConvert p else to_key names shared v p go) n
+
 -- PROPERTIES
 
-pub got : {E : Type 0} (r : Result Mode E) (o v t : Value Ref MadeSymbol) (k : Key MadeSymbol) (b : Bool) (old new : View) → b ≡ is_nullish o → b ≡ false → plain_key v ≡ Some k → t ≡ o
-    → IfOk r (WaitsForValue frame.Given t (ask.Get k o) old new) → IfOk r (LeadsTo (λ a. get_key (naming_of old.me) a.shared o v (party_of a old)) old new)
-got r o v t k b old new e f g s h =
-    same_deed r (λ a. asks_value (naming_of old.me) o (ask.Get k o) (party_of a old) (over frame.Given old a)) (λ a. get_key (naming_of old.me) a.shared o v (party_of a old)) old new
-    (λ a. reference_known (naming_of old.me) (fitting old a).shared o v k (party_of (fitting old a) old) (λ name q. asks_value (naming_of old.me) o (ask.Get name o) q (with_value give)) (sym e ∙ f) g)
-    (subst (λ x. IfOk r (WaitsForValue frame.Given x (ask.Get k o) old new)) s h)
+-- an object that was copied is asked
+pub named : {E : Type 0} (r : Result Mode E) (o t : Value Ref MadeSymbol) (k : Key MadeSymbol) (old new : View) → t ≡ o → IfOk r (WaitsForValue frame.Given t (ask.Get k o) old new) → IfOk r (WaitsForValue frame.Given o (ask.Get k o) old new)
+named r o t k old new s h = subst (λ x. IfOk r (WaitsForValue frame.Given x (ask.Get k o) old new)) s h
 
-pub put : {E : Type 0} (r : Result Mode E) (o v t x y : Value Ref MadeSymbol) (k : Key MadeSymbol) (old mid new : View) → is_nullish o ≡ false → plain_key v ≡ Some k → t ≡ o → y ≡ x → mid ≡ with_top y old
-    → IfOk r (WaitsForValue frame.HasSet t (ask.Set k x o) mid new) → IfOk r (LeadsTo (λ a. put_property (naming_of old.me) a.shared o v x (party_of a old)) old new)
-put r o v t x y k old mid new e g s u w h =
+abbrev Keyed : Type 0
+Keyed = Option (Key MadeSymbol)
+
+module _ (o v : Value Ref MadeSymbol) (old : View) (e : is_nullish o ≡ false) where
+  abbrev Gets : View → Mode → Type 0
+  Gets new m = LeadsTo (λ a. get_key (naming_of old.me) a.shared o v (party_of a old)) old new m
+
+  pub got : {E : Type 0} (r : Result Mode E) (x : Keyed) (k : Key MadeSymbol) (new : View) → x ≡ plain_key v → x ≡ Some k → IfOk r (WaitsForValue frame.Given o (ask.Get k o) old new) → IfOk r (Gets new)
+  got r x k new g s h =
+      same_deed r (λ a. asks_value (naming_of old.me) o (ask.Get k o) (party_of a old) (over frame.Given old a)) (λ a. get_key (naming_of old.me) a.shared o v (party_of a old)) old new
+      (λ a. reference_known (naming_of old.me) (fitting old a).shared o v k (party_of (fitting old a) old) (λ name q. asks_value (naming_of old.me) o (ask.Get name o) q (with_value give)) e (sym g ∙ s)) h
+
+  pub got_later : {E : Type 0} (r : Result Mode E) (mid new : View) → mid ≡ with_top o old → IfOk r (BecomesKey v key_goal.Get mid new) → IfOk r (Gets new)
+  got_later (Ok m) mid new s h =
+      let w = subst (λ (x : View). BecomesKey v key_goal.Get x new m) s h in
+      let made : LeadsTo (λ a. to_key (naming_of old.me) a.shared v (party_of a old) (key_deed (naming_of old.me) a.shared key_goal.Get (o ∷ old.values))) old new m = record { leads = λ a. w.leads a; keeps = w.keeps } in
+      same_deed {E = ℕ} (Ok m) (λ a. to_key (naming_of old.me) a.shared v (party_of a old) (key_deed (naming_of old.me) a.shared key_goal.Get (o ∷ old.values))) (λ a. get_key (naming_of old.me) a.shared o v (party_of a old)) old new
+      (λ a. (let b = fitting old a in reference_made (naming_of old.me) b.shared o v (party_of b old) (key_deed (naming_of old.me) b.shared key_goal.Get (o ∷ old.values)) e)) made
+  got_later (Err x) mid new s h = tt
+
+  abbrev Deletes : View → Mode → Type 0
+  Deletes new m = LeadsTo (λ a. delete_property (naming_of old.me) a.shared o v (party_of a old)) old new m
+
+  pub deleted : {E : Type 0} (r : Result Mode E) (x : Keyed) (k : Key MadeSymbol) (new : View) → x ≡ plain_key v → x ≡ Some k → IfOk r (WaitsForValue frame.HasDeleted o (ask.Delete k) old new) → IfOk r (Deletes new)
+  deleted r x k new g s h =
+      same_deed r (λ a. asks_value (naming_of old.me) o (ask.Delete k) (party_of a old) (over frame.HasDeleted old a)) (λ a. delete_property (naming_of old.me) a.shared o v (party_of a old)) old new
+      (λ a. reference_known (naming_of old.me) (fitting old a).shared o v k (party_of (fitting old a) old) (λ name q. asks_value (naming_of old.me) o (ask.Delete name) q (has_deleted (naming_of old.me) (fitting old a).shared)) e (sym g ∙ s)) h
+
+  pub deleted_later : {E : Type 0} (r : Result Mode E) (mid new : View) → mid ≡ with_top o old → IfOk r (BecomesKey v key_goal.Delete mid new) → IfOk r (Deletes new)
+  deleted_later (Ok m) mid new s h =
+      let w = subst (λ (x : View). BecomesKey v key_goal.Delete x new m) s h in
+      let made : LeadsTo (λ a. to_key (naming_of old.me) a.shared v (party_of a old) (key_deed (naming_of old.me) a.shared key_goal.Delete (o ∷ old.values))) old new m = record { leads = λ a. w.leads a; keeps = w.keeps } in
+      same_deed {E = ℕ} (Ok m) (λ a. to_key (naming_of old.me) a.shared v (party_of a old) (key_deed (naming_of old.me) a.shared key_goal.Delete (o ∷ old.values))) (λ a. delete_property (naming_of old.me) a.shared o v (party_of a old)) old new
+      (λ a. (let b = fitting old a in reference_made (naming_of old.me) b.shared o v (party_of b old) (key_deed (naming_of old.me) b.shared key_goal.Delete (o ∷ old.values)) e)) made
+  deleted_later (Err x) mid new s h = tt
+
+pub set_asked : {E : Type 0} (r : Result Mode E) (o t x y : Value Ref MadeSymbol) (k : Key MadeSymbol) (old mid new : View) → t ≡ o → y ≡ x → mid ≡ with_top y old
+    → IfOk r (WaitsForValue frame.HasSet t (ask.Set k x o) mid new) → IfOk r (LeadsTo (λ a. asks_value (naming_of old.me) o (ask.Set k x o) (party_of a old) (has_set (naming_of old.me) x)) old new)
+set_asked r o t x y k old mid new s u w h =
     let start = subst (λ z. IfOk r (WaitsForValue frame.HasSet t (ask.Set k x o) (with_top z old) new)) u (subst (λ (z : View). IfOk r (WaitsForValue frame.HasSet t (ask.Set k x o) z new)) w h) in
-    same_deed r (λ a. asks_value (naming_of old.me) o (ask.Set k x o) (party_of a old) (has_set (naming_of old.me) x)) (λ a. put_property (naming_of old.me) a.shared o v x (party_of a old)) old new
-    (λ a. reference_known (naming_of old.me) (fitting old a).shared o v k (party_of (fitting old a) old) (λ name q. asks_value (naming_of old.me) o (ask.Set name x o) q (has_set (naming_of old.me) x)) e g)
-    (subst (λ z. IfOk r (WaitsForValue frame.HasSet z (ask.Set k x o) (with_top x old) new)) s start)
+    subst (λ z. IfOk r (WaitsForValue frame.HasSet z (ask.Set k x o) (with_top x old) new)) s start
 
-pub deleted : {E : Type 0} (r : Result Mode E) (o v : Value Ref MadeSymbol) (k : Key MadeSymbol) (b : Bool) (old new : View) → b ≡ is_nullish o → b ≡ false → plain_key v ≡ Some k
-    → IfOk r (WaitsForValue frame.HasDeleted o (ask.Delete k) old new) → IfOk r (LeadsTo (λ a. delete_property (naming_of old.me) a.shared o v (party_of a old)) old new)
-deleted r o v k b old new e f g h =
-    same_deed r (λ a. asks_value (naming_of old.me) o (ask.Delete k) (party_of a old) (over frame.HasDeleted old a)) (λ a. delete_property (naming_of old.me) a.shared o v (party_of a old)) old new
-    (λ a. reference_known (naming_of old.me) (fitting old a).shared o v k (party_of (fitting old a) old)
-    (λ name q. asks_value (naming_of old.me) o (ask.Delete name) q (with_flag (λ done m. if done then give (value.Bool true) m else faults (naming_of old.me) fault.CannotDelete m))) (sym e ∙ f) g)
-    h
+module _ (o v x : Value Ref MadeSymbol) (old : View) (e : is_nullish o ≡ false) where
+  abbrev Puts : View → Mode → Type 0
+  Puts new m = LeadsTo (λ a. put_property (naming_of old.me) a.shared o v x (party_of a old)) old new m
+
+  pub put : {E : Type 0} (r : Result Mode E) (y : Keyed) (k : Key MadeSymbol) (new : View) → y ≡ plain_key v → y ≡ Some k → IfOk r (LeadsTo (λ a. asks_value (naming_of old.me) o (ask.Set k x o) (party_of a old) (has_set (naming_of old.me) x)) old new) → IfOk r (Puts new)
+  put r y k new g s h =
+      same_deed r (λ a. asks_value (naming_of old.me) o (ask.Set k x o) (party_of a old) (has_set (naming_of old.me) x)) (λ a. put_property (naming_of old.me) a.shared o v x (party_of a old)) old new
+      (λ a. reference_known (naming_of old.me) (fitting old a).shared o v k (party_of (fitting old a) old) (λ name q. asks_value (naming_of old.me) o (ask.Set name x o) q (has_set (naming_of old.me) x)) e (sym g ∙ s)) h
+
+  pub put_later : {E : Type 0} (r : Result Mode E) (mid low new : View) → mid ≡ with_top o old → low ≡ with_top x mid → IfOk r (BecomesKey v key_goal.Put low new) → IfOk r (Puts new)
+  put_later (Ok m) mid low new s t h =
+      let w = subst (λ (z : View). BecomesKey v key_goal.Put z new m) (t ∙ ap (with_top x) s) h in
+      let made : LeadsTo (λ a. to_key (naming_of old.me) a.shared v (party_of a old) (key_deed (naming_of old.me) a.shared key_goal.Put (x ∷ o ∷ old.values))) old new m = record { leads = λ a. w.leads a; keeps = w.keeps } in
+      same_deed {E = ℕ} (Ok m) (λ a. to_key (naming_of old.me) a.shared v (party_of a old) (key_deed (naming_of old.me) a.shared key_goal.Put (x ∷ o ∷ old.values))) (λ a. put_property (naming_of old.me) a.shared o v x (party_of a old)) old new
+      (λ a. (let b = fitting old a in reference_made (naming_of old.me) b.shared o v (party_of b old) (key_deed (naming_of old.me) b.shared key_goal.Put (x ∷ o ∷ old.values)) e)) made
+  put_later (Err y) mid low new s t h = tt
 
 -- FREE NAMES
 

@@ -18,7 +18,7 @@ use Rattle.js_run.specs.Runs.{answered, settle}
 use Rattle.js_machine.specs.Bodies.{stood_in}
 use Rattle.js_machine.specs.Replies.{deed_replied}
 use Rattle.js_machine.specs.Steps.{IsDelivered, LeadsTo, point_of, settles, under, without_top, deed_with}
-use Rattle.js_machine.specs.Views.{Around, Values, View, Waits, completion_with, fitting, flag_in, next_over, nexts_of, owned, party_of, reply_of_answer, rest_of, takes_answers, takes_values, top, turns_at}
+use Rattle.js_machine.specs.Views.{Around, Values, View, Waits, completion_with, fitting, flag_in, prototype_in, next_over, nexts_of, owned, party_of, reply_of_answer, rest_of, takes_answers, takes_values, top, turns_at}
 use Rattle.js_machine.specs.declared.asked.Answer.{Answer}
 use Rattle.js_machine.specs.declared.asked.Answer.TheVariants as answer
 use Rattle.js_machine.specs.declared.frame.Frame.{Frame}
@@ -46,6 +46,18 @@ flag_comes (Ok m) f o b old new e s h =
     let w = subst (λ y. LeadsTo (deed_replied f y old) (under f old) new m) (sym (flag_there old.answer b (sym e ∙ s))) h in
     record { stands = λ a. w.leads a; keeps = w.keeps }
 flag_comes (Err x) f o b old new e s h = tt
+
+-- a prototype comes
+prototype_there : (x : Answer) (o : Option Ref) → prototype_in x ≡ Some o → reply_of_answer x ≡ reply.Proto o
+prototype_there (answer.Proto q) o e = cc
+prototype_there x o e = cc
+
+pub prototype_comes : {E : Type 0} (r : Result Mode E) (f : Frame) (x : Option (Option Ref)) (o : Option Ref) (old new : View) → x ≡ prototype_in old.answer → x ≡ Some o
+    → IfOk r (LeadsTo (deed_replied f (reply.Proto o) old) (under f old) new) → IfOk r (IsDelivered f mode.Answer old new)
+prototype_comes (Ok m) f x o old new e s h =
+    let w = subst (λ y. LeadsTo (deed_replied f y old) (under f old) new m) (sym (prototype_there old.answer o (sym e ∙ s))) h in
+    record { stands = λ a. w.leads a; keeps = w.keeps }
+prototype_comes (Err y) f x o old new e s h = tt
 
 -- a frame that is known
 pub arm_replied : {E : Type 0} (r : Result Mode E) (f g : Frame) (y : Reply Ref MadeSymbol) (old new : View) → f ≡ g → IfOk r (LeadsTo (deed_replied g y old) (under g old) new) → IfOk r (LeadsTo (deed_replied f y old) (under f old) new)
@@ -86,6 +98,9 @@ module _ (names : Naming Ref MadeSymbol) (shared : Shared) (c : Tables) where
   by_frame (frame.SetGlobal k e) x vs ws t n p = cc
   by_frame (frame.CallSuperHome args) x vs ws t n p = cc
   by_frame (frame.SuperParent args) x vs ws t n p = cc
+  by_frame frame.Paid x vs ws t n p = cc
+  by_frame frame.Told x vs ws t n p = cc
+  by_frame frame.Inherits x vs ws t n p = cc
   by_frame f x vs ws t n p = untaken x p _
 
 passed : (f : Frame) (w : View) → takes_values f ≡ true → takes_answers f ≡ false → (a : Around)
@@ -108,6 +123,8 @@ passes_value (frame.Global k soft) v m old new t h = record { leads = λ a. h.le
 passes_value (frame.SetGlobal k e) v m old new t h = record { leads = λ a. h.leads a; keeps = h.keeps }
 passes_value (frame.CallSuperHome args) v m old new t h = record { leads = λ a. h.leads a; keeps = h.keeps }
 passes_value (frame.SuperParent args) v m old new t h = record { leads = λ a. h.leads a; keeps = h.keeps }
+passes_value frame.Told v m old new t h = record { leads = λ a. h.leads a; keeps = h.keeps }
+passes_value frame.Inherits v m old new t h = record { leads = λ a. h.leads a; keeps = h.keeps }
 passes_value f v m old new t h = cc
 
 pub value_passes : {E : Type 0} (r : Result Mode E) (f : Frame) (v : Value Ref MadeSymbol) (old mid new : View) → takes_answers f ≡ true → mid ≡ record old { values = drop (owned f) old.values }

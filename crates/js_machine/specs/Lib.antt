@@ -19,3 +19,6 @@ pub mod Shown
 pub mod Constructions
 pub mod Spreads
 pub mod Supers
+pub mod Operands
+pub mod Conversions
+pub mod Instances

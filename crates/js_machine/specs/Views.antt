@@ -1,5 +1,5 @@
 -- What the frames and the values of a machine stand for.
-use Rattle.std.specs.Prelude.{ℕ, ◌+◌, reverse, take, Bool, true, false, List, [], ◌∷◌, map, drop, get_or, Some, None, if◌then◌else◌, not, Option, ◌++◌, length}
+use Rattle.std.specs.Prelude.{ℕ, ◌+◌, reverse, take, Bool, true, false, List, [], ◌∷◌, map, drop, get_or, Some, None, if◌then◌else◌, not, Option, ◌++◌, length, codes}
 use Rattle.std.specs.Option.{option_map}
 use Rattle.lava_base.specs.declared.ids.MadeSymbol.{MadeSymbol}
 use Rattle.lava_base.specs.declared.ids.Ref.{Ref}
@@ -19,16 +19,17 @@ use Rattle.lava_base.specs.declared.marks.Marks.{Marks}
 use Rattle.js_desc.specs.declared.reply.Reply.{Reply}
 use Rattle.js_store.specs.Foreign.{marks_of}
 use Rattle.js_store.specs.Frozen.{CommonObject}
-use Rattle.js_run.specs.Acts.{Closes, Decides_on, Evaluate, Give, Next, Tested, Then, Turned, Turns, Updated, as_it_is, give, throws, with_flag, with_prototype, with_value, Act}
+use Rattle.js_run.specs.Acts.{Closes, Decides_on, Evaluate, Give, Next, Tested, Then, Turned, Turns, Updated, as_it_is, give, throws, with_flag, with_prototype, with_value, Act, Inherits, asks, asks_value}
 use Rattle.js_run.specs.Faults.{faults}
 use Rattle.js_run.specs.Bodies.{built, closed, constructed, derived_constructed, returned, this_of}
 use Rattle.js_run.specs.Completions as halt_kind
 use Rattle.js_run.specs.Completions.{Completion, Replied, Breaks, Continues, Returns}
 use Rattle.js_run.specs.Control.{all_values, finally_ends, finishes, in_order, label_ends, left_to, listed, returns, try_ends}
-use Rattle.js_run.specs.Operators.{binary_value, unary_value}
+use Rattle.js_run.specs.Operators.{binary_value, prototype_inherited, unary_value}
 use Rattle.js_run.specs.Parties.{Body, Party, Shared, running}
 use Rattle.js_run.specs.Properties.{get_above, get_global, has_set, init_slot, missing_global, put_global, put_property, set_slot, delete_property, with_this}
 use Rattle.js_run.specs.Rows.{binary_left, delete_object, get_key, get_object, if_test, put_key, put_object, short_left, super_key, call_on_object, new_callee}
+use Rattle.js_text.specs.declared.value.Key.{Key}
 use Rattle.js_text.specs.declared.value.Key.TheVariants as key
 use Rattle.js_desc.specs.declared.fault.FaultText.TheVariants as fault
 use Rattle.js_run.specs.Asking.{calls}
@@ -46,6 +47,9 @@ use Rattle.js_native.specs.TextNatives.{FindsFirst}
 use Rattle.js_tree.specs.declared.operator.LogicalOperator.{LogicalOperator}
 use Rattle.js_tree.specs.declared.operator.LogicalOperator.TheVariants as logical
 use Rattle.js_machine.specs.Packages.{Package, loaded_in}
+use Rattle.js_desc.specs.declared.ask.Ask.TheVariants as ask
+use Rattle.js_run.specs.Conversions.{method_called, ordinary_to_primitive, primitive_or, primitive_to_key}
+use Rattle.js_operators.specs.Deeds.{becomes_key, rest_deed}
 use Rattle.js_machine.specs.declared.asked.Answer.{Answer}
 use Rattle.js_machine.specs.declared.asked.Answer.TheVariants as answer
 use Rattle.js_machine.specs.declared.asked.Asked.{Asked}
@@ -57,6 +61,10 @@ use Rattle.js_machine.specs.declared.frame.Halt.{Halt}
 use Rattle.js_machine.specs.declared.frame.Halt.TheVariants as halt
 use Rattle.js_machine.specs.declared.frame.Mode.{Mode}
 use Rattle.js_machine.specs.declared.frame.Mode.TheVariants as mode
+use Rattle.js_machine.specs.declared.frame.Goal.{Goal}
+use Rattle.js_machine.specs.declared.frame.Goal.TheVariants as goal
+use Rattle.js_machine.specs.declared.frame.KeyGoal.{KeyGoal}
+use Rattle.js_machine.specs.declared.frame.KeyGoal.TheVariants as key_goal
 use Rattle.js_machine.specs.declared.frame.Purpose.{Purpose}
 use Rattle.js_machine.specs.declared.frame.Purpose.TheVariants as purpose
 use Rattle.js_run.specs.Calls.{binds_this, parent_value}
@@ -232,6 +240,16 @@ abbrev pub held : Purpose → ℕ
 held purpose.Call = 2
 held _ = 1
 
+-- how many values are those of what a property key is for
+abbrev pub key_held : KeyGoal → ℕ
+key_held key_goal.Put = 2
+key_held _ = 1
+
+-- how many values are those of what a primitive value is for
+abbrev pub goal_held : Goal → ℕ
+goal_held (goal.Operand x) = 1
+goal_held (goal.Key k) = key_held k
+
 -- how many values are a frame's own
 abbrev pub owned : Frame → ℕ
 owned (frame.BinaryRight o) = 1
@@ -247,6 +265,11 @@ owned (frame.ArgumentsOf k) = held k
 owned (frame.CallMethod args) = 1
 owned (frame.CallKey args) = 1
 owned (frame.CallSuperHome args) = 1
+owned frame.Paid = 1
+owned frame.InstanceOf = 1
+owned frame.Inherits = 1
+owned (frame.MethodGot last g) = 1 + goal_held g
+owned (frame.MethodCalled last g) = 1 + goal_held g
 owned _ = 0
 
 -- it goes on with an answer that is no value
@@ -258,6 +281,8 @@ takes_answers (frame.Global n soft) = true
 takes_answers (frame.SetGlobal n e) = true
 takes_answers (frame.CallSuperHome args) = true
 takes_answers (frame.SuperParent args) = true
+takes_answers frame.Told = true
+takes_answers frame.Inherits = true
 takes_answers _ = false
 
 -- it goes on with a value or an answer alone
@@ -272,6 +297,7 @@ takes_values frame.Called = false
 takes_values (frame.Constructed o) = false
 takes_values frame.Derived = false
 takes_values frame.Built = false
+takes_values frame.Paid = false
 takes_values _ = true
 
 -- the values that are not a frame's own
@@ -307,6 +333,62 @@ super_method names shared args f p = argument_values names shared args p (applie
 -- what constructs in a `super` call does so with these arguments
 abbrev pub super_parent : Naming Ref MadeSymbol → Shared → Arguments → Option Ref → Party Ref MadeSymbol → Act Ref MadeSymbol
 super_parent names shared args o p = argument_values names shared args p (applied names shared purpose.SuperNew (parent_value names shared o ∷ []))
+-- the object that a value on the stack is
+abbrev pub object_on : Value Ref MadeSymbol → Ref
+object_on (value.Ref r) = r
+object_on v = reference.Common (record { 0 = 0 })
+
+-- CONVERSIONS OF OBJECTS
+
+-- an object that becomes what is wanted is asked for the methods of a text first
+abbrev pub as_text : Goal → Bool
+as_text (goal.Operand x) = becomes_key x
+as_text (goal.Key k) = true
+
+-- the first or the last of the methods that are tried
+-- ECMA-262 OrdinaryToPrimitive, steps 1 and 2
+abbrev pub method_at : (last as_text : Bool) → List ℕ
+method_at false false = codes "valueOf"
+method_at false true = codes "toString"
+method_at true false = codes "toString"
+method_at true true = codes "valueOf"
+
+-- those that are tried after it
+abbrev pub methods_behind : (last as_text : Bool) → List (List ℕ)
+methods_behind false t = method_at true t ∷ []
+methods_behind true t = []
+
+-- and with it
+abbrev pub methods_from : (last as_text : Bool) → List (List ℕ)
+methods_from last t = method_at last t ∷ methods_behind last t
+
+module _ (names : Naming Ref MadeSymbol) (shared : Shared) where
+  -- whether a property was deleted comes
+  abbrev pub has_deleted : Next Ref MadeSymbol
+  has_deleted = with_flag (λ done p. if done then give (value.Bool true) p else faults names fault.CannotDelete p)
+
+  -- what a property key is for goes on with it
+  abbrev pub key_deed : KeyGoal → Values → Key MadeSymbol → Party Ref MadeSymbol → Act Ref MadeSymbol
+  key_deed key_goal.Get vs k p = asks_value names (top vs) (ask.Get k (top vs)) p (with_value give)
+  key_deed key_goal.Put vs k p = asks_value names (top (below vs)) (ask.Set k (top vs) (top (below vs))) p (has_set names (top vs))
+  key_deed key_goal.Delete vs k p = asks_value names (top vs) (ask.Delete k) p has_deleted
+
+  -- what a primitive value is for goes on with it
+  abbrev pub goal_deed : Goal → Values → Value Ref MadeSymbol → Party Ref MadeSymbol → Act Ref MadeSymbol
+  goal_deed (goal.Operand x) vs v p = rest_deed names shared x (top vs) v p
+  goal_deed (goal.Key k) vs v p = primitive_to_key names shared (asks names) v p (key_deed k vs)
+
+  -- an object becomes a primitive value by these methods
+  abbrev pub becomes : List (List ℕ) → Ref → Goal → Values → Party Ref MadeSymbol → Act Ref MadeSymbol
+  becomes ns r g vs p = ordinary_to_primitive names shared (asks names) ns r p (goal_deed g vs)
+
+  -- what a method gave
+  abbrev pub method_gave : (last : Bool) → Ref → Goal → Values → Value Ref MadeSymbol → Party Ref MadeSymbol → Act Ref MadeSymbol
+  method_gave last r g vs v p = primitive_or names shared (asks names) v p (λ q. becomes (methods_behind last (as_text g)) r g vs q) (goal_deed g vs)
+
+  -- a method, which is called where it is one
+  abbrev pub method_got : (last : Bool) → Ref → Goal → Values → Value Ref MadeSymbol → Party Ref MadeSymbol → Act Ref MadeSymbol
+  method_got last r g vs f p = method_called names shared (asks names) f r p (λ q. becomes (methods_behind last (as_text g)) r g vs q) (with_value (method_gave last r g vs))
 
 module _ (names : Naming Ref MadeSymbol) (shared : Shared) (c : Tables) where
   -- what a frame goes on with
@@ -362,6 +444,12 @@ module _ (names : Naming Ref MadeSymbol) (shared : Shared) (c : Tables) where
   next_of (frame.CallSuperMethod args) vs = with_value (super_method names shared (arguments_at c (term_at c) args))
   next_of (frame.SuperParent args) vs = with_prototype (super_parent names shared (arguments_at c (term_at c) args))
   next_of frame.BindThis vs = with_value (λ v p. binds_this names shared (running p).this v p)
+  next_of frame.Paid vs = Then (λ d p. give (top vs) p)
+  next_of frame.Told vs = with_flag (λ b p. give (value.Bool b) p)
+  next_of frame.InstanceOf vs = with_value (prototype_inherited names shared (object_on (top vs)))
+  next_of frame.Inherits vs = Inherits (object_on (top vs))
+  next_of (frame.MethodGot last g) vs = with_value (method_got names shared last (object_on (top vs)) g (below vs))
+  next_of (frame.MethodCalled last g) vs = with_value (method_gave names shared last (object_on (top vs)) g (below vs))
 
   -- what waits goes on with its answer
   abbrev pub next_of_wait : Wait → Next Ref MadeSymbol

@@ -4,7 +4,7 @@ ghost use Rattle.std.specs.Prelude.{◌≡◌, Bool, IfOk};
 ghost use Rattle.js_desc.specs.declared.reply.Reply.TheVariants as reply_kind;
 ghost use Rattle.js_machine.specs.Replies.{deed_replied};
 ghost use Rattle.js_machine.specs.Steps.{IsDelivered, LeadsTo, deed_with, under};
-ghost use Rattle.js_machine.specs.Views.{flag_in, takes_answers, takes_values};
+ghost use Rattle.js_machine.specs.Views.{flag_in, prototype_in, takes_answers, takes_values};
 ghost use Rattle.js_machine.specs.declared.frame.Frame.TheVariants as frame_kind;
 ghost use Rattle.js_machine.specs.declared.frame.Mode.TheVariants as mode_kind;
 
@@ -12,6 +12,7 @@ use crate::asked::Answer;
 use crate::frame::{Frame, Mode};
 use crate::machine::Machine;
 use js_text::value::Value;
+use lava_base::ids::Ref;
 use lava_base::memory::OutOfMemory;
 
 impl Machine {
@@ -49,6 +50,7 @@ impl Machine {
             Frame::SetGlobal { name, value } => {
                 self.wait(Frame::PutGlobal { name, there: flag }, value)
             }
+            Frame::Told => self.give(Value::Bool(flag)),
             // No other frame waits for one.
             _ => Err(OutOfMemory),
         }

@@ -63,7 +63,7 @@ impl Machine {
     }
 
     /// The run ends as a decision says.
-    fn end_as(&mut self, kind: EndKind) -> Result<Mode, OutOfMemory>
+    pub(crate) fn end_as(&mut self, kind: EndKind) -> Result<Mode, OutOfMemory>
         ensures { IfOk result (LeadsTo (λ a. End (halt_of kind)) self.old self.new) }
     {
         match kind {

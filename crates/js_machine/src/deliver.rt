@@ -108,6 +108,11 @@ impl Machine {
             Frame::CallSuperKey { arguments } => self.super_method_key_comes(arguments, value),
             Frame::CallSuperMethod { arguments } => self.super_method_comes(arguments, value),
             Frame::BindThis => self.bind_this(value),
+            Frame::Unary { operator } => self.unary(operator, value),
+            Frame::BinaryRight { operator } => self.go_on_binary(operator, value),
+            Frame::InstanceOf => self.prototype_comes(value),
+            Frame::MethodGot { last, goal } => self.method_got(last, goal, value),
+            Frame::MethodCalled { last, goal } => self.method_gave(last, goal, value),
             _ if frame.takes_answers() => self.pass_value(frame, value),
             _ => Err(OutOfMemory),
         }

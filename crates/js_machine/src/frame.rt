@@ -1,8 +1,9 @@
 // What waits for a completion, and what is next. A frame's own values stand on the stack of values.
 
 ghost use Rattle.std.specs.Prelude.{◌≡◌};
-ghost use Rattle.js_machine.specs.Views.{has_value, is_completion, is_handed, owned, takes_answers, takes_values, held, is_throw};
+ghost use Rattle.js_machine.specs.Views.{has_value, is_completion, is_handed, owned, takes_answers, takes_values, held, is_throw, as_text, goal_held, key_held};
 
+use js_operators::operation::Rest;
 use js_tree::operator::{BinaryOperator, LogicalOperator, UnaryOperator};
 
 /// How a run ends within a party. None of these can be caught.
@@ -224,6 +225,44 @@ pub enum Frame {
     },
     /// What a `super` call constructs comes, and is `this`.
     BindThis,
+    /// What was charged for is paid; has the value that is given then.
+    Paid,
+    /// A truth value comes, which is given.
+    Told,
+    /// What a function has as `prototype` comes; has the object that may inherit from it.
+    InstanceOf,
+    /// The prototype of an object comes; has the object that is sought.
+    Inherits,
+    /// A method that makes an object a primitive value comes. Has the object, and below it what that value is for.
+    MethodGot {
+        last: bool,
+        goal: Goal,
+    },
+    /// What such a method gives comes. Has the object, and below it what the primitive value is for.
+    MethodCalled {
+        last: bool,
+        goal: Goal,
+    },
+}
+
+/// What a property key is for. It has values on the stack.
+#[derive(Clone, Copy)]
+pub enum KeyGoal {
+    /// A property is read. Has the object.
+    Get,
+    /// A property is set. Has the value, and the object below it.
+    Put,
+    /// A property is deleted. Has the object.
+    Delete,
+}
+
+/// What the primitive value that an object becomes is for. It has values on the stack.
+#[derive(Clone, Copy)]
+pub enum Goal {
+    /// An operator goes on. Has the operand that is held.
+    Operand(Rest),
+    /// The value becomes a property key.
+    Key(KeyGoal),
 }
 
 impl Purpose {
@@ -234,6 +273,40 @@ impl Purpose {
         match self {
             Purpose::Call => 2,
             _ => 1,
+        }
+    }
+}
+
+impl KeyGoal {
+    /// How many values are its own.
+    pub fn held(self) -> u64
+        ensures { result ≡ key_held self }
+    {
+        match self {
+            KeyGoal::Put => 2,
+            _ => 1,
+        }
+    }
+}
+
+impl Goal {
+    /// How many values are its own.
+    pub fn held(self) -> u64
+        ensures { result ≡ goal_held self }
+    {
+        match self {
+            Goal::Operand(_) => 1,
+            Goal::Key(goal) => goal.held(),
+        }
+    }
+
+    /// Whether the methods of a text are tried first (ECMA-262, ToPrimitive).
+    pub fn as_text(self) -> bool
+        ensures { result ≡ as_text self }
+    {
+        match self {
+            Goal::Operand(rest) => matches!(rest, Rest::Key),
+            Goal::Key(_) => true,
         }
     }
 }
@@ -292,6 +365,8 @@ impl Frame {
             Frame::Arguments { purpose, done, .. } => u64::from(done) + purpose.held(),
             Frame::ArgumentsOf { purpose } => purpose.held(),
             Frame::CallKey { .. } | Frame::CallSuperHome { .. } => 1,
+            Frame::Paid | Frame::InstanceOf | Frame::Inherits => 1,
+            Frame::MethodGot { goal, .. } | Frame::MethodCalled { goal, .. } => 1 + goal.held(),
             _ => 0,
         }
     }
@@ -309,6 +384,8 @@ impl Frame {
                 | Frame::SetGlobal { .. }
                 | Frame::CallSuperHome { .. }
                 | Frame::SuperParent { .. }
+                | Frame::Told
+                | Frame::Inherits
         )
     }
 
@@ -316,18 +393,12 @@ impl Frame {
     pub fn takes_values(self) -> bool
         ensures { result ≡ takes_values self }
     {
-        !matches!(
-            self,
-            Frame::ScopeExit { .. }
-                | Frame::Turned { .. }
-                | Frame::Label { .. }
-                | Frame::Guarded { .. }
-                | Frame::Handled { .. }
-                | Frame::Decides
-                | Frame::Called
-                | Frame::Constructed { .. }
-                | Frame::Derived
-                | Frame::Built
-        )
+        match self {
+            Frame::ScopeExit { .. } | Frame::Turned { .. } | Frame::Label { .. } => false,
+            Frame::Guarded { .. } | Frame::Handled { .. } => false,
+            Frame::Decides | Frame::Paid => false,
+            Frame::Called | Frame::Constructed { .. } | Frame::Derived | Frame::Built => false,
+            _ => true,
+        }
     }
 }

@@ -24,6 +24,7 @@
 // - `ways` tells in which way an object decides, `decisions` decides and follows, `primitives` decides for values that are no objects.
 // - `answers` brings answers that are no values to frames, `looks` sees the marks of objects, and where an ask goes.
 // - `properties` and `globals` read and write properties and free names, `plain_keys` makes keys of values.
+// - `operators` does what operators do, `instances` tells what inherits from a function, and `conversions` makes objects primitive values and property keys.
 #![tactic(auto)]
 
 pub mod answers;
@@ -39,12 +40,14 @@ pub mod callees;
 pub mod calls;
 pub mod closures;
 pub mod constructions;
+pub mod conversions;
 pub mod decisions;
 pub mod deliver;
 pub mod faults;
 pub mod frame;
 pub mod functions;
 pub mod globals;
+pub mod instances;
 pub mod jumps;
 pub mod keys;
 pub mod listed_arguments;
@@ -53,6 +56,7 @@ pub mod loops;
 pub mod machine;
 pub mod methods;
 pub mod new;
+pub mod operators;
 pub mod own;
 pub mod package;
 pub mod parameters;

@@ -54,6 +54,7 @@ impl Machine {
             Frame::Constructed { object } => self.deliver_constructed(object, mode),
             Frame::Derived => self.deliver_derived(mode),
             Frame::Built => self.deliver_built(mode),
+            Frame::Paid => self.deliver_paid(mode),
             _ => self.deliver_plain(frame, mode),
         }
     }

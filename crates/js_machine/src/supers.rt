@@ -330,6 +330,7 @@ impl Machine {
             Frame::SuperHome => self.super_home_comes(above),
             Frame::CallSuperHome { arguments } => self.super_method_home_comes(arguments, above),
             Frame::SuperParent { arguments } => self.super_parent_comes(arguments, above),
+            Frame::Inherits => self.deliver_inherits(above),
             // No other frame waits for one.
             _ => Err(OutOfMemory),
         }

@@ -85,3 +85,17 @@ returns-in-Tested c = arm c.tested.result c.args.frame (frame.Tested c.in-Tested
 
 pub returns-in-Given : goal.returns-in-Given
 returns-in-Given c = arm c.give.result c.args.frame frame.Given c.args.value c.args.self.now c.give.new.self c.in-Given.is c.give.ensures.leads
+pub returns-in-Unary : goal.returns-in-Unary
+returns-in-Unary c = arm c.unary.result c.args.frame (frame.Unary c.in-Unary.operator) c.args.value c.args.self.now c.unary.new.self c.in-Unary.is c.unary.ensures
+
+pub returns-in-BinaryRight : goal.returns-in-BinaryRight
+returns-in-BinaryRight c = arm c.go_on_binary.result c.args.frame (frame.BinaryRight c.in-BinaryRight.operator) c.args.value c.args.self.now c.go_on_binary.new.self c.in-BinaryRight.is c.go_on_binary.ensures
+
+pub returns-in-InstanceOf : goal.returns-in-InstanceOf
+returns-in-InstanceOf c = arm c.prototype_comes.result c.args.frame frame.InstanceOf c.args.value c.args.self.now c.prototype_comes.new.self c.in-InstanceOf.is c.prototype_comes.ensures
+
+pub returns-in-MethodGot : goal.returns-in-MethodGot
+returns-in-MethodGot c = arm c.method_got.result c.args.frame (frame.MethodGot c.in-MethodGot.last c.in-MethodGot.goal) c.args.value c.args.self.now c.method_got.new.self c.in-MethodGot.is c.method_got.ensures
+
+pub returns-in-MethodCalled : goal.returns-in-MethodCalled
+returns-in-MethodCalled c = arm c.method_gave.result c.args.frame (frame.MethodCalled c.in-MethodCalled.last c.in-MethodCalled.goal) c.args.value c.args.self.now c.method_gave.new.self c.in-MethodCalled.is c.method_gave.ensures

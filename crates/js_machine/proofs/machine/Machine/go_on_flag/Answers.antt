@@ -8,3 +8,6 @@ returns-in-Global c = arm_replied c.global_found.result c.args.frame (frame.Glob
 
 pub returns-in-SetGlobal : goal.returns-in-SetGlobal
 returns-in-SetGlobal c = arm_replied c.wait.result c.args.frame (frame.SetGlobal c.in-SetGlobal.name c.in-SetGlobal.value) (reply.Flag c.args.flag) c.args.self.now c.wait.new.self c.in-SetGlobal.is c.wait.ensures.leads
+
+pub returns-in-Told : goal.returns-in-Told
+returns-in-Told c = arm_replied c.give.result c.args.frame frame.Told (reply.Flag c.args.flag) c.args.self.now c.give.new.self c.in-Told.is c.give.ensures.leads

@@ -8,3 +8,6 @@ returns-in-CallSuperHome c = arm_replied c.super_method_home_comes.result c.args
 
 pub returns-in-SuperParent : goal.returns-in-SuperParent
 returns-in-SuperParent c = arm_replied c.super_parent_comes.result c.args.frame (frame.SuperParent c.in-SuperParent.arguments) (reply.Proto c.args.above) c.args.self.now c.super_parent_comes.new.self c.in-SuperParent.is c.super_parent_comes.ensures
+
+pub returns-in-Inherits : goal.returns-in-Inherits
+returns-in-Inherits c = arm_replied c.deliver_inherits.result c.args.frame frame.Inherits (reply.Proto c.args.above) c.args.self.now c.deliver_inherits.new.self c.in-Inherits.is c.deliver_inherits.ensures
