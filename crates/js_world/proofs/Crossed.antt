@@ -1,0 +1,226 @@
+-- What becomes of a run that stops.
+use Rattle.std.proofs.Common.{◌≡◌, ◌<◌, ◌+◌, ◌-◌, ℕ, true, List, [], ◌∷◌, map, drop, length, get_or, set, Some, None, refl, sym, ap, ◌∙◌, subst, Result, Ok, Err, IfOk}
+use Rattle.lava_base.specs.declared.ids.MadeSymbol.{MadeSymbol}
+use Rattle.lava_base.specs.declared.ids.Ref.{Ref}
+use Rattle.lava_base.specs.declared.marks.Marks.{Marks}
+use Rattle.js_text.specs.Identities.{Identity, Of_object}
+use Rattle.js_text.specs.Naming.{naming_of}
+use Rattle.js_desc.specs.Identities.{ask_identities, reply_identities}
+use Rattle.js_desc.specs.declared.ask.Ask.{Ask}
+use Rattle.js_desc.specs.declared.reply.Reply.{Reply}
+use Rattle.js_run.specs.Acts.{Next}
+use Rattle.js_run.specs.Completions.{reply_of}
+use Rattle.js_run.specs.Heap as heap
+use Rattle.js_run.specs.Heap.{Over_with, cross, goes_on, hands, has_asked, has_run, replies_of}
+use Rattle.js_run.specs.Identities.{Replies, Requests, request_identities}
+use Rattle.js_run.specs.Journal.{Application, Crossing, asked_party, crossing, end_of, owner_of, put, with_marks_of}
+use Rattle.js_run.specs.Local.{own_marks}
+use Rattle.js_run.specs.Parties.{Party}
+use Rattle.js_run.specs.Runs.{Asks, Request}
+use Rattle.js_machine.specs.Begun.{own_of}
+use Rattle.js_machine.specs.Shown.{no_ask}
+use Rattle.js_machine.specs.Views.{View, completion_of, nexts_of}
+use Rattle.js_machine.specs.declared.asked.Asked.{Asked}
+use Rattle.js_machine.specs.declared.frame.Halt.{Halt}
+use Rattle.js_machine.specs.declared.frame.Mode.{Mode}
+use Rattle.js_machine.specs.declared.stop.Stop.{Stop}
+use Rattle.js_machine.specs.declared.stop.Stop.TheVariants as stop
+use Rattle.js_world.specs.Crossings.{Follows, GoesOn, HandsOver, HasGiven, HasStopped, IsResumed, IsSent, IsTaken, RunsHere, newest}
+use Rattle.js_world.specs.Shows.{makes_none, shows_ask, shows_ref, with_table}
+use Rattle.js_world.specs.Worlds.{Counts, Crosses, HasOwn, IsOver, Suits, WorldView, aside, charged, ending_of, party_with, sent, steps_of, waits_of}
+use Rattle.js_world.specs.declared.ending.Ending.{Ending}
+use Rattle.js_world.specs.declared.ending.Ending.TheVariants as ending
+use Rattle.js_world.specs.declared.ending.Turn.{Turn}
+use Rattle.js_world.specs.declared.ending.Turn.TheVariants as turn
+use Rattle.js_world.specs.declared.waiting.Waiting.{Waiting}
+use Rattle.js_world.proofs.Kept.{left_spent, left_steps, ran, rests_left, written}
+use Rattle.js_world.proofs.Shown_laws.{ask_shows, reply_shows, shows_all}
+
+-- the party in the machine, as the application began it and with the things that it has now
+abbrev pub party_here : Application → WorldView → Party Ref MadeSymbol
+party_here app v = party_with (app.own v.machine.me) v.machine.code (own_of v.machine)
+
+-- what the machine knows once these are shown
+abbrev pub known_with : Application → WorldView → List (Identity Ref MadeSymbol) → List (Ref × Marks)
+known_with app v xs = with_marks_of (own_marks (naming_of v.machine.me) (party_here app v) xs) v.machine.known
+
+-- ASKS
+
+ask_left : (app : Application) (v : WorldView) (r : Ref) → makes_none v.machine.asked.ask ≡ true
+    → shows_ask v.machine.asked.ask (shows_ref r (record v.machine { asked = no_ask })) ≡ with_table (known_with app v (Of_object r ∷ ask_identities v.machine.asked.ask)) (record v.machine { asked = no_ask })
+ask_left app v r n =
+    let low : View = record v.machine { asked = no_ask } in
+    ask_shows v.machine.asked.ask (shows_ref r low) n
+    ∙ shows_all (party_here app v) low (Of_object r ∷ ask_identities v.machine.asked.ask) v.machine.known refl
+
+abbrev nexts_here : Application → WorldView → List (Next Ref MadeSymbol)
+nexts_here app v = nexts_of (naming_of v.machine.me) app.shared v.machine.code v.machine.frames v.machine.values v.machine.waits
+
+-- a request as it stands in the journal
+abbrev request_crossing : Application → List Crossing → WorldView → Request Ref MadeSymbol → ℕ → Crossing
+request_crossing app js v o n = crossing v.machine.me (asked_party app js v.machine.me o) (party_here app v) n (Requests o)
+
+-- the machine when a request has left it, and keeps this of what was asked
+abbrev request_gone : Application → WorldView → Request Ref MadeSymbol → ℕ → Asked → WorldView
+request_gone app v o n a = aside (charged v.machine.me n (record v { machine = with_table (known_with app v (request_identities o)) (record v.machine { asked = a }) }))
+
+-- a request that has left the party is in the journal, and its receiver is to run
+pub hands_over : (app : Application) (w after : heap.World) (v : WorldView) (o : Request Ref MadeSymbol) (n : ℕ) (a : Asked) → Suits app v → ((q : ℕ) → (v.machine.me ≡ q → ⊥) → HasOwn app w v q) → Counts app w v → v.machine.me < length v.steps
+    → after ≡ has_asked app v.machine.me w o (party_here app v) (nexts_here app v) n true → HandsOver app after (request_gone app v o n a) (asked_party app w.journal v.machine.me o) o
+hands_over app w after v o n a s others c there is =
+    let p = v.machine.me in
+    let own = party_here app v in
+    let x = request_crossing app w.journal v o n in
+    let ks = (p, nexts_here app v) ∷ w.stack in
+    let js = x ∷ w.journal in
+    let world = written p own n ks js (hands app js (put p own w.own) (asked_party app w.journal p o) o) w in
+    let left = request_gone app v o n a in
+    let so : HandsOver app world left (asked_party app w.journal p o) o = record {
+      rests = rests_left app w v [] [] [] a v.machine.answer (known_with app v (request_identities o)) left.stack n own ks js world.control s others c there refl
+          (ap (λ l. (p, nexts_here app v) ∷ l) c.stack) (ap (with_marks_of x.sent.marks) c.known);
+      control = refl;
+    } in
+    subst (λ y. HandsOver app y left (asked_party app w.journal p o) o) (sym is) so
+
+hands_ask : (app : Application) (w after : heap.World) (v : WorldView) (r : Ref) (n : ℕ) → HasStopped app w v (stop.Sent r n) after → makes_none v.machine.asked.ask ≡ true → v.machine.me < length v.steps
+    → HandsOver app after (sent r n v) (owner_of r) (Asks r v.machine.asked.ask)
+hands_ask app w after v r n h none there =
+    let o : Request Ref MadeSymbol = Asks r v.machine.asked.ask in
+    let is : sent r n v ≡ request_gone app v o n no_ask = ap (λ m. aside (charged v.machine.me n (record v { machine = m }))) (ask_left app v r none) in
+    subst (λ y. HandsOver app after y (owner_of r) o) (sym is) (hands_over app w after v o n no_ask h.suits h.others h.counts there h.comes)
+
+pub sends : (r : Ref) (n : ℕ) (old new : WorldView) (x : Ask Ref MadeSymbol) → x ≡ old.machine.asked.ask → makes_none old.machine.asked.ask ≡ true → old.machine.me < length old.steps → new ≡ sent r n old → IsSent r n old new x
+sends r n old new x e none there is = record {
+  sends = λ app w after h.
+      subst (λ y. HandsOver app after new (owner_of r) (Asks r y)) (sym e) (subst (λ y. HandsOver app after y (owner_of r) (Asks r old.machine.asked.ask)) (sym is) (hands_ask app w after old r n h none there));
+  empty = ap (λ (v : WorldView). v.machine.frames) is;
+  budget = ap (λ (v : WorldView). v.budget) is;
+}
+
+pub sent_on : (r : Ref) (n : ℕ) (old mid new : WorldView) (x : Ask Ref MadeSymbol) (t : Turn) → IsSent r n old mid x → IsTaken (owner_of r) (Asks r x) mid new t → Follows (stop.Sent r n) old new t
+sent_on r n old mid new x t s k = record { follows = λ app w after h. k.takes app after (s.sends app w after h); budget = k.budget ∙ s.budget }
+
+-- REPLIES
+
+-- the machine when a reply has left it
+abbrev replied : Application → Reply Ref MadeSymbol → ℕ → (old : WorldView) → WorldView → WorldView
+replied app r n old new = charged old.machine.me n (record old { machine = with_table (known_with app old (reply_identities r)) (record old.machine { values = new.machine.values; answer = new.machine.answer }) })
+
+reply_left : (app : Application) (r : Reply Ref MadeSymbol) (n : ℕ) (old new : WorldView) (g : HasGiven r n old new)
+    → new ≡ charged old.machine.me n (record old { machine = with_table (known_with app old (reply_identities r)) (record old.machine { values = g.values; answer = g.answer }) })
+reply_left app r n old new g =
+    let low : View = record old.machine { values = g.values; answer = g.answer } in
+    g.given ∙ ap (λ m. charged old.machine.me n (record old { machine = m })) (reply_shows r low ∙ shows_all (party_here app old) low (reply_identities r) old.machine.known refl)
+
+-- the reply as it stands in the journal
+abbrev reply_crossing : Application → WorldView → Reply Ref MadeSymbol → ℕ → ℕ → Crossing
+reply_crossing app v r n q = crossing v.machine.me q (party_here app v) n (Replies r)
+
+-- the world that has the reply, with what was on its stack
+abbrev with_reply : Application → heap.World → WorldView → Reply Ref MadeSymbol → ℕ → List (ℕ × List (Next Ref MadeSymbol)) → heap.World
+with_reply app w v r n ks = replies_of app (reply_crossing app v r n) r ks (heap.with_own v.machine.me (party_here app v) (heap.charged v.machine.me n w))
+
+came : (app : Application) (w after : heap.World) (v : WorldView) (r : Reply Ref MadeSymbol) (m : Mode) (n : ℕ) (bs : List Waiting) → HasStopped app w v (stop.Gave m n) after → r ≡ reply_of (completion_of v.machine m) → v.stack ≡ bs
+    → after ≡ with_reply app w v r n (map (waits_of app v.machine.code) bs)
+came app w after v r m n bs h e d =
+    h.comes ∙ ap (λ y. with_reply app w v y n w.stack) (sym e) ∙ ap (with_reply app w v r n) (h.counts.stack ∙ ap (map (waits_of app v.machine.code)) d)
+
+-- the end of a run
+over_with : (app : Application) (w after : heap.World) (v new : WorldView) (p n : ℕ) (e : Ending) → Counts app w v → p < length v.steps → new.steps ≡ set v.steps p n → new.spent ≡ v.spent + (n - steps_of v p)
+    → ((q : ℕ) → after.steps q ≡ put p n w.steps q) → after.spent ≡ w.spent + (n - w.steps p) → after.control ≡ Over_with (ending_of e) → IsOver app after new e
+over_with app w after v new p n e c l s t a b d = record {
+  steps = λ q g. a q ∙ left_steps app w v p n c l q (subst (λ xs. q < length xs) s g) ∙ ap (λ xs. get_or xs q 0) (sym s);
+  spent = b ∙ left_spent app w v p n c l ∙ sym t;
+  control = d;
+}
+
+nothing : (bs : List Waiting) → newest bs ≡ None → bs ≡ []
+nothing [] e = refl
+nothing (b ∷ bs) e = absurd (cc e)
+
+pub ends_with : (r : Reply Ref MadeSymbol) (m : Mode) (n : ℕ) (old mid new : WorldView) (e : Ending) → HasGiven r n old mid → r ≡ reply_of (completion_of old.machine m) → old.machine.me < length old.steps → newest mid.stack ≡ None
+    → new ≡ record mid { stack = drop 1 mid.stack } → ending_of e ≡ end_of r → Follows (stop.Gave m n) old new (turn.Over e)
+ends_with r m n old mid new e g d there none is same =
+    let p = old.machine.me in
+    let empty : old.stack ≡ [] = ap (λ (v : WorldView). v.stack) (sym g.given) ∙ nothing mid.stack none in
+    record {
+      follows = λ app w after h.
+          (let c : after ≡ with_reply app w old r n [] = came app w after old r m n [] h d empty in
+          over_with app w after old new p n e h.counts there
+          (ap (λ (v : WorldView). v.steps) is ∙ ap (λ (v : WorldView). v.steps) g.given) (ap (λ (v : WorldView). v.spent) is ∙ ap (λ (v : WorldView). v.spent) g.given)
+          (λ q. ap (λ (y : heap.World). y.steps q) c) (ap (λ (y : heap.World). y.spent) c) (ap (λ (y : heap.World). y.control) c ∙ ap Over_with (sym same)));
+      budget = ap (λ (v : WorldView). v.budget) is ∙ ap (λ (v : WorldView). v.budget) g.given;
+    }
+
+first_off : (bs : List Waiting) (b : Waiting) → newest bs ≡ Some b → bs ≡ b ∷ drop 1 bs
+first_off [] b e = cc
+first_off (c ∷ bs) b e = let same : c ≡ b = cc in ap (λ x. x ∷ bs) same
+
+-- the newest body that waits is to go on
+goes_back : (app : Application) (w after : heap.World) (old mid new : WorldView) (r : Reply Ref MadeSymbol) (m : Mode) (n : ℕ) (b : Waiting) → HasStopped app w old (stop.Gave m n) after → HasGiven r n old mid
+    → r ≡ reply_of (completion_of old.machine m) → old.machine.me < length old.steps → newest mid.stack ≡ Some b → new ≡ record mid { stack = drop 1 mid.stack } → GoesOn app after new b r
+goes_back app w after old mid new r m n b h g d there some is =
+    let p = old.machine.me in
+    let own = party_here app old in
+    let code = old.machine.code in
+    let bs = drop 1 mid.stack in
+    let x = reply_crossing app old r n b.party in
+    let js = x ∷ w.journal in
+    let k = waits_of app code b in
+    let world = written p own n (map (waits_of app code) bs) js (goes_on app js (put p own w.own) k.0 k.1 r) w in
+    let full : old.stack ≡ b ∷ bs = ap (λ (v : WorldView). v.stack) (sym g.given) ∙ first_off mid.stack b some in
+    let left : WorldView = record (charged p n (record old { machine = with_table (known_with app old (reply_identities r)) (record old.machine { values = g.values; answer = g.answer }) })) { stack = bs } in
+    let still : new ≡ left = is ∙ ap (λ (v : WorldView). record v { stack = bs }) (reply_left app r n old mid g) in
+    let so : GoesOn app world left b r = record {
+      rests = rests_left app w old old.machine.frames g.values old.machine.waits old.machine.asked g.answer (known_with app old (reply_identities r)) bs n own (map (waits_of app code) bs) js world.control h.suits h.others h.counts there refl
+          refl (ap (with_marks_of x.sent.marks) h.counts.known);
+      control = refl;
+    } in
+    subst (λ y. GoesOn app y new b r) (sym (came app w after old r m n (b ∷ bs) h d full)) (subst (λ v. GoesOn app world v b r) (sym still) so)
+
+pub gives_back : (r : Reply Ref MadeSymbol) (m : Mode) (n : ℕ) (b : Waiting) (old mid low new : WorldView) (t : Turn) → HasGiven r n old mid → r ≡ reply_of (completion_of old.machine m) → old.machine.me < length old.steps → newest mid.stack ≡ Some b
+    → low ≡ record mid { stack = drop 1 mid.stack } → IsResumed b r low new t → Follows (stop.Gave m n) old new t
+gives_back r m n b old mid low new t g d there some is k = record {
+  follows = λ app w after h. k.takes app after (goes_back app w after old mid low r m n b h g d there some is);
+  budget = k.budget ∙ ap (λ (v : WorldView). v.budget) is ∙ ap (λ (v : WorldView). v.budget) g.given;
+}
+
+-- ENDS
+
+pub ends_short : (n : ℕ) (old new : WorldView) → old.machine.me < length old.steps → new ≡ charged old.machine.me n old → Follows (stop.Short n) old new (turn.Over (ending.Budget old.machine.me))
+ends_short n old new there is = record {
+  follows = λ app w after h. over_with app w after old new old.machine.me n (ending.Budget old.machine.me) h.counts there (ap (λ (v : WorldView). v.steps) is) (ap (λ (v : WorldView). v.spent) is)
+      (λ q. ap (λ (y : heap.World). y.steps q) h.comes) (ap (λ (y : heap.World). y.spent) h.comes) (ap (λ (y : heap.World). y.control) h.comes);
+  budget = ap (λ (v : WorldView). v.budget) is;
+}
+
+pub ends_stopped : (n : ℕ) (k : Halt) (old new : WorldView) → old.machine.me < length old.steps → new ≡ charged old.machine.me n old → Follows (stop.Stopped k n) old new (turn.Over (ending.Fault old.machine.me k))
+ends_stopped n k old new there is = record {
+  follows = λ app w after h. over_with app w after old new old.machine.me n (ending.Fault old.machine.me k) h.counts there (ap (λ (v : WorldView). v.steps) is) (ap (λ (v : WorldView). v.spent) is)
+      (λ q. ap (λ (y : heap.World). y.steps q) h.comes) (ap (λ (y : heap.World). y.spent) h.comes) (ap (λ (y : heap.World). y.control) h.comes);
+  budget = ap (λ (v : WorldView). v.budget) is;
+}
+
+-- A CROSSING
+
+pub crossed : (m : Mode) (s : Stop) (t : Turn) (old mid new : WorldView) → RunsHere m old mid s → Follows s mid new t → Crosses old m new t
+crossed m s t old mid new r f = record {
+  crosses = λ app w x. f.follows app w (cross app old.budget w w.control) (ran app w old mid m s x r);
+  budget = f.budget ∙ ap (λ (v : WorldView). v.budget) r.rest;
+}
+
+-- WHAT THE CODE COMES TO
+
+pub sent_so : {E : Type 0} (k : Result Turn E) (r : Ref) (n : ℕ) (old mid new : WorldView) (x : Ask Ref MadeSymbol) → x ≡ old.machine.asked.ask → makes_none old.machine.asked.ask ≡ true → old.machine.me < length old.steps → mid ≡ sent r n old
+    → IfOk k (IsTaken (owner_of r) (Asks r x) mid new) → IfOk k (Follows (stop.Sent r n) old new)
+sent_so (Ok t) r n old mid new x e none there is h = sent_on r n old mid new x t (sends r n old mid x e none there is) h
+sent_so (Err z) r n old mid new x e none there is h = tt
+
+pub gives_so : {E : Type 0} (k : Result Turn E) (r : Reply Ref MadeSymbol) (m : Mode) (n : ℕ) (b : Waiting) (old mid low new : WorldView) → HasGiven r n old mid → r ≡ reply_of (completion_of old.machine m) → old.machine.me < length old.steps
+    → newest mid.stack ≡ Some b → low ≡ record mid { stack = drop 1 mid.stack } → IfOk k (IsResumed b r low new) → IfOk k (Follows (stop.Gave m n) old new)
+gives_so (Ok t) r m n b old mid low new g d there some is h = gives_back r m n b old mid low new t g d there some is h
+gives_so (Err z) r m n b old mid low new g d there some is h = tt
+
+pub crossed_so : {E : Type 0} (k : Result Turn E) (m : Mode) (s : Stop) (old mid new : WorldView) → RunsHere m old mid s → IfOk k (Follows s mid new) → IfOk k (Crosses old m new)
+crossed_so (Ok t) m s old mid new r h = crossed m s t old mid new r h
+crossed_so (Err z) m s old mid new r h = tt

@@ -1,0 +1,22 @@
+-- How all parties stand before anything has run.
+use Rattle.std.specs.Prelude.{◌≡◌, ◌<◌, ℕ, List, [], length, replicate}
+use Rattle.js_run.specs.Heap.{begins}
+use Rattle.js_run.specs.Journal.{Application, foreign_of}
+use Rattle.js_machine.specs.Begun.{Own}
+use Rattle.js_machine.specs.Views.{View}
+use Rattle.js_world.specs.Crossings.{Rests}
+use Rattle.js_world.specs.Worlds.{Suits, WorldView, own_here, party_with}
+
+-- a machine of all parties that has done nothing yet
+abbrev pub as_new : View → List Own → (budget : ℕ) → WorldView
+as_new machine others budget = record { machine = machine; others = others; steps = replicate (length others) 0; spent = 0; budget = budget; stack = [] }
+
+-- each party has what the application has of it, and what is known is what the starts name
+pub record IsFirst (app : Application) (v : WorldView) : Type 0 where
+  pub suits : Suits app v
+  pub own : (q : ℕ) → q < length v.others → app.own q ≡ party_with (app.own q) v.machine.code (own_here v q)
+  pub known : v.machine.known ≡ foreign_of app []
+
+-- it rests where a run begins
+pub record RestsFirst (v : WorldView) : Type 0 where
+  pub rests : (app : Application) → IsFirst app v → Rests app (begins app) v

@@ -1,0 +1,5 @@
+pub mod Shows
+pub mod Worlds
+pub mod Crossings
+pub mod Ends
+pub mod First

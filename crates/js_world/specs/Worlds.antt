@@ -1,0 +1,156 @@
+-- The machine of all parties as contracts see it, and that it stands where js_run's world stands.
+use Rattle.std.specs.Prelude.{◌≡◌, ◌<◌, ◌+◌, ◌-◌, ℕ, List, [], ◌∷◌, None, if◌then◌else◌, get_or, set, length, map, nat_eq}
+use Rattle.lava_base.specs.declared.ids.MadeSymbol.{MadeSymbol}
+use Rattle.lava_base.specs.declared.ids.Ref.{Ref}
+use Rattle.js_text.specs.Naming.{naming_of}
+use Rattle.js_conversions.specs.Primitives.{ReadsNumbers}
+use Rattle.js_native.specs.TextNatives.{FindsFirst}
+use Rattle.js_code.specs.Tables.{Tables}
+use Rattle.js_run.specs.Acts.{Next}
+use Rattle.js_run.specs.Heap as heap
+use Rattle.js_run.specs.Heap.{Control, Over_with, Runs, cross}
+use Rattle.js_run.specs.Journal as journal
+use Rattle.js_run.specs.Journal.{Application, Crossing, env_of, foreign_of, table_of}
+use Rattle.js_run.specs.Parties.{Party}
+use Rattle.js_run.specs.Requests.{is_link}
+use Rattle.js_machine.specs.Begun.{Own, left_of, nothing_left, own_of, with_left, with_own}
+use Rattle.js_machine.specs.Packages.{Package, loaded_in}
+use Rattle.js_machine.specs.Shown.{no_ask}
+use Rattle.js_machine.specs.Steps.{point_of}
+use Rattle.js_machine.specs.Views.{Around, View, halt_of, nexts_of, templates_at}
+use Rattle.js_machine.specs.declared.frame.Mode.{Mode}
+use Rattle.js_world.specs.Shows.{shows_ask, shows_ref}
+use Rattle.js_world.specs.declared.ending.Ending.{Ending}
+use Rattle.js_world.specs.declared.ending.Ending.TheVariants as ending
+use Rattle.js_world.specs.declared.ending.Turn.{Turn}
+use Rattle.js_world.specs.declared.ending.Turn.TheVariants as turn
+use Rattle.js_world.specs.declared.waiting.Waiting.{Waiting}
+
+-- the party that runs has its own things in the machine, and each other one has them in its place of the list. What waits stands with the newest first
+pub record WorldView : Type 0 where
+  pub machine : View
+  pub others : List Own
+  pub steps : List ℕ
+  pub spent : ℕ
+  pub budget : ℕ
+  pub stack : List Waiting
+
+-- THE THINGS OF EACH PARTY
+
+abbrev pub no_package : Package
+no_package = record { name = []; main = []; modules = []; links = []; builtin = None; mapped = [] }
+
+-- a party that is nowhere has nothing
+abbrev pub no_own : Own
+no_own = record { me = 0; objects = []; templates = []; scopes = []; bodies = []; depth = 0; own_package = no_package; allowed = [] }
+
+abbrev pub own_here : WorldView → ℕ → Own
+own_here v q = if nat_eq v.machine.me q then own_of v.machine else get_or v.others q no_own
+
+abbrev pub steps_of : WorldView → ℕ → ℕ
+steps_of v q = get_or v.steps q 0
+
+-- a party that has these things
+abbrev pub party_with : Party Ref MadeSymbol → Tables → Own → Party Ref MadeSymbol
+party_with p c o = record p {
+  name = o.own_package.name;
+  main = o.own_package.main;
+  modules = loaded_in c o.own_package;
+  links = o.own_package.links;
+  builtin = o.own_package.builtin;
+  module_map = o.own_package.mapped;
+  objects = o.objects;
+  templates = templates_at c o.templates;
+  scopes = o.scopes;
+  bodies = o.bodies;
+  depth = o.depth;
+}
+
+-- a body that waits, with what goes on there
+abbrev pub waits_of : Application → Tables → Waiting → ℕ × List (Next Ref MadeSymbol)
+waits_of app c b = (b.party, nexts_of (naming_of b.party) app.shared c b.left.frames b.left.values b.left.waits)
+
+-- WHAT THE MACHINE DOES
+
+-- the things of a place and those of the machine change places
+abbrev pub exchanged : ℕ → WorldView → WorldView
+exchanged at v = record v { machine = with_own (get_or v.others at no_own) v.machine; others = set v.others at (own_of v.machine) }
+
+-- the machine has the things of a party
+abbrev pub turned : ℕ → WorldView → WorldView
+turned q v = exchanged q (exchanged v.machine.me v)
+
+-- a party has taken so many steps in all
+abbrev pub charged : ℕ → ℕ → WorldView → WorldView
+charged p n v = record v { steps = set v.steps p n; spent = v.spent + (n - steps_of v p) }
+
+-- the body that runs waits
+abbrev pub aside : WorldView → WorldView
+aside v = record v { machine = with_left nothing_left v.machine; stack = record { party = v.machine.me; left = left_of v.machine } ∷ v.stack }
+
+-- what was asked is taken from the machine, with what others may know of it
+abbrev pub asked_away : Ref → WorldView → WorldView
+asked_away r v = record v { machine = shows_ask v.machine.asked.ask (shows_ref r (record v.machine { asked = no_ask })) }
+
+-- an ask at an object leaves the machine, and the body that sent it waits
+abbrev pub sent : Ref → ℕ → WorldView → WorldView
+sent r n v = aside (charged v.machine.me n (asked_away r v))
+
+-- THAT IT STANDS WHERE THE WORLD STANDS
+
+-- texts are read as the numbers that they stand for, and a part is found where it stands first
+pub record Reads (app : Application) : Type 0 where
+  pub numbers : ReadsNumbers app.shared.number_of
+  pub finds : FindsFirst app.shared.find
+
+-- what stands around a party
+abbrev pub around : (app : Application) → Reads app → List Crossing → ℕ → Around
+around app r j q = record { shared = app.shared; env = env_of app (table_of app j) q; rest = app.own q; numbers = r.numbers; finds = r.finds }
+
+-- the machine has the common part of the application, and each party has its number, its links and no meter
+pub record Suits (app : Application) (v : WorldView) : Type 0 where
+  pub reads : Reads app
+  pub objects : v.machine.common ≡ app.shared.objects
+  pub templates : templates_at v.machine.code v.machine.common_templates ≡ app.shared.templates
+  pub me : (q : ℕ) → q < length v.others → (own_here v q).me ≡ q
+  pub links : (q : ℕ) → q < length v.others → (l : List ℕ) → is_link l (own_here v q).allowed ≡ app.allows q (app.links q l)
+  pub meters : (q : ℕ) → q < length v.others → (app.own q).meter ≡ None
+
+-- each party has its own things as the world has them
+abbrev pub HasOwn : Application → heap.World → WorldView → ℕ → Type 0
+HasOwn app w v q = q < length v.others → w.own q ≡ party_with (app.own q) v.machine.code (own_here v q)
+
+-- what is paid, what waits and what is known are those of the world
+pub record Counts (app : Application) (w : heap.World) (v : WorldView) : Type 0 where
+  pub steps : (q : ℕ) → q < length v.steps → w.steps q ≡ steps_of v q
+  pub spent : w.spent ≡ v.spent
+  pub stack : w.stack ≡ map (waits_of app v.machine.code) v.stack
+  pub known : v.machine.known ≡ foreign_of app w.journal
+
+-- a party runs
+pub record Stands (app : Application) (w : heap.World) (v : WorldView) (m : Mode) : Type 0 where
+  pub suits : Suits app v
+  pub others : (q : ℕ) → (v.machine.me ≡ q → ⊥) → HasOwn app w v q
+  pub counts : Counts app w v
+  pub control : w.control ≡ Runs v.machine.me (point_of (around app suits.reads w.journal v.machine.me) v.machine m)
+
+abbrev pub ending_of : Ending → journal.Ending
+ending_of ending.Done = journal.Done
+ending_of ending.Uncaught = journal.Uncaught
+ending_of (ending.Budget p) = journal.Budget p
+ending_of (ending.Fault p h) = journal.Fault p (halt_of h)
+
+-- a run is over
+pub record IsOver (app : Application) (w : heap.World) (v : WorldView) (e : Ending) : Type 0 where
+  pub steps : (q : ℕ) → q < length v.steps → w.steps q ≡ steps_of v q
+  pub spent : w.spent ≡ v.spent
+  pub control : w.control ≡ Over_with (ending_of e)
+
+abbrev pub After : Application → heap.World → WorldView → Turn → Type 0
+After app w v (turn.Runs m) = Stands app w v m
+After app w v (turn.Over e) = IsOver app w v e
+
+-- the machine comes to the next crossing, wherever the world stands as it does
+pub record Crosses (old : WorldView) (m : Mode) (new : WorldView) (t : Turn) : Type 0 where
+  pub crosses : (app : Application) (w : heap.World) → Stands app w old m → After app (cross app old.budget w w.control) new t
+  pub budget : new.budget ≡ old.budget

@@ -1,0 +1,143 @@
+// The machine of all parties, and whose things stand in it.
+
+ghost use Rattle.std.specs.Prelude.{◌≡◌, ◌<◌, length, replicate, IfOk, OnOk};
+ghost use Rattle.js_world.specs.First.{RestsFirst, as_new};
+ghost use Rattle.js_world.specs.Worlds.{aside, charged, exchanged, turned};
+
+use crate::waiting::Waiting;
+use js_machine::machine::Machine;
+use js_machine::own::Own;
+use lava_base::memory::OutOfMemory;
+use std::alloc::Global;
+use std::marker::Model;
+
+/// The machine of all parties. The party that runs has its things in the machine, and each other
+/// one has them in its place of a list.
+#[derive(Drop)]
+pub struct World {
+    pub(crate) machine: Machine,
+    pub(crate) others: Vec<Own>,
+    /// The steps that each party has taken.
+    pub(crate) steps: Vec<u64>,
+    /// Those that all have taken.
+    pub(crate) spent: u64,
+    pub(crate) budget: u64,
+    /// The bodies that wait, the newest last.
+    pub(crate) stack: Vec<Waiting>,
+}
+
+impl Model for World {
+    ghost use Rattle.std.specs.Prelude.{reverse};
+    ghost use Rattle.js_world.specs.Worlds.{WorldView};
+
+    ghost Value = { WorldView };
+
+    ghost view = { λ w. record {
+      machine = w.machine;
+      others = w.others.items;
+      steps = w.steps.items;
+      spent = w.spent;
+      budget = w.budget;
+      stack = reverse w.stack.items;
+    } };
+}
+
+/// How many places there are for parties.
+fn count_of(others: &Vec<Own>) -> usize
+    ensures { result ≡ length others.now.items }
+{
+    others.len()
+}
+
+/// No party has taken steps.
+fn no_steps(alloc: Global, count: usize) -> Result<Vec<u64>, OutOfMemory>
+    ensures { IfOk result (λ v. v.items ≡ replicate count 0) }
+{
+    let mut steps = Vec::new(alloc);
+    for _i in 0..count {
+        steps.push(0)?;
+    }
+    Ok(steps)
+}
+
+impl World {
+    /// The machine of all parties that has nothing to do yet, with the things of each. The place of
+    /// the party in the machine holds things that nothing reads.
+    pub fn new(
+        alloc: Global,
+        machine: Machine,
+        others: Vec<Own>,
+        budget: u64,
+    ) -> Result<World, OutOfMemory>
+        ensures new { IfOk result (λ w. w ≡ as_new machine others.items budget) }
+        ensures rests { IfOk result RestsFirst }
+    {
+        let steps = no_steps(alloc, count_of(&others))?;
+        Ok(World {
+            machine,
+            others,
+            steps,
+            spent: 0,
+            budget,
+            stack: Vec::new(alloc),
+        })
+    }
+
+    /// The things of the party in the machine and those of a place change places.
+    fn exchange_at(&mut self, at: usize)
+        requires { at < length self.now.others }
+        ensures { self.new ≡ exchanged at self.old }
+    {
+        self.machine.exchange(&mut self.others[at]);
+    }
+
+    /// The machine has the things of a party. Want of memory is answered where there is no such
+    /// party.
+    pub fn turn_to(&mut self, party: u32) -> Result<(), OutOfMemory>
+        ensures turned { OnOk result (self.new ≡ turned party self.old) }
+        ensures from { OnOk result (self.old.machine.me < length self.old.others) }
+        ensures to { OnOk result (party < length self.old.others) }
+    {
+        let from = self.machine.party().0 as usize;
+        let to = party as usize;
+        let count = self.others.len();
+        if from >= count || to >= count {
+            return Err(OutOfMemory);
+        }
+        self.exchange_at(from);
+        self.exchange_at(to);
+        Ok(())
+    }
+
+    /// A party has taken so many steps in all. Want of memory is answered where there is no such
+    /// party, and where the steps of all are too many to be counted.
+    pub(crate) fn charge(&mut self, party: u32, steps: u64) -> Result<(), OutOfMemory>
+        ensures charged { OnOk result (self.new ≡ charged party steps self.old) }
+        ensures there { OnOk result (party < length self.old.steps) }
+    {
+        let at = party as usize;
+        if at >= self.steps.len() {
+            return Err(OutOfMemory);
+        }
+        let more = steps.saturating_sub(self.steps[at]);
+        match self.spent.checked_add(more) {
+            Some(spent) => {
+                self.steps[at] = steps;
+                self.spent = spent;
+                Ok(())
+            }
+            None => Err(OutOfMemory),
+        }
+    }
+
+    /// The body that runs waits.
+    #[tactic(auto, using(crate::proofs::Reversed::reverse_push))]
+    pub(crate) fn set_aside(&mut self) -> Result<(), OutOfMemory>
+        ensures { OnOk result (self.new ≡ aside self.old) }
+    {
+        let party = self.machine.party().0;
+        let left = self.machine.set_aside();
+        self.stack.push(Waiting { party, left })?;
+        Ok(())
+    }
+}
