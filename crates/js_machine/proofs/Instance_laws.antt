@@ -118,3 +118,9 @@ sought_known (Ok m) s o old mid new e d h =
     let u = subst (λ x. LeadsTo (λ a. inherits_from (naming_of old.me) x o (party_of a (without_top old))) (without_top old) new m) e w in
     record { leads = λ a. u.leads a; keeps = u.keeps }
 sought_known (Err x) s o old mid new e d h = tt
+
+-- the prototype is not the object that is sought, and is asked for its own
+pub found_or_not : {E : Type 0} (r : Result Mode E) (b : Bool) (s o : Ref) (old new : View) → b ≡ (naming_of old.me).same s o → b ≡ false
+    → IfOk r (LeadsTo (λ a. prototype_inherited (naming_of old.me) a.shared o (value.Ref s) (party_of a old)) old new) → IfOk r (LeadsTo (λ a. inherits_from (naming_of old.me) s (Some o) (party_of a old)) old new)
+found_or_not r b s o old new e d h =
+    subst (λ x. IfOk r (LeadsTo (λ a. if x then give (value.Bool true) (party_of a old) else prototype_inherited (naming_of old.me) a.shared o (value.Ref s) (party_of a old)) old new)) (sym d ∙ e) h

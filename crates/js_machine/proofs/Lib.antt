@@ -38,3 +38,4 @@ pub mod Chosen
 pub mod Operated
 pub mod Instance_laws
 pub mod Converted
+pub mod Constructing

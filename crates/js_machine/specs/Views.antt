@@ -333,6 +333,7 @@ super_method names shared args f p = argument_values names shared args p (applie
 -- what constructs in a `super` call does so with these arguments
 abbrev pub super_parent : Naming Ref MadeSymbol → Shared → Arguments → Option Ref → Party Ref MadeSymbol → Act Ref MadeSymbol
 super_parent names shared args o p = argument_values names shared args p (applied names shared purpose.SuperNew (parent_value names shared o ∷ []))
+
 -- the object that a value on the stack is
 abbrev pub object_on : Value Ref MadeSymbol → Ref
 object_on (value.Ref r) = r

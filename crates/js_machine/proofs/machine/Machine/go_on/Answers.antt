@@ -85,6 +85,7 @@ returns-in-Tested c = arm c.tested.result c.args.frame (frame.Tested c.in-Tested
 
 pub returns-in-Given : goal.returns-in-Given
 returns-in-Given c = arm c.give.result c.args.frame frame.Given c.args.value c.args.self.now c.give.new.self c.in-Given.is c.give.ensures.leads
+
 pub returns-in-Unary : goal.returns-in-Unary
 returns-in-Unary c = arm c.unary.result c.args.frame (frame.Unary c.in-Unary.operator) c.args.value c.args.self.now c.unary.new.self c.in-Unary.is c.unary.ensures
 
