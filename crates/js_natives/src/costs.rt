@@ -22,7 +22,8 @@ fn units_of_items(
     common: &FrozenStore,
     list: &Value,
 ) -> Result<u64, OutOfMemory>
-    ensures units { let items = list_items (naming_of store.now.party.0) store.now.objects common.now list.now in
+    ensures units { let own = store.now in
+        let items = list_items (naming_of own.party.0) own.objects common.now list.now in
         IfOk result (λ n. n ≡ units_of_items items) }
     ensures short { IfOk result (λ n. n ≤ 1048576 * 4294967296) }
 {
@@ -43,7 +44,8 @@ fn listed_units(
     which: Native,
     args: &[Value],
 ) -> Result<u64, OutOfMemory>
-    ensures units { let items = list_items (naming_of store.now.party.0) store.now.objects common.now in
+    ensures units { let own = store.now in
+        let items = list_items (naming_of own.party.0) own.objects common.now in
         IfOk result (λ n. n ≡ listed_units items which args.now) }
     ensures short { IfOk result (λ n. n ≤ 1048576 * 4294967296) }
 {
