@@ -30,7 +30,7 @@ Going = Around → V → Party Ref MadeSymbol → Act Ref MadeSymbol
 abbrev GoesOn : Frame → Mode → View → View → Mode → Type 0
 GoesOn f m old new after = LeadsTo (λ a. go_on (naming_of old.me) a.shared (over f (record old { values = values_without m old.values }) a) (completion_with old.code m (top old.values)) (party_of a old)) (under f (record old { values = values_without m old.values })) new after
 
-followed : (f : Frame) (m : Mode) (old new : View) (after : Mode) → is_completion m ≡ true → GoesOn f m old new after → IsDelivered f m old new after
+pub followed : (f : Frame) (m : Mode) (old new : View) (after : Mode) → is_completion m ≡ true → GoesOn f m old new after → IsDelivered f m old new after
 followed f (mode.Eval at) old new after c h = cc
 followed f mode.Ask old new after c h = cc
 followed f mode.Answer old new after c h = cc
@@ -42,6 +42,8 @@ followed f (mode.Continue l) old new after c h = record { stands = λ a. h.leads
 followed f (mode.End h) old new after c g = cc
 followed f (mode.Pay i) old new after c g = cc
 followed f (mode.Serve i) old new after c g = cc
+followed f mode.Import old new after c g = cc
+followed f mode.Outside old new after c g = cc
 
 returned_is : (m : Mode) (c : Tables) (v : V) (p : Party Ref MadeSymbol) (go : V → Party Ref MadeSymbol → Act Ref MadeSymbol) → is_completion m ≡ true → is_throw m ≡ false → returned (completion_with c m v) p go ≡ go (returned_value m v) p
 returned_is (mode.Eval at) c v p go k n = cc
@@ -55,8 +57,10 @@ returned_is (mode.Continue l) c v p go k n = refl
 returned_is (mode.End h) c v p go k n = cc
 returned_is (mode.Pay i) c v p go k n = cc
 returned_is (mode.Serve i) c v p go k n = cc
+returned_is mode.Import c v p go k n = cc
+returned_is mode.Outside c v p go k n = cc
 
-throw_is : (m : Mode) → is_throw m ≡ true → m ≡ mode.Throw
+pub throw_is : (m : Mode) → is_throw m ≡ true → m ≡ mode.Throw
 throw_is (mode.Eval at) t = cc
 throw_is mode.Ask t = cc
 throw_is mode.Answer t = cc
@@ -68,6 +72,8 @@ throw_is (mode.Continue l) t = cc
 throw_is (mode.End h) t = cc
 throw_is (mode.Pay i) t = cc
 throw_is (mode.Serve i) t = cc
+throw_is mode.Import t = cc
+throw_is mode.Outside t = cc
 
 -- the body's end leads on
 abbrev Ends : Going → Mode → View → View → Mode → Type 0

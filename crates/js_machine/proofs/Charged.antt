@@ -14,17 +14,22 @@ use Rattle.js_run.specs.Runs as runs
 use Rattle.js_run.specs.Runs.{Begins, Charge, Charged, Decides, Due, Env, Gives, Job, Lacks, Nothing, Point, Short, Stopped, Stops, answered, at_steps, charge, run, run_for, settle, work}
 use Rattle.js_machine.specs.Looks.{foreign_in}
 use Rattle.js_machine.specs.Steps.{Keeps, asked_at, point_of, settles}
-use Rattle.js_machine.specs.Stops.{IsRun, IsWorked, RunsFor, Stays, ask_cost, ask_stop, charge_of, cost_of, stop_at, stop_of, with_steps, worked}
+use Rattle.js_machine.specs.Stops.{IsRun, IsWorked, RunsFor, RunsOn, Stays, ask_cost, ask_stop, charge_of, cost_of, stop_at, stop_of, told_as, told_stop, with_steps, worked}
 use Rattle.js_machine.specs.Views.{Around, Values, View, below, completion_of, fitting, is_handed, nexts_of, party_of}
 use Rattle.js_machine.specs.declared.frame.Mode.{Mode}
 use Rattle.js_machine.specs.declared.frame.Mode.TheVariants as mode
 use Rattle.js_machine.specs.declared.frame.Halt.TheVariants as halt
 use Rattle.js_machine.specs.declared.stop.Charge as charge_type
 use Rattle.js_machine.specs.declared.stop.Charge.TheVariants as charge_kind
+use Rattle.js_machine.specs.declared.stop.Pause.{Pause}
 use Rattle.js_machine.specs.declared.stop.Stop.{Stop}
 use Rattle.js_machine.specs.declared.stop.Stop.TheVariants as stop
 use Rattle.js_machine.proofs.Handed.{fits, keeps_on, me_kept}
 use Rattle.js_machine.proofs.Looked.{decided_here, sent_away}
+
+-- what is left of a run
+abbrev pub paused : (charges limit steps : ℕ) → Pause
+paused k limit n = record { charges = k; limit = limit; steps = n; told = None }
 
 module _ (names : Naming Ref MadeSymbol) (shared : Shared) (env : Env Ref) where
   -- what becomes of a point by what becomes of the charge
@@ -70,6 +75,8 @@ module _ (names : Naming Ref MadeSymbol) (shared : Shared) (env : Env Ref) where
       let z : i ≡ n = cc in
       subst (λ x. charge a.rest.meter steps limit (suc x) ≡ c → run_for names shared env (suc k) limit steps (point_of a w (mode.Pay i)) ≡ paid k limit steps x (point_of a w (mode.Pay i)) c) z
       (λ h. due_paid k limit steps i Nothing (party_of a w) (nexts_of (naming_of w.me) a.shared w.code w.frames w.values w.waits) c h) d
+  pays k limit steps n c a mode.Import w e d = cc
+  pays k limit steps n c a mode.Outside w e d = cc
   pays k limit steps n c a (mode.Serve i) w e d =
       let z : i ≡ n = cc in
       subst (λ x. charge a.rest.meter steps limit (suc x) ≡ c → run_for names shared env (suc k) limit steps (point_of a w (mode.Serve i)) ≡ paid k limit steps x (point_of a w (mode.Serve i)) c) z
@@ -86,36 +93,44 @@ module _ (names : Naming Ref MadeSymbol) (shared : Shared) (env : Env Ref) where
   stops_ask k limit n a (Some r) w e c =
       ap (run_for names shared env k limit n) (sym (sent_away (naming_of w.me) w.asked.target r w.asked.ask (party_of a w) (nexts_of (naming_of w.me) a.shared w.code w.frames w.values w.waits) e))
 
-  stops_there : (k limit n : ℕ) (a : Around) (m : Mode) (w : View) → cost_of w m ≡ None → (is_handed m ≡ true → w.frames ≡ []) → stop_of a w (stop_at w m n) ≡ run_for names shared env k limit n (point_of a w m)
-  stops_there k limit n a (mode.Eval at) w c e = cc
-  stops_there k limit n a mode.Ask w c e = stops_ask k limit n a (foreign_in (naming_of w.me) w.asked.target) w refl c
-  stops_there k limit n a mode.Answer w c e = over_by k limit n a w w.values (completion_of w mode.Answer) (e refl)
-  stops_there k limit n a mode.Value w c e = over_by k limit n a w (below w.values) (completion_of w mode.Value) (e refl)
-  stops_there k limit n a mode.Throw w c e = over_by k limit n a w (below w.values) (completion_of w mode.Throw) (e refl)
-  stops_there k limit n a mode.Return w c e = over_by k limit n a w (below w.values) (completion_of w mode.Return) (e refl)
-  stops_there k limit n a (mode.Break l) w c e = over_by k limit n a w w.values (completion_of w (mode.Break l)) (e refl)
-  stops_there k limit n a (mode.Continue l) w c e = over_by k limit n a w w.values (completion_of w (mode.Continue l)) (e refl)
-  stops_there k limit n a (mode.End h) w c e = refl
-  stops_there k limit n a (mode.Pay i) w c e = cc
-  stops_there k limit n a (mode.Serve i) w c e = cc
+  -- the party goes on with the answer of the outside as these do
+  abbrev pub GoesOut : (k limit n : ℕ) → Around → View → Type 0
+  GoesOut k limit n a w = run_for (naming_of w.me) a.shared a.env k limit n (point_of a w mode.Outside) ≡ run_for names shared env k limit n (point_of a w mode.Outside)
+
+  stops_there : (k limit n : ℕ) (a : Around) (m : Mode) (w : View) → cost_of w m ≡ None → (is_handed m ≡ true → w.frames ≡ []) → GoesOut k limit n a w → stop_of a w (stop_at w m (paused k limit n)) ≡ run_for names shared env k limit n (point_of a w m)
+  stops_there k limit n a (mode.Eval at) w c e o = cc
+  stops_there k limit n a mode.Ask w c e o = stops_ask k limit n a (foreign_in (naming_of w.me) w.asked.target) w refl c
+  stops_there k limit n a mode.Answer w c e o = over_by k limit n a w w.values (completion_of w mode.Answer) (e refl)
+  stops_there k limit n a mode.Value w c e o = over_by k limit n a w (below w.values) (completion_of w mode.Value) (e refl)
+  stops_there k limit n a mode.Throw w c e o = over_by k limit n a w (below w.values) (completion_of w mode.Throw) (e refl)
+  stops_there k limit n a mode.Return w c e o = over_by k limit n a w (below w.values) (completion_of w mode.Return) (e refl)
+  stops_there k limit n a (mode.Break l) w c e o = over_by k limit n a w w.values (completion_of w (mode.Break l)) (e refl)
+  stops_there k limit n a (mode.Continue l) w c e o = over_by k limit n a w w.values (completion_of w (mode.Continue l)) (e refl)
+  stops_there k limit n a (mode.End h) w c e o = refl
+  stops_there k limit n a (mode.Pay i) w c e o = cc
+  stops_there k limit n a (mode.Serve i) w c e o = cc
+  stops_there k limit n a mode.Import w c e o = refl
+  stops_there k limit n a mode.Outside w c e o = o
 
   last_ask : (limit n : ℕ) (a : Around) (o : Option Ref) (w : View) → foreign_in (naming_of w.me) w.asked.target ≡ o → stop_of a w (ask_stop o n) ≡ run_for names shared env zero limit n (point_of a w mode.Ask)
   last_ask limit n a None w e =
       ap (run_for names shared env zero limit n) (sym (decided_here (naming_of w.me) w.asked.target w.asked.ask (party_of a w) (nexts_of (naming_of w.me) a.shared w.code w.frames w.values w.waits) e))
   last_ask limit n a (Some r) w e = stops_ask zero limit n a (Some r) w e refl
 
-  stops_last : (limit n : ℕ) (a : Around) (m : Mode) (w : View) → (is_handed m ≡ true → w.frames ≡ []) → stop_of a w (stop_at w m n) ≡ run_for names shared env zero limit n (point_of a w m)
-  stops_last limit n a (mode.Eval at) w e = refl
-  stops_last limit n a mode.Ask w e = last_ask limit n a (foreign_in (naming_of w.me) w.asked.target) w refl
-  stops_last limit n a mode.Answer w e = stops_there zero limit n a mode.Answer w refl e
-  stops_last limit n a mode.Value w e = stops_there zero limit n a mode.Value w refl e
-  stops_last limit n a mode.Throw w e = stops_there zero limit n a mode.Throw w refl e
-  stops_last limit n a mode.Return w e = stops_there zero limit n a mode.Return w refl e
-  stops_last limit n a (mode.Break l) w e = stops_there zero limit n a (mode.Break l) w refl e
-  stops_last limit n a (mode.Continue l) w e = stops_there zero limit n a (mode.Continue l) w refl e
-  stops_last limit n a (mode.End h) w e = refl
-  stops_last limit n a (mode.Pay i) w e = refl
-  stops_last limit n a (mode.Serve i) w e = refl
+  stops_last : (limit n : ℕ) (a : Around) (m : Mode) (w : View) → (is_handed m ≡ true → w.frames ≡ []) → GoesOut zero limit n a w → stop_of a w (stop_at w m (paused zero limit n)) ≡ run_for names shared env zero limit n (point_of a w m)
+  stops_last limit n a (mode.Eval at) w e o = refl
+  stops_last limit n a mode.Ask w e o = last_ask limit n a (foreign_in (naming_of w.me) w.asked.target) w refl
+  stops_last limit n a mode.Answer w e o = stops_there zero limit n a mode.Answer w refl e o
+  stops_last limit n a mode.Value w e o = stops_there zero limit n a mode.Value w refl e o
+  stops_last limit n a mode.Throw w e o = stops_there zero limit n a mode.Throw w refl e o
+  stops_last limit n a mode.Return w e o = stops_there zero limit n a mode.Return w refl e o
+  stops_last limit n a (mode.Break l) w e o = stops_there zero limit n a (mode.Break l) w refl e o
+  stops_last limit n a (mode.Continue l) w e o = stops_there zero limit n a (mode.Continue l) w refl e o
+  stops_last limit n a (mode.End h) w e o = refl
+  stops_last limit n a (mode.Pay i) w e o = refl
+  stops_last limit n a (mode.Serve i) w e o = refl
+  stops_last limit n a mode.Import w e o = refl
+  stops_last limit n a mode.Outside w e o = o
 
 -- A RUN ON ITS WAY
 
@@ -185,30 +200,51 @@ module _ (meter : Option ℕ) (charges limit steps : ℕ) (start : Mode) (first 
       let is : charge meter spent limit (suc cost) ≡ Stops halt_kind.Meter = (let there : suc cost ≡ price = omega (arith, p) in ap (charge meter spent limit) there) ∙ sym g ∙ ap charge_of y in
       record { stops = λ a h. sym (pays_on (charges - suc i) i spent cost (Stops halt_kind.Meter) m w on (omega (arith, l)) d is a h); keeps = on.keeps }
 
+  out_there : (k spent : ℕ) (w : View) (a : Around) → Keeps first w → (let b = fitting first a in GoesOut (naming_of first.me) b.shared b.env k limit spent b w)
+  out_there k spent w a keeps = (let b = fitting first a in ap (λ i. run_for (naming_of i) b.shared b.env k limit spent (point_of b w mode.Outside)) (me_kept first w keeps))
+
   -- nothing is due
-  pub none_there : (i spent : ℕ) (o : Option ℕ) (s : Stop) (m : Mode) (w : View) → IsOn meter charges limit steps start first i spent m w → o ≡ cost_of w m → o ≡ None → (is_handed m ≡ true → w.frames ≡ []) → i < charges → s ≡ stop_at w m spent
+  pub none_there : (i spent : ℕ) (o : Option ℕ) (s : Stop) (m : Mode) (w : View) → IsOn meter charges limit steps start first i spent m w → o ≡ cost_of w m → o ≡ None → (is_handed m ≡ true → w.frames ≡ []) → i < charges → s ≡ stop_at w m (paused (charges - i) limit spent)
       → RunsFor meter charges limit steps start first w s
   none_there i spent o s m w on d n f l e =
       record {
-        stops = λ a h. (let b = fitting first a in ap (stop_of b w) e ∙ stops_there (naming_of first.me) b.shared b.env (charges - i) limit spent b m w (sym d ∙ n) f ∙ sym (on.goes (charges - i) (omega (arith, l)) a h));
+        stops = λ a h. (let b = fitting first a in ap (stop_of b w) e ∙ stops_there (naming_of first.me) b.shared b.env (charges - i) limit spent b m w (sym d ∙ n) f (out_there (charges - i) spent w a on.keeps) ∙ sym (on.goes (charges - i) (omega (arith, l)) a h));
         keeps = on.keeps;
       }
 
   -- no charge is left
-  pub last_there : (i spent : ℕ) (s : Stop) (m : Mode) (w : View) → IsOn meter charges limit steps start first i spent m w → (is_handed m ≡ true → w.frames ≡ []) → i ≡ charges → s ≡ stop_at w m spent → RunsFor meter charges limit steps start first w s
+  pub last_there : (i spent : ℕ) (s : Stop) (m : Mode) (w : View) → IsOn meter charges limit steps start first i spent m w → (is_handed m ≡ true → w.frames ≡ []) → i ≡ charges → s ≡ stop_at w m (paused 0 limit spent) → RunsFor meter charges limit steps start first w s
   last_there i spent s m w on f l e =
       record {
-        stops = λ a h. (let b = fitting first a in let all : 0 + i ≡ charges = omega (arith, l) in ap (stop_of b w) e ∙ stops_last (naming_of first.me) b.shared b.env limit spent b m w f ∙ sym (on.goes zero all a h));
+        stops = λ a h. (let b = fitting first a in let all : 0 + i ≡ charges = omega (arith, l) in ap (stop_of b w) e ∙ stops_last (naming_of first.me) b.shared b.env limit spent b m w f (out_there zero spent w a on.keeps) ∙ sym (on.goes zero all a h));
         keeps = on.keeps;
       }
 
 -- RUNS
+
+last_steps : (n m : ℕ) (s : runs.Stop Ref MadeSymbol) → at_steps n s ≡ at_steps n (at_steps m s)
+last_steps n m (runs.Sent o p ks k) = refl
+last_steps n m (runs.Gave c p k) = refl
+last_steps n m (Stopped e k) = refl
+last_steps n m (Short k) = refl
+
+-- the steps that are told last
+told_again : (n : ℕ) (o : Option ℕ) (s : runs.Stop Ref MadeSymbol) → told_as (Some n) s ≡ at_steps n (told_as o s)
+told_again n None s = refl
+told_again n (Some m) s = last_steps n m s
 
 stepped : (a : Around) (w : View) (n : ℕ) (s : Stop) → stop_of a w (with_steps n s) ≡ at_steps n (stop_of a w s)
 stepped a w n (stop.Sent r k) = refl
 stepped a w n (stop.Gave m k) = refl
 stepped a w n (stop.Stopped h k) = refl
 stepped a w n (stop.Short k) = refl
+stepped a w n (stop.Imports k) = refl
+stepped a w n (stop.Outside p) = told_again n p.told (run_for (naming_of w.me) a.shared a.env p.charges p.limit p.steps (point_of a w mode.Outside))
+
+-- the steps that a stop tells
+stop_told : (a : Around) (w : View) (o : Option ℕ) (s : Stop) → stop_of a w (told_stop o s) ≡ told_as o (stop_of a w s)
+stop_told a w None s = refl
+stop_told a w (Some n) s = stepped a w n s
 
 -- a run by whether it is free of charge
 abbrev Runs : Bool → (limit steps : ℕ) → Mode → View → Around → runs.Stop Ref MadeSymbol
@@ -231,3 +267,10 @@ runs_charged (Ok s) free meter charges limit steps m old new f c h =
     let run = subst (λ n. RunsFor meter n limit steps m old new s) c h in
     subst (λ x. IsRun x meter limit steps m old new s) (sym f) (by_charge false meter limit steps m old new s run.keeps (λ a d. run.stops a d))
 runs_charged (Err x) free meter charges limit steps m old new f c h = tt
+
+pub goes_on_after : (meter : Option ℕ) (p : Pause) (m : Mode) (old new : View) (r s : Stop) → RunsFor meter p.charges p.limit p.steps m old new r → s ≡ told_stop p.told r → RunsOn meter p m old new s
+goes_on_after meter p m old new r s h e =
+    record {
+      stops = λ a d. (let b = fitting old a in ap (stop_of b new) e ∙ stop_told b new p.told r ∙ ap (told_as p.told) (h.stops a d));
+      keeps = h.keeps;
+    }

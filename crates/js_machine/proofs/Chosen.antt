@@ -1,5 +1,5 @@
 -- Choices that are known.
-use Rattle.std.proofs.Common.{◌≡◌, ℕ, Bool, drop, Option, sym, ◌∙◌, subst, Result, IfOk, if◌then◌else◌}
+use Rattle.std.proofs.Common.{◌≡◌, ℕ, Bool, true, false, drop, Option, sym, ◌∙◌, subst, Result, IfOk, if◌then◌else◌}
 use Rattle.lava_base.specs.declared.ids.MadeSymbol.{MadeSymbol}
 use Rattle.lava_base.specs.declared.ids.Ref.{Ref}
 use Rattle.js_text.specs.Naming.{naming_of}
@@ -7,13 +7,13 @@ use Rattle.js_text.specs.declared.value.Key.TheVariants as key
 use Rattle.js_text.specs.declared.value.Value.{Value}
 use Rattle.js_code.specs.Decoded.{text_at}
 use Rattle.js_store.specs.declared.slot.Lexical.{Lexical}
-use Rattle.js_run.specs.Acts.{give}
+use Rattle.js_run.specs.Acts.{Act, give}
 use Rattle.js_run.specs.Bodies.{run_template}
 use Rattle.js_run.specs.Parties.{first_body}
 use Rattle.js_run.specs.Properties.{get_global, missing_global, on_this}
 use Rattle.js_machine.specs.Opened.{template_of}
 use Rattle.js_machine.specs.Steps.{LeadsTo}
-use Rattle.js_machine.specs.Views.{View, args_on, party_of}
+use Rattle.js_machine.specs.Views.{Around, View, args_on, party_of}
 use Rattle.js_machine.specs.declared.frame.Mode.{Mode}
 
 -- the `this` of the body that runs
@@ -34,3 +34,8 @@ pub there_or_not : {E : Type 0} (r : Result Mode E) (b c : Bool) (n : ℕ) (soft
     → IfOk r (LeadsTo (λ a. if b then get_global (naming_of old.me) (key.Text (text_at old.code n)) (party_of a old) else missing_global (naming_of old.me) (text_at old.code n) soft (party_of a old)) old new)
 there_or_not r b c n soft old new e h =
     subst (λ x. IfOk r (LeadsTo (λ a. if x then get_global (naming_of old.me) (key.Text (text_at old.code n)) (party_of a old) else missing_global (naming_of old.me) (text_at old.code n) soft (party_of a old)) old new)) (sym e) h
+
+-- a test that is known
+pub when : {E : Type 0} (r : Result Mode E) (b : Bool) (x y : Around → Act Ref MadeSymbol) (old new : View) → b ≡ true → IfOk r (LeadsTo x old new) → IfOk r (LeadsTo (λ a. if b then x a else y a) old new)
+when r true x y old new e h = h
+when r false x y old new e h = cc

@@ -41,10 +41,10 @@ module _ (a : Around) (at : ℕ) (old : View) where
   abbrev read : ℕ → Template
   read = template_at old.code (term_at old.code)
 
-  number : next_number old ≡ length (map read old.common_templates ++ map read old.templates)
+  pub number : next_number old ≡ length (map read old.common_templates ++ map read old.templates)
   number = as_many read old.common_templates old.templates
 
-  one_more : map read (old.templates ++ at ∷ []) ≡ map read old.templates ++ read at ∷ []
+  pub one_more : map read (old.templates ++ at ∷ []) ≡ map read old.templates ++ read at ∷ []
   one_more = map-append read old.templates (at ∷ [])
 
   abbrev Made : Bool → Bool → Type 0

@@ -27,6 +27,8 @@ exits_by s (mode.Continue l) old c = record { stands = λ a. refl; keeps = (refl
 exits_by s (mode.End h) old c = cc
 exits_by s (mode.Pay i) old c = cc
 exits_by s (mode.Serve i) old c = cc
+exits_by s mode.Import old c = cc
+exits_by s mode.Outside old c = cc
 
 pub exits : (s : ℕ) (m : Mode) (old new : View) → is_completion m ≡ true → new ≡ record old { bodies = stood_in s old.bodies } → IsDelivered (frame.ScopeExit s) m old new m
 exits s m old new c e = subst (λ w. IsDelivered (frame.ScopeExit s) m old w m) (sym e) (exits_by s m old c)
@@ -59,6 +61,8 @@ passes_by l (mode.Continue to) old c n = record { stands = λ a. refl; keeps = (
 passes_by l (mode.End h) old c n = cc
 passes_by l (mode.Pay i) old c n = cc
 passes_by l (mode.Serve i) old c n = cc
+passes_by l mode.Import old c n = cc
+passes_by l mode.Outside old c n = cc
 
 pub passes_label : (l : ℕ) (m : Mode) (old : View) → is_completion m ≡ true → ((to : ℕ) → m ≡ mode.Break to → ⊥) → IsDelivered (frame.Label l) m old old m
 passes_label l m old c n = passes_by l m old c n

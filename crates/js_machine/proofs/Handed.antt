@@ -100,6 +100,8 @@ paid_works (Ok k) (mode.Break l) old new d h = cc
 paid_works (Ok k) (mode.Continue l) old new d h = cc
 paid_works (Ok k) (mode.End h') old new d h = cc
 paid_works (Ok k) (mode.Serve n) old new d h = cc
+paid_works (Ok k) mode.Import old new d h = cc
+paid_works (Ok k) mode.Outside old new d h = cc
 paid_works (Err x) m old new d h = tt
 
 -- an ask that came from another party is decided

@@ -80,6 +80,8 @@ ended_by v (mode.Continue l) old h = cc
 ended_by v (mode.End x) old h = cc
 ended_by v (mode.Pay i) old h = cc
 ended_by v (mode.Serve i) old h = cc
+ended_by v mode.Import old h = cc
+ended_by v mode.Outside old h = cc
 
 pub ended : (v : Value Ref MadeSymbol) (m : Mode) (old new : View) → has_value m ≡ true → new ≡ record old { values = v ∷ old.values } → LeadsTo (λ a. Give (completion_with old.code m v) (party_of a old)) old new m
 ended v m old new h e = led _ old (record old { values = v ∷ old.values }) new m m (ended_by v m old h) e refl

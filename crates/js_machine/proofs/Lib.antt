@@ -38,4 +38,13 @@ pub mod Chosen
 pub mod Operated
 pub mod Instance_laws
 pub mod Converted
+pub mod Defined
+pub mod Parted
+pub mod Classed
+pub mod Paid_laws
+pub mod Native_deeds
+pub mod Requested
+pub mod Required
+pub mod Evaluates
 pub mod Constructing
+pub mod Outside_laws

@@ -81,6 +81,8 @@ paid_by (mode.Continue l) old c = record { stands = λ a. refl; keeps = (refl, (
 paid_by (mode.End h) old c = cc
 paid_by (mode.Pay i) old c = cc
 paid_by (mode.Serve i) old c = cc
+paid_by mode.Import old c = cc
+paid_by mode.Outside old c = cc
 
 paid : (m : Mode) (b : Bool) (old new : View) → is_completion m ≡ true → has_value m ≡ b → new ≡ record old { values = drop (if b then 1 else 0) old.values } → IsDelivered frame.Paid m old new mode.Value
 paid m b old new c e s = subst (λ w. IsDelivered frame.Paid m old w mode.Value) (sym (s ∙ ap (λ i. record old { values = drop (if i then 1 else 0) old.values }) (sym e))) (paid_by m old c)

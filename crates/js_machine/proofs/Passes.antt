@@ -5,7 +5,7 @@ use Rattle.lava_base.specs.declared.ids.Ref.{Ref}
 use Rattle.js_text.specs.Naming.{Naming, naming_of}
 use Rattle.js_text.specs.declared.value.Value.{Value}
 use Rattle.js_text.specs.declared.value.Value.TheVariants as value
-use Rattle.js_code.specs.Decoded.{term_at, terms_of, text_at, arguments_at}
+use Rattle.js_code.specs.Decoded.{term_at, terms_of, text_at, arguments_at, parts_of}
 use Rattle.js_code.specs.Tables.{Tables}
 use Rattle.js_run.specs.Acts.{Act, Evaluate, Give, Tested, Turned, give, on_flag, on_prototype, on_value, throws}
 use Rattle.js_run.specs.Completions.{Completion}
@@ -14,11 +14,14 @@ use Rattle.js_run.specs.Control.{all_values, finally_ends, in_order, listed, ret
 use Rattle.js_run.specs.Going.{go_on}
 use Rattle.js_run.specs.Operators.{binary_value, unary_value}
 use Rattle.js_run.specs.Parties.{Party, Shared}
+use Rattle.js_run.specs.Parts.{define_on}
 use Rattle.js_run.specs.Properties.{delete_property, init_slot, put_global, put_property, set_slot}
 use Rattle.js_run.specs.Rows.{binary_left, delete_object, get_key, get_object, if_test, put_key, put_object, short_left, super_key, call_on_object, new_callee}
 use Rattle.js_run.specs.Runs.{Gives, answered, settle}
 use Rattle.js_run.specs.Truth.{to_boolean}
-use Rattle.js_machine.specs.Views.{Around, Values, View, Waits, below, completion_with, fitting, has_value, has_wait, is_abrupt, knows, next_over, nexts_of, owned, party_of, rest_of, takes_values, top, turns_at, values_without, applied, args_on, next_of}
+use Rattle.js_machine.specs.Views.{Around, Values, View, Waits, below, completion_with, fitting, has_value, has_wait, is_abrupt, knows, next_over, nexts_of, owned, party_of, rest_of, takes_values, top, turns_at, values_without, applied, args_on, holding_on, next_of, next_part_of}
+use Rattle.js_machine.specs.Classes.{parent_comes, prototype_comes}
+use Rattle.js_machine.specs.Parts.{part_at, part_comes, part_valued, parts_go, reference_in}
 use Rattle.js_machine.specs.Steps.{IsDelivered, Keeps, comes, point_of, settles}
 use Rattle.js_machine.specs.declared.frame.Frame.{Frame}
 use Rattle.js_machine.specs.declared.frame.Frame.TheVariants as frame
@@ -40,6 +43,8 @@ module _ (names : Naming Ref MadeSymbol) (shared : Shared) (c : Tables) (v : Val
   abrupt (mode.End h) a p go = cc
   abrupt (mode.Pay i) a p go = cc
   abrupt (mode.Serve i) a p go = cc
+  abrupt mode.Import a p go = cc
+  abrupt mode.Outside a p go = cc
 
   after_last : (m : Mode) → is_abrupt m ≡ true → (earlier : Completion Ref MadeSymbol) (p : Party Ref MadeSymbol) → finally_ends earlier (completion_with c m v) p ≡ Give (completion_with c m v) p
   after_last (mode.Eval at) a e p = cc
@@ -53,6 +58,8 @@ module _ (names : Naming Ref MadeSymbol) (shared : Shared) (c : Tables) (v : Val
   after_last (mode.End h) a e p = cc
   after_last (mode.Pay i) a e p = cc
   after_last (mode.Serve i) a e p = cc
+  after_last mode.Import a e p = cc
+  after_last mode.Outside a e p = cc
 
   no_flag : (m : Mode) → is_abrupt m ≡ true → (p : Party Ref MadeSymbol) (go : Bool → Party Ref MadeSymbol → Act Ref MadeSymbol) → on_flag (completion_with c m v) p go ≡ Give (completion_with c m v) p
   no_flag (mode.Eval at) a p go = cc
@@ -66,6 +73,8 @@ module _ (names : Naming Ref MadeSymbol) (shared : Shared) (c : Tables) (v : Val
   no_flag (mode.End h) a p go = cc
   no_flag (mode.Pay i) a p go = cc
   no_flag (mode.Serve i) a p go = cc
+  no_flag mode.Import a p go = cc
+  no_flag mode.Outside a p go = cc
 
   no_prototype : (m : Mode) → is_abrupt m ≡ true → (p : Party Ref MadeSymbol) (go : Option Ref → Party Ref MadeSymbol → Act Ref MadeSymbol) → on_prototype (completion_with c m v) p go ≡ Give (completion_with c m v) p
   no_prototype (mode.Eval at) a p go = cc
@@ -79,8 +88,11 @@ module _ (names : Naming Ref MadeSymbol) (shared : Shared) (c : Tables) (v : Val
   no_prototype (mode.End h) a p go = cc
   no_prototype (mode.Pay i) a p go = cc
   no_prototype (mode.Serve i) a p go = cc
+  no_prototype mode.Import a p go = cc
+  no_prototype mode.Outside a p go = cc
 
   by_frame : (f : Frame) (m : Mode) (vs : Values) (ws : Waits) → takes_values f ≡ true → is_abrupt m ≡ true → (p : Party Ref MadeSymbol) → go_on names shared (next_over names shared c f vs ws) (completion_with c m v) p ≡ Give (completion_with c m v) p
+  unfolding next_part_of
   by_frame (frame.SetLocal h s constant) m vs ws t a p = abrupt m a p (set_slot names h s constant)
   by_frame (frame.Init h s) m vs ws t a p = abrupt m a p (init_slot names h s)
   by_frame (frame.Unary o) m vs ws t a p = abrupt m a p (unary_value names shared o)
@@ -138,6 +150,16 @@ module _ (names : Naming Ref MadeSymbol) (shared : Shared) (c : Tables) (v : Val
   by_frame frame.Inherits m vs ws t a p = no_prototype m a p _
   by_frame (frame.MethodGot last g) m vs ws t a p = abrupt m a p _
   by_frame (frame.MethodCalled last g) m vs ws t a p = abrupt m a p _
+  by_frame (frame.Define start count) m vs ws t a p = abrupt m a p (define_on names shared (parts_of c (term_at c) start count))
+  by_frame (frame.Part e at left) m vs ws t a p = abrupt m a p (part_comes names shared c (holding_on e vs) at left (part_at c at))
+  by_frame (frame.PartValue e at left) m vs ws t a p = abrupt m a p (part_valued names shared c (holding_on e (below vs)) at left (top vs))
+  by_frame (frame.Parts e start count) m vs ws t a p = abrupt m a p (λ w q. parts_go names shared c (holding_on e vs) start count q)
+  by_frame (frame.ClassParent k) m vs ws t a p = abrupt m a p (parent_comes names shared c k)
+  by_frame (frame.ClassPrototype k) m vs ws t a p = abrupt m a p (prototype_comes names shared c k (reference_in (top vs)))
+  by_frame (frame.Charged which count) m vs ws t a p = cc
+  by_frame frame.Made m vs ws t a p = cc
+  by_frame (frame.ModuleBody n at o) m vs ws t a p = cc
+  by_frame (frame.ModuleEnds n at) m vs ws t a p = cc
 
 -- nothing waits for a frame that takes values
 pub nothing_waits : (f : Frame) → takes_values f ≡ true → has_wait f ≡ false
@@ -164,6 +186,8 @@ with_value_passed f (mode.Continue l) w t x v a = cc
 with_value_passed f (mode.End h) w t x v a = cc
 with_value_passed f (mode.Pay i) w t x v a = cc
 with_value_passed f (mode.Serve i) w t x v a = cc
+with_value_passed f mode.Import w t x v a = cc
+with_value_passed f mode.Outside w t x v a = cc
 
 without_passed : (f : Frame) (m : Mode) (w : View) → takes_values f ≡ true → is_abrupt m ≡ true → has_value m ≡ false → (a : Around)
     → point_of a (record w { values = drop (owned f) w.values }) m ≡ point_of a (record w { frames = f ∷ w.frames }) m
@@ -178,6 +202,8 @@ without_passed f (mode.Continue l) w t x v a = passed f (mode.Continue l) w t x 
 without_passed f (mode.End h) w t x v a = cc
 without_passed f (mode.Pay i) w t x v a = cc
 without_passed f (mode.Serve i) w t x v a = cc
+without_passed f mode.Import w t x v a = cc
+without_passed f mode.Outside w t x v a = cc
 
 -- what a step that changes only values keeps
 pub kept : (old new : View) (vs : Values) → new ≡ record old { values = vs } → Keeps old new

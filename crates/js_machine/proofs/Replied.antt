@@ -18,7 +18,7 @@ use Rattle.js_run.specs.Runs.{answered, settle}
 use Rattle.js_machine.specs.Bodies.{stood_in}
 use Rattle.js_machine.specs.Replies.{deed_replied}
 use Rattle.js_machine.specs.Steps.{IsDelivered, LeadsTo, point_of, settles, under, without_top, deed_with}
-use Rattle.js_machine.specs.Views.{Around, Values, View, Waits, completion_with, fitting, flag_in, prototype_in, next_over, nexts_of, owned, party_of, reply_of_answer, rest_of, takes_answers, takes_values, top, turns_at}
+use Rattle.js_machine.specs.Views.{Around, Values, View, Waits, completion_with, fitting, flag_in, prototype_in, next_over, next_part_of, nexts_of, owned, party_of, reply_of_answer, rest_of, takes_answers, takes_values, top, turns_at}
 use Rattle.js_machine.specs.declared.asked.Answer.{Answer}
 use Rattle.js_machine.specs.declared.asked.Answer.TheVariants as answer
 use Rattle.js_machine.specs.declared.frame.Frame.{Frame}
@@ -78,6 +78,16 @@ module _ (names : Naming Ref MadeSymbol) (shared : Shared) (c : Tables) where
   after_last (answer.Desc d) e p = refl
   after_last (answer.Keys ks) e p = refl
 
+  part_untaken : (f : Frame) (x : Answer) (vs : Values) (p : Party Ref MadeSymbol) → go_on names shared (next_part_of names shared c f vs) (Replied (reply_of_answer x)) p ≡ Give (Replied (reply_of_answer x)) p
+  unfolding next_part_of
+  part_untaken (frame.Define start count) x vs p = untaken x p _
+  part_untaken (frame.Part e at left) x vs p = untaken x p _
+  part_untaken (frame.PartValue e at left) x vs p = untaken x p _
+  part_untaken (frame.Parts e start count) x vs p = untaken x p _
+  part_untaken (frame.ClassParent k) x vs p = untaken x p _
+  part_untaken (frame.ClassPrototype k) x vs p = untaken x p _
+  part_untaken f x vs p = untaken x p _
+
   by_frame : (f : Frame) (x : Answer) (vs : Values) (ws : Waits) → takes_values f ≡ true → takes_answers f ≡ false → (p : Party Ref MadeSymbol)
       → go_on names shared (next_over names shared c f vs ws) (Replied (reply_of_answer x)) p ≡ Give (Replied (reply_of_answer x)) p
   by_frame (frame.ScopeExit s) x vs ws t n p = cc
@@ -91,6 +101,8 @@ module _ (names : Naming Ref MadeSymbol) (shared : Shared) (c : Tables) where
   by_frame (frame.Constructed o) x vs ws t n p = cc
   by_frame frame.Derived x vs ws t n p = cc
   by_frame frame.Built x vs ws t n p = cc
+  by_frame (frame.ModuleBody k at o) x vs ws t n p = cc
+  by_frame (frame.ModuleEnds k at) x vs ws t n p = cc
   by_frame frame.HasSet x vs ws t n p = cc
   by_frame frame.HasDeleted x vs ws t n p = cc
   by_frame frame.SuperHome x vs ws t n p = cc
@@ -101,6 +113,14 @@ module _ (names : Naming Ref MadeSymbol) (shared : Shared) (c : Tables) where
   by_frame frame.Paid x vs ws t n p = cc
   by_frame frame.Told x vs ws t n p = cc
   by_frame frame.Inherits x vs ws t n p = cc
+  by_frame (frame.Charged which count) x vs ws t n p = cc
+  by_frame frame.Made x vs ws t n p = cc
+  by_frame (frame.Define start count) x vs ws t n p = part_untaken (frame.Define start count) x vs p
+  by_frame (frame.Part e at left) x vs ws t n p = part_untaken (frame.Part e at left) x vs p
+  by_frame (frame.PartValue e at left) x vs ws t n p = part_untaken (frame.PartValue e at left) x vs p
+  by_frame (frame.Parts e start count) x vs ws t n p = part_untaken (frame.Parts e start count) x vs p
+  by_frame (frame.ClassParent k) x vs ws t n p = part_untaken (frame.ClassParent k) x vs p
+  by_frame (frame.ClassPrototype k) x vs ws t n p = part_untaken (frame.ClassPrototype k) x vs p
   by_frame f x vs ws t n p = untaken x p _
 
 passed : (f : Frame) (w : View) → takes_values f ≡ true → takes_answers f ≡ false → (a : Around)

@@ -37,6 +37,8 @@ waits_last (Ok k) (mode.Continue l) at old new c h = record { leads = λ a. h.le
 waits_last (Ok k) (mode.End x) at old new c h = cc
 waits_last (Ok k) (mode.Pay i) at old new c h = cc
 waits_last (Ok k) (mode.Serve i) at old new c h = cc
+waits_last (Ok k) mode.Import at old new c h = cc
+waits_last (Ok k) mode.Outside at old new c h = cc
 waits_last (Err x) m at old new c h = tt
 
 no_last : (m : Mode) (old : View) → is_completion m ≡ true → Finishes None m old old m
@@ -51,6 +53,8 @@ no_last (mode.Continue l) old c = record { leads = λ a. refl; keeps = (refl, (r
 no_last (mode.End x) old c = cc
 no_last (mode.Pay i) old c = cc
 no_last (mode.Serve i) old c = cc
+no_last mode.Import old c = cc
+no_last mode.Outside old c = cc
 
 pub last_waits : {E : Type 0} (r : Result Mode E) (m : Mode) (g at : ℕ) (o : Option ℕ) (old new : View) → is_completion m ≡ true → o ≡ (guarded_at old.code g).finalizer → o ≡ Some at
     → IfOk r (Waits (frame.Finally m) at old new) → IfOk r (Follows (λ a. finishes (finalizer_of old.code g)) m old new)
@@ -103,6 +107,8 @@ comes_by a w (mode.Continue l) c = refl
 comes_by a w (mode.End x) c = cc
 comes_by a w (mode.Pay i) c = cc
 comes_by a w (mode.Serve i) c = cc
+comes_by a w mode.Import c = cc
+comes_by a w mode.Outside c = cc
 
 module _ (c : Tables) (v : Value Ref MadeSymbol) (last : Option Term) (p : Party Ref MadeSymbol) where
   not_caught : (h : Option Term) (m : Mode) → (m ≡ mode.Throw → ⊥) → try_ends h last (completion_with c m v) p ≡ finishes last (completion_with c m v) p
@@ -118,6 +124,8 @@ module _ (c : Tables) (v : Value Ref MadeSymbol) (last : Option Term) (p : Party
   not_caught (Some h) (mode.End x) t = refl
   not_caught (Some h) (mode.Pay i) t = refl
   not_caught (Some h) (mode.Serve i) t = refl
+  not_caught (Some h) mode.Import t = refl
+  not_caught (Some h) mode.Outside t = refl
 
 -- where no handler takes it, what stands last follows
 abbrev Ends : Option Term → ℕ → Mode → View → View → Mode → Type 0
@@ -172,3 +180,5 @@ stays (mode.Continue l) v old c = record { leads = λ a. refl; keeps = (refl, (r
 stays (mode.End x) v old c = cc
 stays (mode.Pay i) v old c = cc
 stays (mode.Serve i) v old c = cc
+stays mode.Import v old c = cc
+stays mode.Outside v old c = cc

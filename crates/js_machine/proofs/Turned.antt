@@ -118,3 +118,5 @@ passes_turn t (mode.Continue to) old c v n b = absurd (n to refl)
 passes_turn t (mode.End h) old c v n b = cc
 passes_turn t (mode.Pay i) old c v n b = cc
 passes_turn t (mode.Serve i) old c v n b = cc
+passes_turn t mode.Import old c v n b = cc
+passes_turn t mode.Outside old c v n b = cc

@@ -4,6 +4,7 @@ use Rattle.lava_base.specs.declared.ids.MadeSymbol.{MadeSymbol}
 use Rattle.lava_base.specs.declared.ids.Ref.{Ref}
 use Rattle.js_text.specs.declared.value.Value.{Value}
 use Rattle.js_code.specs.Tables.{Tables}
+use Rattle.js_run.specs.Outside.{OutsideCall}
 use Rattle.js_run.specs.Parties as parties
 use Rattle.js_state.specs.Scopes.{Scope, no_scope}
 use Rattle.js_store.specs.Objects.{Object, Owned}
@@ -13,6 +14,7 @@ use Rattle.js_machine.specs.Packages.{Package}
 use Rattle.js_machine.specs.Views.{View, Values, Waits}
 use Rattle.js_machine.specs.declared.asked.Answer.{Answer}
 use Rattle.js_machine.specs.declared.asked.Asked.{Asked}
+use Rattle.js_machine.specs.declared.asked.Imported.{Imported}
 use Rattle.js_machine.specs.declared.frame.Frame.{Frame}
 
 -- a party has its outermost scope
@@ -20,8 +22,8 @@ abbrev pub outermost : List (Scope Ref MadeSymbol)
 outermost = no_scope ∷ []
 
 -- a machine that has done nothing yet
-abbrev pub as_new : Tables → Owned → Package → (allowed : List (List ℕ)) → List CommonObject → (common_templates : List ℕ) → List (Ref × Marks) → Asked → Answer → View
-as_new c s own_package allowed common ts known asked answer = record {
+abbrev pub as_new : Tables → Owned → Package → (allowed : List (List ℕ)) → List CommonObject → (common_templates : List ℕ) → List (Ref × Marks) → Asked → Answer → Imported → View
+as_new c s own_package allowed common ts known asked answer imported = record {
   me = s.party.0;
   code = c;
   frames = [];
@@ -39,6 +41,8 @@ as_new c s own_package allowed common ts known asked answer = record {
   common_templates = ts;
   own_package = own_package;
   allowed = allowed;
+  imported = imported;
+  calls = [];
 }
 
 -- what is a party's own in a machine, and no other party's
@@ -51,16 +55,17 @@ pub record Own : Type 0 where
   pub depth : ℕ
   pub own_package : Package
   pub allowed : List (List ℕ)
+  pub calls : List OutsideCall
 
 abbrev pub new_own : Owned → Package → (allowed : List (List ℕ)) → Own
-new_own s own_package allowed = record { me = s.party.0; objects = s.objects; templates = []; scopes = outermost; bodies = []; depth = 0; own_package = own_package; allowed = allowed }
+new_own s own_package allowed = record { me = s.party.0; objects = s.objects; templates = []; scopes = outermost; bodies = []; depth = 0; own_package = own_package; allowed = allowed; calls = [] }
 
 abbrev pub own_of : View → Own
-own_of w = record { me = w.me; objects = w.objects; templates = w.templates; scopes = w.scopes; bodies = w.bodies; depth = w.depth; own_package = w.own_package; allowed = w.allowed }
+own_of w = record { me = w.me; objects = w.objects; templates = w.templates; scopes = w.scopes; bodies = w.bodies; depth = w.depth; own_package = w.own_package; allowed = w.allowed; calls = w.calls }
 
 -- the machine runs the party that has these things
 abbrev pub with_own : Own → View → View
-with_own o w = record w { me = o.me; objects = o.objects; templates = o.templates; scopes = o.scopes; bodies = o.bodies; depth = o.depth; own_package = o.own_package; allowed = o.allowed }
+with_own o w = record w { me = o.me; objects = o.objects; templates = o.templates; scopes = o.scopes; bodies = o.bodies; depth = o.depth; own_package = o.own_package; allowed = o.allowed; calls = o.calls }
 
 -- what is left of a body that waits
 pub record Left : Type 0 where

@@ -22,3 +22,11 @@ pub mod Supers
 pub mod Operands
 pub mod Conversions
 pub mod Instances
+pub mod Parts
+pub mod Definitions
+pub mod Classes
+pub mod Constructors
+pub mod Natives
+pub mod Requested
+pub mod Evaluated
+pub mod Outsides

@@ -18,9 +18,10 @@ use Rattle.js_run.specs.Completions.{Completion, Replied}
 use Rattle.js_run.specs.Decisions.{decides}
 use Rattle.js_run.specs.Faults.{error_marks, error_object, error_prototype, hidden_property}
 use Rattle.js_run.specs.Going.{go_on}
+use Rattle.js_run.specs.Hosts.{outside_answers}
 use Rattle.js_run.specs.Parties.{Party}
 use Rattle.js_run.specs.Rows.{row, row_at}
-use Rattle.js_run.specs.Runs.{Asks, Begins, Decides, Due, Ended, Gives, Move, Nothing, Point, Sends, answered, settle}
+use Rattle.js_run.specs.Runs.{Asks, Imports, Begins, Decides, Due, Ended, Gives, Move, Nothing, Point, Sends, answered, settle}
 use Rattle.js_store.specs.Objects.{Object}
 use Rattle.js_store.specs.declared.slot.Slot.TheVariants as slot
 use Rattle.js_machine.specs.Views.{Around, Values, View, below, completion_with, fitting, halt_of, knows, next_of_wait, next_over, nexts_of, party_of, reply_of_answer, rest_of, top, values_without, waits_under}
@@ -47,6 +48,10 @@ abbrev pub asked_at : Naming Ref MadeSymbol → Value Ref MadeSymbol → Ask Ref
 asked_at names (value.Ref r) x p ks = asked_there (names.origin r) r x p ks
 asked_at names v x p ks = Due 0 (Decides v x) p ks
 
+-- the outside answers the newest call
+abbrev pub outside_point : Around → View → Point Ref MadeSymbol
+outside_point a w = settles a w w.values (answered (naming_of w.me) a.env (outside_answers (naming_of w.me) a.shared (party_of a w) (a.env.outside w.calls)))
+
 -- where the machine stands
 abbrev pub point_of : Around → View → Mode → Point Ref MadeSymbol
 point_of a w (mode.Eval at) = Due 0 (Begins (term_at w.code at)) (party_of a w) (nexts_of (naming_of w.me) a.shared w.code w.frames w.values w.waits)
@@ -55,6 +60,8 @@ point_of a w mode.Answer = settles a w w.values (Gives (Replied (reply_of_answer
 point_of a w (mode.End h) = Ended (halt_of h)
 point_of a w (mode.Pay n) = Due n Nothing (party_of a w) (nexts_of (naming_of w.me) a.shared w.code w.frames w.values w.waits)
 point_of a w (mode.Serve n) = Due n (Decides w.asked.target w.asked.ask) (party_of a w) (nexts_of (naming_of w.me) a.shared w.code w.frames w.values w.waits)
+point_of a w mode.Import = Sends (Imports w.imported.link w.imported.path) (party_of a w) (nexts_of (naming_of w.me) a.shared w.code w.frames w.values w.waits)
+point_of a w mode.Outside = outside_point a w
 point_of a w m = comes a w m
 
 -- an act, whatever stands around the party

@@ -4,10 +4,11 @@ use Rattle.std.specs.Option.{option_map}
 use Rattle.lava_base.specs.declared.ids.MadeSymbol.{MadeSymbol}
 use Rattle.lava_base.specs.declared.ids.Ref.{Ref}
 use Rattle.js_text.specs.Naming.{Naming}
+use Rattle.js_text.specs.declared.native.Native.{Native}
 use Rattle.js_text.specs.declared.value.Value.{Value}
 use Rattle.js_text.specs.declared.value.Value.TheVariants as value
 use Rattle.js_desc.specs.declared.reply.Reply.TheVariants as reply
-use Rattle.js_code.specs.Decoded.{arguments_at, labels_of, no_guarded_row, no_turn_row, template_at, term_at, terms_of, text_at}
+use Rattle.js_code.specs.Decoded.{arguments_at, labels_of, no_guarded_row, no_turn_row, parts_of, template_at, term_at, terms_of, text_at}
 use Rattle.js_code.specs.Tables.{Tables}
 use Rattle.js_code.specs.declared.node.GuardedRow.{GuardedRow}
 use Rattle.js_code.specs.declared.node.TurnRow.{TurnRow}
@@ -19,14 +20,15 @@ use Rattle.lava_base.specs.declared.marks.Marks.{Marks}
 use Rattle.js_desc.specs.declared.reply.Reply.{Reply}
 use Rattle.js_store.specs.Foreign.{marks_of}
 use Rattle.js_store.specs.Frozen.{CommonObject}
-use Rattle.js_run.specs.Acts.{Closes, Decides_on, Evaluate, Give, Next, Tested, Then, Turned, Turns, Updated, as_it_is, give, throws, with_flag, with_prototype, with_value, Act, Inherits, asks, asks_value}
+use Rattle.js_run.specs.Acts.{Closes, Decides_on, Evaluate, Give, Native_decides, Next, Tested, Then, Turned, Turns, Updated, as_it_is, give, throws, with_flag, with_prototype, with_value, Act, Inherits, asks, asks_value}
 use Rattle.js_run.specs.Faults.{faults}
 use Rattle.js_run.specs.Bodies.{built, closed, constructed, derived_constructed, returned, this_of}
 use Rattle.js_run.specs.Completions as halt_kind
 use Rattle.js_run.specs.Completions.{Completion, Replied, Breaks, Continues, Returns}
 use Rattle.js_run.specs.Control.{all_values, finally_ends, finishes, in_order, label_ends, left_to, listed, returns, try_ends}
 use Rattle.js_run.specs.Operators.{binary_value, prototype_inherited, unary_value}
-use Rattle.js_run.specs.Parties.{Body, Party, Shared, running}
+use Rattle.js_run.specs.Outside.{OutsideCall}
+use Rattle.js_run.specs.Parties.{Body, Loaded, Party, Shared, running}
 use Rattle.js_run.specs.Properties.{get_above, get_global, has_set, init_slot, missing_global, put_global, put_property, set_slot, delete_property, with_this}
 use Rattle.js_run.specs.Rows.{binary_left, delete_object, get_key, get_object, if_test, put_key, put_object, short_left, super_key, call_on_object, new_callee}
 use Rattle.js_text.specs.declared.value.Key.{Key}
@@ -34,16 +36,22 @@ use Rattle.js_text.specs.declared.value.Key.TheVariants as key
 use Rattle.js_desc.specs.declared.fault.FaultText.TheVariants as fault
 use Rattle.js_run.specs.Asking.{calls}
 use Rattle.js_run.specs.Calls.{calls_with, constructs_itself, super_constructs}
+use Rattle.js_run.specs.Parts.{define_on}
 use Rattle.js_run.specs.Runs.{Env}
 use Rattle.js_term.specs.declared.term.Template.{Template}
 use Rattle.js_state.specs.Scopes.{Scope, outwards, scope_at, with_slot}
 use Rattle.js_machine.specs.Bodies.{scope_of, stood_in}
+use Rattle.js_machine.specs.Classes.{parent_comes, prototype_comes}
+use Rattle.js_machine.specs.Parts.{part_at, part_comes, part_valued, parts_go, reference_in}
 use Rattle.js_store.specs.Objects.{Object}
 use Rattle.js_term.specs.declared.term.Term.{Term}
+use Rattle.js_run.specs.Modules.{module_closes, module_ends}
 use Rattle.js_run.specs.Requests.{is_link}
 use Rattle.js_run.specs.Truth.{is_nullish, to_boolean}
 use Rattle.js_conversions.specs.Primitives.{ReadsNumbers}
 use Rattle.js_native.specs.TextNatives.{FindsFirst}
+use Rattle.js_run.specs.Natives.{native_acts, runs_native}
+use Rattle.js_natives.specs.Steps.{waits_as}
 use Rattle.js_tree.specs.declared.operator.LogicalOperator.{LogicalOperator}
 use Rattle.js_tree.specs.declared.operator.LogicalOperator.TheVariants as logical
 use Rattle.js_machine.specs.Packages.{Package, loaded_in}
@@ -53,6 +61,7 @@ use Rattle.js_operators.specs.Deeds.{becomes_key, rest_deed}
 use Rattle.js_machine.specs.declared.asked.Answer.{Answer}
 use Rattle.js_machine.specs.declared.asked.Answer.TheVariants as answer
 use Rattle.js_machine.specs.declared.asked.Asked.{Asked}
+use Rattle.js_machine.specs.declared.asked.Imported.{Imported}
 use Rattle.js_machine.specs.declared.asked.Wait.{Wait}
 use Rattle.js_machine.specs.declared.asked.Wait.TheVariants as wait
 use Rattle.js_machine.specs.declared.frame.Frame.{Frame}
@@ -72,6 +81,7 @@ use Rattle.js_run.specs.Control.{argument_values}
 use Rattle.js_run.specs.Rows.{call_on_key, call_super_key}
 use Rattle.js_machine.specs.Constructions.{constructs_made}
 use Rattle.js_term.specs.declared.term.Arguments.{Arguments}
+use Rattle.js_machine.specs.declared.holding.Holding.{Holding}
 
 abbrev pub Values : Type 0
 Values = List (Value Ref MadeSymbol)
@@ -80,7 +90,7 @@ abbrev pub Waits : Type 0
 Waits = List Wait
 
 -- a machine as contracts see it: frames, values, what waits, and bodies, the newest first, and the things of the party that runs. Templates are places in the code, those of the common part apart.
--- What is asked and what was answered stand there for the modes that say so. The common objects and the marks of foreign ones are what it knows of others, and it may import over the links that are allowed
+-- What is asked and what was answered stand there for the modes that say so. The common objects and the marks of foreign ones are what it knows of others, and it may import over the links that are allowed. Calls of the host's functions stand with the newest first
 pub record View : Type 0 where
   pub me : ℕ
   pub code : Tables
@@ -99,6 +109,8 @@ pub record View : Type 0 where
   pub common_templates : List ℕ
   pub own_package : Package
   pub allowed : List (List ℕ)
+  pub imported : Imported
+  pub calls : List OutsideCall
 
 -- what a machine's steps don't change: what all parties share, the party's surroundings, and the party's other things. Texts are read as the numbers that they stand for, and a part is found where it stands first
 pub record Around : Type 0 where
@@ -134,6 +146,7 @@ party_of a w = record a.rest {
   scopes = w.scopes;
   bodies = w.bodies;
   depth = w.depth;
+  calls = w.calls;
 }
 
 -- the newest value, and those below it
@@ -238,6 +251,7 @@ args_on n vs = reverse (take n vs)
 -- how many values are those of what arguments are for
 abbrev pub held : Purpose → ℕ
 held purpose.Call = 2
+held (purpose.Native which) = 0
 held _ = 1
 
 -- how many values are those of what a property key is for
@@ -270,6 +284,14 @@ owned frame.InstanceOf = 1
 owned frame.Inherits = 1
 owned (frame.MethodGot last g) = 1 + goal_held g
 owned (frame.MethodCalled last g) = 1 + goal_held g
+owned (frame.Part e at left) = 2
+owned (frame.PartValue e at left) = 3
+owned (frame.Parts e start count) = 2
+owned (frame.ClassPrototype k) = 1
+owned (frame.Charged which count) = count
+owned frame.Made = 1
+owned (frame.ModuleBody n at o) = 1
+owned (frame.ModuleEnds n at) = 1
 owned _ = 0
 
 -- it goes on with an answer that is no value
@@ -298,6 +320,10 @@ takes_values (frame.Constructed o) = false
 takes_values frame.Derived = false
 takes_values frame.Built = false
 takes_values frame.Paid = false
+takes_values (frame.Charged which count) = false
+takes_values frame.Made = false
+takes_values (frame.ModuleBody n at o) = false
+takes_values (frame.ModuleEnds n at) = false
 takes_values _ = true
 
 -- the values that are not a frame's own
@@ -319,12 +345,24 @@ handler_of c g = option_map (term_at c) (guarded_at c g).handler
 abbrev pub finalizer_of : Tables → ℕ → Option Term
 finalizer_of c g = option_map (term_at c) (guarded_at c g).finalizer
 
+-- the objects on which parts are defined, where these values are the newest
+abbrev pub holding_on : (enumerable : Bool) → Values → Holding
+holding_on e vs = record { instance = reference_in (top (below vs)); constructor = reference_in (top vs); enumerable = e }
+
+-- a native runs with its operands, and does what it does once it is charged. They are opened where a proof is about them alone: each native has its line there
+unfoldable pub native_on : Naming Ref MadeSymbol → Shared → Native → List (Value Ref MadeSymbol) → Party Ref MadeSymbol → Act Ref MadeSymbol
+native_on names shared which args p = runs_native names shared which args p
+
+unfoldable pub native_after : Naming Ref MadeSymbol → Shared → Native → List (Value Ref MadeSymbol) → Next Ref MadeSymbol
+native_after names shared which args = Then (λ d p. native_acts names shared which args p)
+
 -- what arguments are for goes on with them
 abbrev pub applied : Naming Ref MadeSymbol → Shared → Purpose → Values → List (Value Ref MadeSymbol) → Party Ref MadeSymbol → Act Ref MadeSymbol
 applied names shared purpose.Call vs args p = calls names shared (top vs) (top (below vs)) args p (with_value give)
 applied names shared purpose.SuperCall vs args p = with_this names p (λ this q. calls names shared (top vs) this args q (with_value give))
 applied names shared purpose.New vs args p = constructs_itself names shared (top vs) args p
 applied names shared purpose.SuperNew vs args p = super_constructs names shared (running p).new_target (top vs) args p
+applied names shared (purpose.Native which) vs args p = native_on names shared which args p
 
 -- a method of `super` is called with these arguments
 abbrev pub super_method : Naming Ref MadeSymbol → Shared → Arguments → Value Ref MadeSymbol → Party Ref MadeSymbol → Act Ref MadeSymbol
@@ -391,7 +429,26 @@ module _ (names : Naming Ref MadeSymbol) (shared : Shared) where
   abbrev pub method_got : (last : Bool) → Ref → Goal → Values → Value Ref MadeSymbol → Party Ref MadeSymbol → Act Ref MadeSymbol
   method_got last r g vs f p = method_called names shared (asks names) f r p (λ q. becomes (methods_behind last (as_text g)) r g vs q) (with_value (method_gave last r g vs))
 
+-- a text that is kept as a value
+abbrev pub text_of : Value Ref MadeSymbol → List ℕ
+text_of (value.Text t) = t
+text_of v = []
+
+-- a module that has not begun, by its path and the place of its template
+abbrev pub loaded_from : Tables → (path : Value Ref MadeSymbol) → (at : ℕ) → Loaded
+loaded_from c v at = record { path = text_of v; template = template_at c (term_at c) at; begun = None }
+
 module _ (names : Naming Ref MadeSymbol) (shared : Shared) (c : Tables) where
+  -- what a frame of parts and of classes goes on with
+  unfoldable pub next_part_of : Frame → Values → Next Ref MadeSymbol
+  next_part_of (frame.Define start count) vs = with_value (define_on names shared (parts_of c (term_at c) start count))
+  next_part_of (frame.Part e at left) vs = with_value (part_comes names shared c (holding_on e vs) at left (part_at c at))
+  next_part_of (frame.PartValue e at left) vs = with_value (part_valued names shared c (holding_on e (below vs)) at left (top vs))
+  next_part_of (frame.Parts e start count) vs = with_value (λ v p. parts_go names shared c (holding_on e vs) start count p)
+  next_part_of (frame.ClassParent k) vs = with_value (parent_comes names shared c k)
+  next_part_of (frame.ClassPrototype k) vs = with_value (prototype_comes names shared c k (reference_in (top vs)))
+  next_part_of f vs = with_value give
+
   -- what a frame goes on with
   abbrev pub next_of : Frame → Values → Next Ref MadeSymbol
   next_of (frame.SetLocal h s constant) vs = with_value (set_slot names h s constant)
@@ -451,11 +508,23 @@ module _ (names : Naming Ref MadeSymbol) (shared : Shared) (c : Tables) where
   next_of frame.Inherits vs = Inherits (object_on (top vs))
   next_of (frame.MethodGot last g) vs = with_value (method_got names shared last (object_on (top vs)) g (below vs))
   next_of (frame.MethodCalled last g) vs = with_value (method_gave names shared last (object_on (top vs)) g (below vs))
+  next_of (frame.Define start count) vs = next_part_of (frame.Define start count) vs
+  next_of (frame.Part e at left) vs = next_part_of (frame.Part e at left) vs
+  next_of (frame.PartValue e at left) vs = next_part_of (frame.PartValue e at left) vs
+  next_of (frame.Parts e start count) vs = next_part_of (frame.Parts e start count) vs
+  next_of (frame.ClassParent k) vs = next_part_of (frame.ClassParent k) vs
+  next_of (frame.ClassPrototype k) vs = next_part_of (frame.ClassPrototype k) vs
+  next_of (frame.Charged which count) vs = native_after names shared which (args_on count vs)
+  next_of frame.Made vs = Then (λ d p. give (top vs) p)
+  next_of (frame.ModuleBody n at o) vs = Then (λ d p. module_ends names n (loaded_from c (top vs) at) o d p)
+  next_of (frame.ModuleEnds n at) vs = Then (λ d p. module_closes names n (loaded_from c (top vs) at) d p)
 
   -- what waits goes on with its answer
   abbrev pub next_of_wait : Wait → Next Ref MadeSymbol
   next_of_wait (wait.Object me n) = Decides_on me n
   next_of_wait (wait.Construct k args) = with_value (constructs_made names shared (template_at c (term_at c) k.at) k args)
+  next_of_wait (wait.Native which n) = Native_decides which (waits_as n)
+  next_of_wait wait.Exports = with_value give
 
   -- what a frame goes on with where it has something that waits. What decides is open meanwhile
   abbrev pub next_over : Frame → Values → Waits → Next Ref MadeSymbol
@@ -483,6 +552,8 @@ is_completion mode.Answer = false
 is_completion (mode.End h) = false
 is_completion (mode.Pay n) = false
 is_completion (mode.Serve n) = false
+is_completion mode.Import = false
+is_completion mode.Outside = false
 is_completion _ = true
 
 -- so much is due
@@ -497,6 +568,8 @@ is_handed mode.Ask = false
 is_handed (mode.End h) = false
 is_handed (mode.Pay n) = false
 is_handed (mode.Serve n) = false
+is_handed mode.Import = false
+is_handed mode.Outside = false
 is_handed _ = true
 
 -- the body that runs stands in a new scope

@@ -74,11 +74,12 @@ impl Machine {
             Purpose::New => self.apply_new(done),
             Purpose::SuperCall => self.apply_super_call(done),
             Purpose::SuperNew => self.apply_super_new(done),
+            Purpose::Native { which } => self.run_native(which, done),
         }
     }
 
     /// The next argument is evaluated, where so many are there; what they are for goes on where there is no other (ECMA-262, ArgumentListEvaluation).
-    fn next_argument(
+    pub fn next_argument(
         &mut self,
         purpose: Purpose,
         done: u32,

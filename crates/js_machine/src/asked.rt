@@ -3,6 +3,9 @@
 use js_desc::ask::Ask;
 use js_desc::descriptor::Descriptor;
 use js_exotic::next::Next as ExoticNext;
+use js_natives::next::NativeNext;
+use js_text::native::Native;
+use js_text::text::Text;
 use js_text::value::{Key, Value};
 use lava_base::ids::Ref;
 use lava_base::list::List;
@@ -12,6 +15,13 @@ use lava_base::list::List;
 pub struct Asked {
     pub target: Value,
     pub ask: Ask,
+}
+
+/// An import: the name of a link, and a path in the package that it leads to.
+#[derive(Drop)]
+pub struct Imported {
+    pub link: Text,
+    pub path: Text,
 }
 
 /// An answer that is no value and no throw.
@@ -50,4 +60,11 @@ pub enum Wait {
         construction: Construction,
         args: List<Value>,
     },
+    /// A native.
+    Native {
+        which: Native,
+        next: NativeNext,
+    },
+    /// The `exports` of another module.
+    Exports,
 }

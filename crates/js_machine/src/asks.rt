@@ -73,7 +73,7 @@ impl Machine {
 
     /// Something comes on the stack of what waits.
     #[tactic(auto, using(crate::proofs::Reversed::reverse_push))]
-    fn push_wait(&mut self, wait: Wait) -> Result<(), OutOfMemory>
+    pub(crate) fn push_wait(&mut self, wait: Wait) -> Result<(), OutOfMemory>
         ensures { OnOk result (self.new ≡ record self.old { waits = wait ∷ self.old.waits }) }
     {
         self.waits.push(wait)?;

@@ -8,7 +8,7 @@ ghost use Rattle.js_text.specs.declared.value.Value.TheVariants as text_value;
 ghost use Rattle.js_machine.specs.Steps.{IsBegun, LeadsTo};
 ghost use Rattle.js_machine.specs.Views.{party_of};
 
-use crate::frame::{Frame, Halt, Mode};
+use crate::frame::{Frame, Halt, Mode, Purpose};
 use crate::machine::Machine;
 use js_code::node::Node;
 use js_text::value::{Symbol, Value};
@@ -116,7 +116,17 @@ impl Machine {
             } => self.wait(Frame::CallObject { key, arguments }, object),
             Node::CallSuper { key, arguments } => self.wait(Frame::CallSuperKey { arguments }, key),
             Node::SuperNew { arguments } => self.begin_super_new(arguments),
-            _ => Err(OutOfMemory),
+            Node::Define {
+                object,
+                start,
+                count,
+            } => self.wait(Frame::Define { start, count }, object),
+            Node::Class { class } => self.begin_class(class),
+            Node::Native {
+                native,
+                start,
+                count,
+            } => self.next_argument(Purpose::Native { which: native }, 0, start, count),
         }
     }
 }

@@ -54,7 +54,7 @@ impl Machine {
     }
 
     /// A body runs a form, and a frame waits for its end; the run ends where too much is open.
-    fn open_body(
+    pub(crate) fn open_body(
         &mut self,
         at: u32,
         scope: u32,

@@ -63,7 +63,7 @@ impl Machine {
     }
 
     /// The run ends as a decision says.
-    pub(crate) fn end_as(&mut self, kind: EndKind) -> Result<Mode, OutOfMemory>
+    pub fn end_as(&mut self, kind: EndKind) -> Result<Mode, OutOfMemory>
         ensures { IfOk result (LeadsTo (λ a. End (halt_of kind)) self.old self.new) }
     {
         match kind {
@@ -161,10 +161,11 @@ impl Machine {
     {
         match self.way(me) {
             Way::Object => self.decide_as_object(me),
-            // `proxy_decides`, `collection_decides`, `requires`, `requires_mapped` and `calls_host`.
-            Way::Proxy | Way::Collection | Way::Module | Way::Mapped | Way::Host => {
-                Err(OutOfMemory)
-            }
+            Way::Module => self.call_require(me),
+            Way::Mapped => self.call_mapped(),
+            Way::Host => self.call_host(me),
+            // `proxy_decides` and `collection_decides`.
+            Way::Proxy | Way::Collection => Err(OutOfMemory),
         }
     }
 
@@ -253,6 +254,8 @@ impl Machine {
             Wait::Construct { construction, args } => {
                 self.resume_construct(construction, args, reply)
             }
+            Wait::Native { which, next } => self.resume_native(which, next, reply),
+            Wait::Exports => self.reply(reply),
         }
     }
 

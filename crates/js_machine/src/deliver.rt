@@ -113,6 +113,24 @@ impl Machine {
             Frame::InstanceOf => self.prototype_comes(value),
             Frame::MethodGot { last, goal } => self.method_got(last, goal, value),
             Frame::MethodCalled { last, goal } => self.method_gave(last, goal, value),
+            Frame::Define { start, count } => self.define_comes(start, count, value),
+            Frame::Part {
+                enumerable,
+                at,
+                left,
+            } => self.part_operand_comes(enumerable, at, left, value),
+            Frame::PartValue {
+                enumerable,
+                at,
+                left,
+            } => self.part_value_comes(enumerable, at, left, value),
+            Frame::Parts {
+                enumerable,
+                start,
+                count,
+            } => self.parts_follow(enumerable, start, count, value),
+            Frame::ClassParent { class } => self.parent_comes(class, value),
+            Frame::ClassPrototype { class } => self.class_prototype_comes(class, value),
             _ if frame.takes_answers() => self.pass_value(frame, value),
             _ => Err(OutOfMemory),
         }

@@ -30,7 +30,7 @@ use std::alloc::Global;
 static MESSAGE: [u16; 7] = [109, 101, 115, 115, 97, 103, 101];
 
 /// The key `message`.
-fn message_key(alloc: Global) -> Result<Key, OutOfMemory>
+pub(crate) fn message_key(alloc: Global) -> Result<Key, OutOfMemory>
     ensures { IfOk result (λ k. k ≡ message_key) }
 {
     match from_units(alloc, &MESSAGE) {
@@ -53,7 +53,7 @@ fn error_prototype(error: NativeError) -> u32
 
 /// Makes an error in a store.
 #[tactic(auto, using(crate::proofs::Faulted::last_changed, crate::proofs::Faulted::last_within))]
-fn add_error(
+pub(crate) fn add_error(
     store: &mut FlatStore,
     prototype: Ref,
     key: Key,

@@ -4,6 +4,7 @@ ghost use Rattle.std.specs.Prelude.{◌≡◌};
 ghost use Rattle.js_machine.specs.Views.{has_value, is_completion, is_handed, owned, takes_answers, takes_values, held, is_throw, as_text, goal_held, key_held};
 
 use js_operators::operation::Rest;
+use js_text::native::Native;
 use js_tree::operator::{BinaryOperator, LogicalOperator, UnaryOperator};
 
 /// How a run ends within a party. None of these can be caught.
@@ -27,6 +28,8 @@ pub enum Purpose {
     New,
     /// Has the parent that constructs.
     SuperNew,
+    /// Has nothing: the operands of a native.
+    Native { which: Native },
 }
 
 /// What is next: a form, an ask, a completion that comes to the newest frame, or the end of the run. A completion's value is the newest one; a label is a place in the table of texts. What is asked, and an answer that is no value, stand in the machine.
@@ -45,6 +48,10 @@ pub enum Mode {
     Pay(u32),
     /// So much and one is to be paid for an ask that came from another party.
     Serve(u32),
+    /// An import over a link is sent, which stands in the machine.
+    Import,
+    /// The outside is asked, by the newest call.
+    Outside,
 }
 
 /// What a body does once a completion comes: each frame stands for what follows in the rows of the core forms.
@@ -243,6 +250,55 @@ pub enum Frame {
         last: bool,
         goal: Goal,
     },
+    /// The object comes on which so many parts from one on are defined.
+    Define {
+        start: u32,
+        count: u32,
+    },
+    /// The first operand of a part comes, behind which so many parts stand. Has the constructor, and below it the object on which parts are defined.
+    Part {
+        enumerable: bool,
+        at: u32,
+        left: u32,
+    },
+    /// The value of a part comes. Has its key, and below it what `Part` has.
+    PartValue {
+        enumerable: bool,
+        at: u32,
+        left: u32,
+    },
+    /// So many parts follow from one on, whatever value comes. Has what `Part` has.
+    Parts {
+        enumerable: bool,
+        start: u32,
+        count: u32,
+    },
+    /// The parent of a class comes.
+    ClassParent {
+        class: u32,
+    },
+    /// What `prototype` of the parent is comes. Has the parent.
+    ClassPrototype {
+        class: u32,
+    },
+    /// A native is charged; has so many operands.
+    Charged {
+        which: Native,
+        count: u32,
+    },
+    /// A text that was made is charged; has the text.
+    Made,
+    /// The body of a module: its number, the place of its template and the number of its module object. Has the path of the module.
+    ModuleBody {
+        number: u32,
+        template: u32,
+        object: u32,
+    },
+    /// The `exports` of a module whose body is over comes. Has the path of the module.
+    ModuleEnds {
+        number: u32,
+        template: u32,
+    },
 }
 
 /// What a property key is for. It has values on the stack.
@@ -272,6 +328,7 @@ impl Purpose {
     {
         match self {
             Purpose::Call => 2,
+            Purpose::Native { .. } => 0,
             _ => 1,
         }
     }
@@ -318,7 +375,14 @@ impl Mode {
     {
         !matches!(
             self,
-            Mode::Eval(_) | Mode::Ask | Mode::Answer | Mode::End(_) | Mode::Pay(_) | Mode::Serve(_)
+            Mode::Eval(_)
+                | Mode::Ask
+                | Mode::Answer
+                | Mode::End(_)
+                | Mode::Pay(_)
+                | Mode::Serve(_)
+                | Mode::Import
+                | Mode::Outside
         )
     }
 
@@ -328,7 +392,13 @@ impl Mode {
     {
         !matches!(
             self,
-            Mode::Eval(_) | Mode::Ask | Mode::End(_) | Mode::Pay(_) | Mode::Serve(_)
+            Mode::Eval(_)
+                | Mode::Ask
+                | Mode::End(_)
+                | Mode::Pay(_)
+                | Mode::Serve(_)
+                | Mode::Import
+                | Mode::Outside
         )
     }
 
@@ -359,7 +429,9 @@ impl Frame {
             | Frame::DeleteKey
             | Frame::HasSet
             | Frame::SuperHome
-            | Frame::CallMethod { .. } => 1,
+            | Frame::CallMethod { .. }
+            | Frame::Made => 1,
+            Frame::ModuleBody { .. } | Frame::ModuleEnds { .. } => 1,
             Frame::PutValue => 2,
             Frame::Finally { earlier } => u64::from(earlier.has_value()),
             Frame::Arguments { purpose, done, .. } => u64::from(done) + purpose.held(),
@@ -367,6 +439,10 @@ impl Frame {
             Frame::CallKey { .. } | Frame::CallSuperHome { .. } => 1,
             Frame::Paid | Frame::InstanceOf | Frame::Inherits => 1,
             Frame::MethodGot { goal, .. } | Frame::MethodCalled { goal, .. } => 1 + goal.held(),
+            Frame::Part { .. } | Frame::Parts { .. } => 2,
+            Frame::PartValue { .. } => 3,
+            Frame::ClassPrototype { .. } => 1,
+            Frame::Charged { count, .. } => u64::from(count),
             _ => 0,
         }
     }
@@ -396,7 +472,8 @@ impl Frame {
         match self {
             Frame::ScopeExit { .. } | Frame::Turned { .. } | Frame::Label { .. } => false,
             Frame::Guarded { .. } | Frame::Handled { .. } => false,
-            Frame::Decides | Frame::Paid => false,
+            Frame::Decides | Frame::Paid | Frame::Charged { .. } | Frame::Made => false,
+            Frame::ModuleBody { .. } | Frame::ModuleEnds { .. } => false,
             Frame::Called | Frame::Constructed { .. } | Frame::Derived | Frame::Built => false,
             _ => true,
         }

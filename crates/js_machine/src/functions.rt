@@ -47,7 +47,7 @@ fn is_plain(kind: TemplateKind) -> bool
 }
 
 /// A property that is not enumerable.
-fn hidden(value: Value, writable: bool, configurable: bool) -> Change
+pub(crate) fn hidden(value: Value, writable: bool, configurable: bool) -> Change
     ensures { result ≡ change.Write (Data value writable false configurable) }
 {
     Change::Write(Descriptor::Data {
@@ -59,7 +59,7 @@ fn hidden(value: Value, writable: bool, configurable: bool) -> Change
 }
 
 /// The object of a party.
-fn own(party: PartyId, id: u32) -> Value
+pub(crate) fn own(party: PartyId, id: u32) -> Value
     ensures { result ≡ value_kind.Ref ((naming_of party.0).own id) }
 {
     let id = ObjId(id);
@@ -68,7 +68,7 @@ fn own(party: PartyId, id: u32) -> Value
 
 /// Makes a function with its properties `length` and `name` (ECMA-262, OrdinaryFunctionCreate, SetFunctionLength, SetFunctionName).
 #[tactic(auto, using(crate::proofs::Faulted::last_within))]
-fn add_function(
+pub(crate) fn add_function(
     store: &mut FlatStore,
     keys: &KnownKeys,
     prototype: Option<Ref>,
@@ -196,7 +196,7 @@ impl Machine {
     }
 
     /// What a new function keeps.
-    fn closure(&self, kind: TemplateKind, home: Option<Ref>) -> Result<Slot, OutOfMemory>
+    pub(crate) fn closure(&self, kind: TemplateKind, home: Option<Ref>) -> Result<Slot, OutOfMemory>
         ensures { IfOk result (λ s. s ≡ closure_of (next_number self.now) kind home self.now) }
     {
         let template = self.next_template()?;

@@ -23,8 +23,12 @@
 // - `asked` has what is asked, what is answered and what waits; `asks` asks, and brings replies.
 // - `ways` tells in which way an object decides, `decisions` decides and follows, `primitives` decides for values that are no objects.
 // - `answers` brings answers that are no values to frames, `looks` sees the marks of objects, and where an ask goes.
+// - `natives` has the forms that name a native.
 // - `properties` and `globals` read and write properties and free names, `plain_keys` makes keys of values.
 // - `operators` does what operators do, `instances` tells what inherits from a function, and `conversions` makes objects primitive values and property keys.
+// - `parts` has the parts of objects, arrays and classes, `definitions` defines properties and items, `holding` has the objects on which they are defined, and `classes` makes classes.
+// - `requests` reads requests and paths, `require_calls` has what a `require` does, `modules` evaluates modules, and `imports` has what another party imports.
+// - `outside` prints the arguments of calls of the host's functions, asks the outside, and takes its answers.
 #![tactic(auto)]
 
 pub mod answers;
@@ -38,15 +42,19 @@ mod body;
 pub mod branches;
 pub mod callees;
 pub mod calls;
+pub mod classes;
 pub mod closures;
 pub mod constructions;
 pub mod conversions;
 pub mod decisions;
+pub mod definitions;
 pub mod deliver;
 pub mod faults;
 pub mod frame;
 pub mod functions;
 pub mod globals;
+pub mod holding;
+pub mod imports;
 pub mod instances;
 pub mod jumps;
 pub mod keys;
@@ -55,15 +63,21 @@ pub mod looks;
 pub mod loops;
 pub mod machine;
 pub mod methods;
+pub mod modules;
+pub mod natives;
 pub mod new;
 pub mod operators;
+pub mod outside;
 pub mod own;
 pub mod package;
 pub mod parameters;
+pub mod parts;
 pub mod places;
 pub mod plain_keys;
 pub mod primitives;
 pub mod properties;
+pub mod requests;
+pub mod require_calls;
 pub mod rests;
 pub mod returns;
 pub mod run;

@@ -8,10 +8,11 @@ ghost use Rattle.js_code.specs.Decoded.{term_at};
 ghost use Rattle.js_machine.specs.Views.{below, completion_with, has_value, is_abrupt, party_of, takes_values, top};
 ghost use Rattle.js_machine.specs.declared.frame.Mode.TheVariants as mode;
 
-use crate::asked::{Answer, Asked, Wait};
+use crate::asked::{Answer, Asked, Imported, Wait};
 use crate::body::Body;
 use crate::frame::{Frame, Mode};
 use crate::keys::KnownKeys;
+use crate::outside::HostCall;
 use crate::package::Package;
 use js_code::code::Code;
 use js_state::scopes::Scopes;
@@ -53,6 +54,9 @@ pub struct Machine {
     pub(crate) own_package: Package,
     /// The links that the party may import over.
     pub(crate) allowed: Vec<Text>,
+    pub(crate) imported: Imported,
+    /// The calls of functions of the host so far.
+    pub(crate) calls: Vec<HostCall>,
 }
 
 impl Model for Machine {
@@ -82,6 +86,8 @@ impl Model for Machine {
       common_templates = m.common_templates.items;
       own_package = m.own_package;
       allowed = m.allowed.items;
+      imported = m.imported;
+      calls = reverse m.calls.items;
     } };
 
     ghost invariant = { λ m. (is_grounded m.scope (reverse m.bodies.items) ≡ true)

@@ -6,10 +6,11 @@ ghost use Rattle.js_run.specs.Parties as parties;
 ghost use Rattle.js_code.specs.Decoded.{template_at, term_at};
 ghost use Rattle.js_machine.specs.Begun.{as_new, outermost};
 
-use crate::asked::{Answer, Asked};
+use crate::asked::{Answer, Asked, Imported};
 use crate::keys::KnownKeys;
 use crate::machine::Machine;
 use crate::package::Package;
+use crate::requests::text_of;
 use js_code::code::Code;
 use js_desc::ask::Ask;
 use js_state::scopes::Scopes;
@@ -78,12 +79,16 @@ impl Machine {
         ensures code { IfOk result (λ m. Extends code m.code) }
         ensures new { let templates = common_templates.items in
             IfOk result (λ m. m ≡ as_new m.code store own_package allowed.items common templates
-            foreign m.asked m.answer) }
+            foreign m.asked m.answer m.imported) }
     {
         let mut code = code;
         let empty_template = add_empty(alloc, &mut code)?;
         let scopes = first_scope(alloc)?;
         let keys = KnownKeys::new(alloc)?;
+        let imported = Imported {
+            link: text_of(alloc, &[])?,
+            path: text_of(alloc, &[])?,
+        };
         Ok(Machine {
             alloc,
             code,
@@ -108,6 +113,8 @@ impl Machine {
             keys,
             own_package,
             allowed,
+            imported,
+            calls: Vec::new(alloc),
         })
     }
 }

@@ -8,6 +8,7 @@ use crate::body::Body;
 use crate::frame::Frame;
 use crate::machine::Machine;
 use crate::new::first_scope;
+use crate::outside::HostCall;
 use crate::package::Package;
 use js_state::scopes::Scopes;
 use js_store::flat::FlatStore;
@@ -29,6 +30,7 @@ pub struct Own {
     depth: u32,
     own_package: Package,
     allowed: Vec<Text>,
+    calls: Vec<HostCall>,
 }
 
 impl Model for Own {
@@ -47,6 +49,7 @@ impl Model for Own {
       depth = o.depth;
       own_package = o.own_package;
       allowed = o.allowed.items;
+      calls = reverse o.calls.items;
     } };
 
     ghost invariant = { λ o. is_grounded o.scope (reverse o.bodies.items) ≡ true };
@@ -93,6 +96,7 @@ impl Own {
             depth: 0,
             own_package,
             allowed,
+            calls: Vec::new(alloc),
         })
     }
 }
@@ -111,6 +115,7 @@ impl Machine {
         mem::swap(&mut self.depth, &mut own.depth);
         mem::swap(&mut self.own_package, &mut own.own_package);
         mem::swap(&mut self.allowed, &mut own.allowed);
+        mem::swap(&mut self.calls, &mut own.calls);
     }
 
     /// The body that runs is set aside, and nothing is left to do.

@@ -1,11 +1,11 @@
 // Runs: charges, and what each leads to.
 
 ghost use Rattle.std.specs.Prelude.{◌≡◌, ◌<◌, IfOk};
-ghost use Rattle.js_machine.specs.Stops.{IsRun, RunsFor};
+ghost use Rattle.js_machine.specs.Stops.{IsRun, RunsFor, RunsOn};
 
 use crate::frame::{Halt, Mode};
 use crate::machine::Machine;
-use crate::stop::{Charge, Stop, charge_steps};
+use crate::stop::{Charge, Pause, Stop, charge_steps};
 use lava_base::memory::OutOfMemory;
 
 /// How many charges a run may make that is free of charge.
@@ -25,11 +25,19 @@ impl Machine {
     {
         let mut mode = mode;
         let mut spent = steps;
-        for _i in 0..charges {
+        for i in 0..charges {
             mode = self.settle(mode)?;
             let price = match self.cost(mode) {
                 Some(cost) => u64::from(cost) + 1,
-                None => return Ok(self.stop_at(mode, spent)),
+                None => {
+                    let pause = Pause {
+                        charges: charges - i,
+                        limit,
+                        steps: spent,
+                        told: None,
+                    };
+                    return Ok(self.stop_at(mode, pause));
+                }
             };
             match charge_steps(meter, spent, limit, price) {
                 Charge::Charged => {
@@ -44,7 +52,13 @@ impl Machine {
             }
         }
         mode = self.settle(mode)?;
-        Ok(self.stop_at(mode, spent))
+        let pause = Pause {
+            charges: 0,
+            limit,
+            steps: spent,
+            told: None,
+        };
+        Ok(self.stop_at(mode, pause))
     }
 
     /// Runs until the body is over, the run ends, or the limit lacks what is to be paid. A run that
@@ -65,5 +79,18 @@ impl Machine {
             return Ok(stop.with_steps(steps));
         }
         self.run_for(limit.saturating_sub(steps) + 1, meter, limit, steps, mode)
+    }
+
+    /// Runs on after a pause, once the outside has answered.
+    pub fn run_on(
+        &mut self,
+        meter: Option<u64>,
+        pause: Pause,
+        mode: Mode,
+    ) -> Result<Stop, OutOfMemory>
+        ensures { IfOk result (RunsOn meter pause mode self.old self.new) }
+    {
+        let stop = self.run_for(pause.charges, meter, pause.limit, pause.steps, mode)?;
+        Ok(stop.told(pause.told))
     }
 }

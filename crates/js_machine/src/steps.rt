@@ -55,6 +55,16 @@ impl Machine {
             Frame::Derived => self.deliver_derived(mode),
             Frame::Built => self.deliver_built(mode),
             Frame::Paid => self.deliver_paid(mode),
+            Frame::Charged { which, count } => self.deliver_charged(which, count, mode),
+            Frame::Made => self.deliver_made(mode),
+            Frame::ModuleBody {
+                number,
+                template,
+                object,
+            } => self.deliver_module_body(number, template, object, mode),
+            Frame::ModuleEnds { number, template } => {
+                self.deliver_module_ends(number, template, mode)
+            }
             _ => self.deliver_plain(frame, mode),
         }
     }

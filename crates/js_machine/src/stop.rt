@@ -4,11 +4,23 @@ ghost use Rattle.std.specs.Prelude.{◌≡◌, ◌+◌, ◌≤◌, nat_lt};
 ghost use Rattle.js_run.specs.Runs.{charge, is_past};
 ghost use Rattle.js_machine.specs.declared.stop.Charge.TheVariants as charge_kind;
 ghost use Rattle.js_machine.specs.declared.frame.Mode.TheVariants as mode_kind;
-ghost use Rattle.js_machine.specs.Stops.{charge_of, cost_of, stop_at, with_steps};
+ghost use Rattle.js_text.specs.Naming.{naming_of};
+ghost use Rattle.js_machine.specs.Looks.{foreign_in};
+ghost use Rattle.js_machine.specs.Stops.{ask_stop, charge_of, cost_of, stop_at, told_stop, with_steps};
 
 use crate::frame::{Halt, Mode};
 use crate::machine::Machine;
 use lava_base::ids::Ref;
+
+/// What a run has left where it pauses for an answer of the outside: so many charges, and the steps
+/// up to the limit. A run that is free of charge tells other steps than it takes.
+#[derive(Clone, Copy)]
+pub struct Pause {
+    pub charges: u64,
+    pub limit: u64,
+    pub steps: u64,
+    pub told: Option<u64>,
+}
 
 /// How a run of a body stops, with the party's steps.
 #[derive(Clone, Copy)]
@@ -21,6 +33,10 @@ pub enum Stop {
     Stopped { halt: Halt, steps: u64 },
     /// The limit lacks what is to be paid for what is next.
     Short { steps: u64 },
+    /// The machine's import is sent over a link.
+    Imports { steps: u64 },
+    /// The outside is asked, by the newest call.
+    Outside(Pause),
 }
 
 /// What becomes of a charge.
@@ -90,7 +106,8 @@ impl Machine {
 
     /// How a run stops at an ask.
     fn stop_ask(&self, steps: u64) -> Stop
-        ensures { result ≡ stop_at self.now mode_kind.Ask steps }
+        ensures { let there = foreign_in (naming_of self.now.me) self.now.asked.target in
+            result ≡ ask_stop there steps }
     {
         match self.sent_to() {
             None => Stop::Short { steps },
@@ -99,13 +116,16 @@ impl Machine {
     }
 
     /// How a run stops where nothing is charged for.
-    pub fn stop_at(&self, mode: Mode, steps: u64) -> Stop
-        ensures { result ≡ stop_at self.now mode steps }
+    pub fn stop_at(&self, mode: Mode, pause: Pause) -> Stop
+        ensures { result ≡ stop_at self.now mode pause }
     {
+        let steps = pause.steps;
         match mode {
             Mode::Eval(_) | Mode::Pay(_) | Mode::Serve(_) => Stop::Short { steps },
             Mode::Ask => self.stop_ask(steps),
             Mode::End(halt) => Stop::Stopped { halt, steps },
+            Mode::Import => Stop::Imports { steps },
+            Mode::Outside => Stop::Outside(pause),
             _ => Stop::Gave { mode, steps },
         }
     }
@@ -121,6 +141,21 @@ impl Stop {
             Stop::Gave { mode, .. } => Stop::Gave { mode, steps },
             Stop::Stopped { halt, .. } => Stop::Stopped { halt, steps },
             Stop::Short { .. } => Stop::Short { steps },
+            Stop::Imports { .. } => Stop::Imports { steps },
+            Stop::Outside(pause) => Stop::Outside(Pause {
+                told: Some(steps),
+                ..pause
+            }),
+        }
+    }
+
+    /// The same stop, with the steps that are told.
+    pub fn told(self, steps: Option<u64>) -> Stop
+        ensures { result ≡ told_stop steps self }
+    {
+        match steps {
+            None => self,
+            Some(steps) => self.with_steps(steps),
         }
     }
 }

@@ -16,18 +16,20 @@ use Rattle.js_run.specs.Identities.{Replies, Requests, request_identities}
 use Rattle.js_run.specs.Journal.{Application, Crossing, asked_party, crossing, end_of, owner_of, put, with_marks_of}
 use Rattle.js_run.specs.Local.{own_marks}
 use Rattle.js_run.specs.Parties.{Party}
-use Rattle.js_run.specs.Runs.{Asks, Request}
+use Rattle.js_run.specs.Runs.{Asks, Imports, Request}
 use Rattle.js_machine.specs.Begun.{own_of}
 use Rattle.js_machine.specs.Shown.{no_ask}
 use Rattle.js_machine.specs.Views.{View, completion_of, nexts_of}
 use Rattle.js_machine.specs.declared.asked.Asked.{Asked}
+use Rattle.js_machine.specs.declared.asked.Imported.{Imported}
 use Rattle.js_machine.specs.declared.frame.Halt.{Halt}
 use Rattle.js_machine.specs.declared.frame.Mode.{Mode}
+use Rattle.js_machine.specs.declared.stop.Pause.{Pause}
 use Rattle.js_machine.specs.declared.stop.Stop.{Stop}
 use Rattle.js_machine.specs.declared.stop.Stop.TheVariants as stop
-use Rattle.js_world.specs.Crossings.{Follows, GoesOn, HandsOver, HasGiven, HasStopped, IsResumed, IsSent, IsTaken, RunsHere, newest}
+use Rattle.js_world.specs.Crossings.{Follows, GoesOn, HandsOver, HasGiven, IsResumed, IsSent, IsTaken, RunsHere, newest}
 use Rattle.js_world.specs.Shows.{makes_none, shows_ask, shows_ref, with_table}
-use Rattle.js_world.specs.Worlds.{Counts, Crosses, HasOwn, IsOver, Suits, WorldView, aside, charged, ending_of, party_with, sent, steps_of, waits_of}
+use Rattle.js_world.specs.Worlds.{Counts, Crosses, HasOwn, HasStopped, IsOver, Suits, WorldView, aside, charged, ending_of, import_away, leads_to, party_with, sent, steps_of, waits_of}
 use Rattle.js_world.specs.declared.ending.Ending.{Ending}
 use Rattle.js_world.specs.declared.ending.Ending.TheVariants as ending
 use Rattle.js_world.specs.declared.ending.Turn.{Turn}
@@ -97,8 +99,26 @@ sends r n old new x e none there is = record {
   budget = ap (λ (v : WorldView). v.budget) is;
 }
 
-pub sent_on : (r : Ref) (n : ℕ) (old mid new : WorldView) (x : Ask Ref MadeSymbol) (t : Turn) → IsSent r n old mid x → IsTaken (owner_of r) (Asks r x) mid new t → Follows (stop.Sent r n) old new t
-sent_on r n old mid new x t s k = record { follows = λ app w after h. k.takes app after (s.sends app w after h); budget = k.budget ∙ s.budget }
+pub sent_on : (r : Ref) (n : ℕ) (old mid new : WorldView) (x : Ask Ref MadeSymbol) (m : Mode) → IsSent r n old mid x → IsTaken (owner_of r) (Asks r x) mid new m → Follows (stop.Sent r n) old new (turn.Runs m)
+sent_on r n old mid new x m s k = record { follows = λ app w after h. k.takes app after (s.sends app w after h); budget = k.budget ∙ s.budget }
+
+-- IMPORTS
+
+hands_import : (app : Application) (w after : heap.World) (v : WorldView) (n q : ℕ) → HasStopped app w v (stop.Imports n) after → leads_to v v.machine.me v.machine.imported.link ≡ Some q → v.machine.me < length v.steps
+    → HandsOver app after (import_away n v) q (Imports v.machine.imported.link v.machine.imported.path)
+hands_import app w after v n q h e there =
+    let o : Request Ref MadeSymbol = Imports v.machine.imported.link v.machine.imported.path in
+    subst (λ i. HandsOver app after (import_away n v) i o) (h.suits.leads v.machine.me v.machine.imported.link q e) (hands_over app w after v o n v.machine.asked h.suits h.others h.counts there h.comes)
+
+pub imports_on : (n q : ℕ) (old mid new : WorldView) (x : Imported) (m : Mode) → x ≡ old.machine.imported → old.machine.me < length old.steps → mid ≡ import_away n old
+    → leads_to mid mid.machine.me x.link ≡ Some q → IsTaken q (Imports x.link x.path) mid new m → Follows (stop.Imports n) old new (turn.Runs m)
+imports_on n q old mid new x m e there is to k =
+    let led : leads_to old old.machine.me old.machine.imported.link ≡ Some q = (λ j. leads_to (sym is j) (sym is j).machine.me (sym e j).link) ∙ to in
+    record {
+      follows = λ app w after h.
+          k.takes app after (subst (λ y. HandsOver app after mid q (Imports y.link y.path)) (sym e) (subst (λ y. HandsOver app after y q (Imports old.machine.imported.link old.machine.imported.path)) (sym is) (hands_import app w after old n q h led there)));
+      budget = k.budget ∙ ap (λ (v : WorldView). v.budget) is;
+    }
 
 -- REPLIES
 
@@ -178,8 +198,8 @@ goes_back app w after old mid new r m n b h g d there some is =
     } in
     subst (λ y. GoesOn app y new b r) (sym (came app w after old r m n (b ∷ bs) h d full)) (subst (λ v. GoesOn app world v b r) (sym still) so)
 
-pub gives_back : (r : Reply Ref MadeSymbol) (m : Mode) (n : ℕ) (b : Waiting) (old mid low new : WorldView) (t : Turn) → HasGiven r n old mid → r ≡ reply_of (completion_of old.machine m) → old.machine.me < length old.steps → newest mid.stack ≡ Some b
-    → low ≡ record mid { stack = drop 1 mid.stack } → IsResumed b r low new t → Follows (stop.Gave m n) old new t
+pub gives_back : (r : Reply Ref MadeSymbol) (m : Mode) (n : ℕ) (b : Waiting) (old mid low new : WorldView) (t : Mode) → HasGiven r n old mid → r ≡ reply_of (completion_of old.machine m) → old.machine.me < length old.steps → newest mid.stack ≡ Some b
+    → low ≡ record mid { stack = drop 1 mid.stack } → IsResumed b r low new t → Follows (stop.Gave m n) old new (turn.Runs t)
 gives_back r m n b old mid low new t g d there some is k = record {
   follows = λ app w after h. k.takes app after (goes_back app w after old mid low r m n b h g d there some is);
   budget = k.budget ∙ ap (λ (v : WorldView). v.budget) is ∙ ap (λ (v : WorldView). v.budget) g.given;
@@ -201,6 +221,10 @@ ends_stopped n k old new there is = record {
   budget = ap (λ (v : WorldView). v.budget) is;
 }
 
+-- the outside is asked
+pub asks_outside : (s : Stop) (p : Pause) (v : WorldView) → s ≡ stop.Outside p → Follows s v v (turn.Asks p)
+asks_outside s p v e = record { follows = λ app w after h. subst (λ y. HasStopped app w v y after) e h; budget = refl }
+
 -- A CROSSING
 
 pub crossed : (m : Mode) (s : Stop) (t : Turn) (old mid new : WorldView) → RunsHere m old mid s → Follows s mid new t → Crosses old m new t
@@ -211,15 +235,9 @@ crossed m s t old mid new r f = record {
 
 -- WHAT THE CODE COMES TO
 
-pub sent_so : {E : Type 0} (k : Result Turn E) (r : Ref) (n : ℕ) (old mid new : WorldView) (x : Ask Ref MadeSymbol) → x ≡ old.machine.asked.ask → makes_none old.machine.asked.ask ≡ true → old.machine.me < length old.steps → mid ≡ sent r n old
-    → IfOk k (IsTaken (owner_of r) (Asks r x) mid new) → IfOk k (Follows (stop.Sent r n) old new)
-sent_so (Ok t) r n old mid new x e none there is h = sent_on r n old mid new x t (sends r n old mid x e none there is) h
-sent_so (Err z) r n old mid new x e none there is h = tt
-
-pub gives_so : {E : Type 0} (k : Result Turn E) (r : Reply Ref MadeSymbol) (m : Mode) (n : ℕ) (b : Waiting) (old mid low new : WorldView) → HasGiven r n old mid → r ≡ reply_of (completion_of old.machine m) → old.machine.me < length old.steps
-    → newest mid.stack ≡ Some b → low ≡ record mid { stack = drop 1 mid.stack } → IfOk k (IsResumed b r low new) → IfOk k (Follows (stop.Gave m n) old new)
-gives_so (Ok t) r m n b old mid low new g d there some is h = gives_back r m n b old mid low new t g d there some is h
-gives_so (Err z) r m n b old mid low new g d there some is h = tt
+pub sent_so : (m : Mode) (r : Ref) (n : ℕ) (old mid new : WorldView) (x : Ask Ref MadeSymbol) → x ≡ old.machine.asked.ask → makes_none old.machine.asked.ask ≡ true → old.machine.me < length old.steps → mid ≡ sent r n old
+    → IsTaken (owner_of r) (Asks r x) mid new m → Follows (stop.Sent r n) old new (turn.Runs m)
+sent_so m r n old mid new x e none there is h = sent_on r n old mid new x m (sends r n old mid x e none there is) h
 
 pub crossed_so : {E : Type 0} (k : Result Turn E) (m : Mode) (s : Stop) (old mid new : WorldView) → RunsHere m old mid s → IfOk k (Follows s mid new) → IfOk k (Crosses old m new)
 crossed_so (Ok t) m s old mid new r h = crossed m s t old mid new r h

@@ -5,8 +5,7 @@ use Rattle.js_run.specs.Heap.{cross}
 use Rattle.js_run.specs.Journal.{Application}
 use Rattle.js_machine.specs.declared.frame.Mode.{Mode}
 use Rattle.js_world.specs.Ends.{Ends, IsOn, after_crossings}
-use Rattle.js_world.specs.Worlds.{After, Crosses, IsOver, Stands, WorldView}
-use Rattle.js_world.specs.declared.ending.Ending.{Ending}
+use Rattle.js_world.specs.Worlds.{After, Crosses, Stands, WorldView}
 use Rattle.js_world.specs.declared.ending.Turn.{Turn}
 use Rattle.js_world.specs.declared.ending.Turn.TheVariants as turn
 
@@ -22,25 +21,28 @@ begins old m = record { on = λ app w x. x; budget = refl }
 
 -- one crossing more
 next : (old : WorldView) (m : Mode) (i : ℕ) (now : WorldView) (a : Mode) (new : WorldView) (t : Turn) → IsOn old m i now a → Crosses now a new t → (app : Application) (w : heap.World) → Stands app w old m
-    → After app (after_crossings app old.budget (suc i) w) new t
+    → After app (after_crossings app old.budget i w) (after_crossings app old.budget (suc i) w) new t
 next old m i now a new t h c app w x =
     let y = after_crossings app old.budget i w in
-    subst (λ b. After app (cross app b y y.control) new t) h.budget (c.crosses app y (h.on app w x))
+    subst (λ b. After app y (cross app b y y.control) new t) h.budget (c.crosses app y (h.on app w x))
 
 pub goes : (old : WorldView) (m : Mode) (i j : ℕ) (now : WorldView) (a : Mode) (new : WorldView) (t : Turn) (b : Mode) → IsOn old m i now a → Crosses now a new t → t ≡ turn.Runs b → j ≡ i + 1 → IsOn old m j new b
 goes old m i j now a new t b h c e d =
     let size : suc i ≡ j = omega (arith, d) in
     record {
-      on = λ app w x. subst (λ n. Stands app (after_crossings app old.budget n w) new b) size (subst (λ u. After app (after_crossings app old.budget (suc i) w) new u) e (next old m i now a new t h c app w x));
+      on = λ app w x. subst (λ n. Stands app (after_crossings app old.budget n w) new b) size (subst (λ u. After app (after_crossings app old.budget i w) (after_crossings app old.budget (suc i) w) new u) e (next old m i now a new t h c app w x));
       budget = c.budget ∙ h.budget;
     }
 
-pub over : (old : WorldView) (m : Mode) (i : ℕ) (now : WorldView) (a : Mode) (new : WorldView) (t : Turn) (d : Ending) → IsOn old m i now a → Crosses now a new t → t ≡ turn.Over d → Ends old m new d
-over old m i now a new t d h c e =
-    let ends : (app : Application) (w : heap.World) → Stands app w old m → IsOver app (after_crossings app old.budget (suc i) w) new d =
-    λ app w x. subst (λ u. After app (after_crossings app old.budget (suc i) w) new u) e (next old m i now a new t h c app w x) in
+pub over : (old : WorldView) (m : Mode) (i : ℕ) (now : WorldView) (a : Mode) (new : WorldView) (t u : Turn) → IsOn old m i now a → Crosses now a new t → t ≡ u → Ends old m new u
+over old m i now a new t u h c e =
+    let ends : (app : Application) (w : heap.World) → Stands app w old m → After app (after_crossings app old.budget i w) (after_crossings app old.budget (suc i) w) new u =
+    λ app w x. subst (λ y. After app (after_crossings app old.budget i w) (after_crossings app old.budget (suc i) w) new y) e (next old m i now a new t h c app w x) in
     record {
-      crossings = suc i;
+      crossings = i;
       ends = ends;
-      heaps = λ app k x. subst (λ y. IsOver app y new d) (further app old.budget k (suc i)) (ends app (heap.heap app old.budget k) x);
+      heaps = λ app k x. (let whole = ends app (heap.heap app old.budget k) x in
+          subst (λ y. After app y (heap.heap app old.budget (k + suc i)) new u) (further app old.budget k i)
+          (subst (λ y. After app (after_crossings app old.budget i (heap.heap app old.budget k)) y new u) (further app old.budget k (suc i)) whole));
+      budget = c.budget ∙ h.budget;
     }

@@ -26,8 +26,8 @@ use Rattle.js_machine.specs.declared.asked.Asked.{Asked}
 use Rattle.js_machine.specs.declared.frame.Frame.{Frame}
 use Rattle.js_machine.specs.declared.frame.Mode.{Mode}
 use Rattle.js_machine.specs.declared.stop.Stop.{Stop}
-use Rattle.js_world.specs.Crossings.{HasStopped, Rests, RunsHere}
-use Rattle.js_world.specs.Worlds.{Counts, HasOwn, Reads, Stands, Suits, WorldView, around, charged, no_own, own_here, party_with, steps_of, waits_of}
+use Rattle.js_world.specs.Crossings.{Rests, RunsHere}
+use Rattle.js_world.specs.Worlds.{Counts, HasOwn, HasStopped, Reads, Stands, Suits, WorldView, around, charged, no_own, own_here, party_with, steps_of, waits_of}
 use Rattle.js_world.specs.declared.waiting.Waiting.{Waiting}
 use Rattle.js_world.proofs.Shown_laws.{choose, found}
 
@@ -59,6 +59,7 @@ kept_suits app v n k s = record {
       ((λ j. (if nat_eq (k.0 j) q then own_of n else get_or v.others q no_own).allowed)
       ∙ allowed_here (nat_eq v.machine.me q) (own_of n) (own_of v.machine) (get_or v.others q no_own) (λ j. (k.1.1.1.1 j).1)) ∙ s.links q l x;
   meters = s.meters;
+  leads = s.leads;
 }
 
 pub kept_own : (app : Application) (w : heap.World) (v : WorldView) (n : View) (q : ℕ) → Keeps v.machine n → (v.machine.me ≡ q → ⊥) → HasOwn app w v q → HasOwn app w (record v { machine = n }) q
@@ -145,7 +146,7 @@ pub rests_left : (app : Application) (w : heap.World) (v : WorldView) (fs : List
     → ks ≡ map (waits_of app v.machine.code) bs → k ≡ foreign_of app js
     → Rests app (written v.machine.me own n ks js c w) (record (charged v.machine.me n (record v { machine = left_with fs vs ws a an k v.machine })) { stack = bs })
 rests_left app w v fs vs ws a an k bs n own ks js c s h x l e d f = record {
-  suits = record { reads = s.reads; objects = s.objects; templates = s.templates; me = s.me; links = s.links; meters = s.meters };
+  suits = record { reads = s.reads; objects = s.objects; templates = s.templates; me = s.me; links = s.links; meters = s.meters; leads = s.leads };
   own = λ q g. left_own app w v own h e q g;
   counts = record {
     steps = λ q g. left_steps app w v v.machine.me n x l q g;

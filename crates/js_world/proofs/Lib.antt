@@ -6,3 +6,4 @@ pub mod Turned_laws
 pub mod Crossed
 pub mod Ended
 pub mod First_laws
+pub mod Outside_laws

@@ -1,5 +1,5 @@
 -- The machine turns to a party, and stands where the world lets it run.
-use Rattle.std.proofs.Common.{◌≡◌, ◌<◌, ℕ, nat_eq, length, get_or, set, refl, sym, ap, ◌∙◌, subst, if◌then◌else◌, Result, Ok, Err, IfOk}
+use Rattle.std.proofs.Common.{◌≡◌, ◌<◌, ℕ, nat_eq, length, get_or, set, refl, sym, ap, ◌∙◌, subst, if◌then◌else◌, Result, Ok, Err, IfOk, OnOk, List}
 use Rattle.std.proofs.lemmas.List.{get_or-set_other, get_or-set_same, length-set}
 use Rattle.lava_base.specs.declared.ids.MadeSymbol.{MadeSymbol}
 use Rattle.lava_base.specs.declared.ids.Ref.{Ref}
@@ -14,15 +14,15 @@ use Rattle.js_run.specs.Journal.{Application, env_of, owner_of, table_of}
 use Rattle.js_run.specs.Local.{serves}
 use Rattle.js_run.specs.Parties.{Party}
 use Rattle.js_run.specs.Requests.{is_link}
-use Rattle.js_run.specs.Runs.{Asks, Gives, Point, Request, settle}
+use Rattle.js_run.specs.Runs.{Asks, Gives, Imports, Point, Request, settle}
 use Rattle.js_machine.specs.Begun.{Left, Own, own_of, with_left}
+use Rattle.js_machine.specs.Evaluated.{IsImported}
 use Rattle.js_machine.specs.Served.{IsServed}
 use Rattle.js_machine.specs.Steps.{Keeps, LeadsTo, point_of}
 use Rattle.js_machine.specs.Views.{Around, View, fitting, nexts_of, party_of}
 use Rattle.js_machine.specs.declared.frame.Mode.{Mode}
 use Rattle.js_world.specs.Crossings.{GoesOn, HandsOver, IsResumed, IsTaken, Replies, Rests}
 use Rattle.js_world.specs.Worlds.{Stands, WorldView, around, exchanged, no_own, own_here, party_with, turned}
-use Rattle.js_world.specs.declared.ending.Turn.TheVariants as turn
 use Rattle.js_world.specs.declared.waiting.Waiting.{Waiting}
 use Rattle.js_world.proofs.Kept.{at_home, fits_here, kept_counts, kept_own, kept_suits}
 use Rattle.js_world.proofs.Shown_laws.{choose}
@@ -65,6 +65,7 @@ rests_turned app w q v r l g =
         me = λ x h. ap (λ (o : Own). o.me) (own_turned q v x m l) ∙ r.suits.me x (fewer x h);
         links = λ x h k. ap (λ (o : Own). is_link k o.allowed) (own_turned q v x m l) ∙ r.suits.links x (fewer x h) k;
         meters = λ x h. r.suits.meters x (fewer x h);
+        leads = r.suits.leads;
       };
       own = λ x h. r.own x (fewer x h) ∙ ap (party_with (app.own x) v.machine.code) (sym (own_turned q v x m l));
       counts = record { steps = r.counts.steps; spent = r.counts.spent; stack = r.counts.stack; known = r.counts.known };
@@ -108,9 +109,9 @@ serves_there app w old low n q o m h l g e k s =
 
 -- a request is taken by the party that it is for
 pub taken : (old low new : WorldView) (q : ℕ) (o : Request Ref MadeSymbol) (m : Mode) → old.machine.me < length old.others → q < length old.others → low ≡ turned q old → Keeps low.machine new.machine → StandsServing o low.machine new.machine m
-    → new ≡ record low { machine = new.machine } → IsTaken q o old new (turn.Runs m)
+    → new ≡ record low { machine = new.machine } → IsTaken q o old new m
 taken old low new q o m l g e k s is =
-    subst (λ v. IsTaken q o old v (turn.Runs m)) (sym is)
+    subst (λ v. IsTaken q o old v m) (sym is)
     (record { takes = λ app w h. serves_there app w old low new.machine q o m h l g e k s; budget = ap (λ (v : WorldView). v.budget) e })
 
 -- the machine with a body that it goes on with
@@ -119,7 +120,7 @@ with_body b v = record v { machine = with_left b v.machine }
 
 rests_with : (app : Application) (w : heap.World) (b : Left) (v : WorldView) → Rests app w v → Rests app w (with_body b v)
 rests_with app w b v r = record {
-  suits = record { reads = r.suits.reads; objects = r.suits.objects; templates = r.suits.templates; me = r.suits.me; links = r.suits.links; meters = r.suits.meters };
+  suits = record { reads = r.suits.reads; objects = r.suits.objects; templates = r.suits.templates; me = r.suits.me; links = r.suits.links; meters = r.suits.meters; leads = r.suits.leads };
   own = r.own;
   counts = record { steps = r.counts.steps; spent = r.counts.spent; stack = r.counts.stack; known = r.counts.known };
 }
@@ -141,7 +142,7 @@ goes_there app w old low n b r m h l g e s =
     ∙ ap (λ p. Runs low.machine.me (goes (around app rests.suits.reads w.journal low.machine.me) p)) (own_self app w low rests there))
 
 pub resumed : (old mid low : WorldView) (n : View) (b : Waiting) (r : Reply Ref MadeSymbol) (m : Mode) → old.machine.me < length old.others → b.party < length old.others → mid ≡ turned b.party old
-    → low ≡ record mid { machine = with_left b.left mid.machine } → LeadsTo (λ a. Give (Replied r) (party_of a low.machine)) low.machine n m → IsResumed b r old (record low { machine = n }) (turn.Runs m)
+    → low ≡ record mid { machine = with_left b.left mid.machine } → LeadsTo (λ a. Give (Replied r) (party_of a low.machine)) low.machine n m → IsResumed b r old (record low { machine = n }) m
 resumed old mid low n b r m l g d e s =
     let whole : low ≡ with_body b.left (turned b.party old) = e ∙ ap (with_body b.left) d in
     record { takes = λ app w h. goes_there app w old low n b r m h l g whole s; budget = ap (λ (v : WorldView). v.budget) whole }
@@ -149,17 +150,32 @@ resumed old mid low n b r m l g d e s =
 -- WHAT THE CODE COMES TO
 
 pub taken_so : (old low new : WorldView) (q : ℕ) (r : Ref) (x : Ask Ref MadeSymbol) (m : Mode) → q ≡ owner_of r → old.machine.me < length old.others → q < length old.others → low ≡ turned q old → IsServed r x low.machine new.machine m
-    → new ≡ record low { machine = new.machine } → IsTaken (owner_of r) (Asks r x) old new (turn.Runs m)
+    → new ≡ record low { machine = new.machine } → IsTaken (owner_of r) (Asks r x) old new m
 taken_so old low new q r x m e l g d s is =
-    subst (λ i. IsTaken i (Asks r x) old new (turn.Runs m)) e (taken old low new q (Asks r x) m l g d s.keeps s.stands is)
+    subst (λ i. IsTaken i (Asks r x) old new m) e (taken old low new q (Asks r x) m l g d s.keeps s.stands is)
+
+pub imported_so : {E : Type 0} (k : Result Mode E) (old low new : WorldView) (q : ℕ) (link path : List ℕ) → old.machine.me < length old.others → q < length old.others → low ≡ turned q old → IfOk k (IsImported link path low.machine new.machine)
+    → OnOk k (new ≡ record low { machine = new.machine }) → IfOk k (IsTaken q (Imports link path) old new)
+imported_so (Ok m) old low new q link path l g d s is = taken old low new q (Imports link path) m l g d s.keeps s.stands is
+imported_so (Err x) old low new q link path l g d s is = tt
+
+pub taken_so_ok : {E : Type 0} (k : Result Mode E) (old low new : WorldView) (q : ℕ) (r : Ref) (x : Ask Ref MadeSymbol) → q ≡ owner_of r → old.machine.me < length old.others → q < length old.others → low ≡ turned q old → IfOk k (IsServed r x low.machine new.machine)
+    → OnOk k (new ≡ record low { machine = new.machine }) → IfOk k (IsTaken (owner_of r) (Asks r x) old new)
+taken_so_ok (Ok m) old low new q r x e l g d s is = taken_so old low new q r x m e l g d s is
+taken_so_ok (Err z) old low new q r x e l g d s is = tt
 
 pub resumed_so : (old mid new : WorldView) (b : Waiting) (r : Reply Ref MadeSymbol) (m : Mode) → old.machine.me < length old.others → b.party < length old.others → mid ≡ turned b.party old → Replies b.left r mid.machine new.machine m
-    → new ≡ record mid { machine = new.machine } → IsResumed b r old new (turn.Runs m)
+    → new ≡ record mid { machine = new.machine } → IsResumed b r old new m
 resumed_so old mid new b r m l g d s is =
-    subst (λ v. IsResumed b r old v (turn.Runs m)) (sym is) (resumed old mid (record mid { machine = with_left b.left mid.machine }) new.machine b r m l g d refl s.leads)
+    subst (λ v. IsResumed b r old v m) (sym is) (resumed old mid (record mid { machine = with_left b.left mid.machine }) new.machine b r m l g d refl s.leads)
 
 pub replied : {E : Type 0} (k : Result Mode E) (b : Left) (r : Reply Ref MadeSymbol) (old base low new : View) → IfOk k (LeadsTo (λ a. Give (Replied r) (party_of a low)) low new) → low ≡ with_left b base → base ≡ old → IfOk k (Replies b r old new)
 replied (Ok m) b r old base low new h e d =
     let whole : low ≡ with_left b old = e ∙ ap (with_left b) d in
     record { leads = subst (λ w. LeadsTo (λ a. Give (Replied r) (party_of a w)) w new m) whole h }
 replied (Err x) b r old base low new h e d = tt
+
+pub resumed_so_ok : {E : Type 0} (k : Result Mode E) (old mid new : WorldView) (b : Waiting) (r : Reply Ref MadeSymbol) → old.machine.me < length old.others → b.party < length old.others → mid ≡ turned b.party old → IfOk k (Replies b.left r mid.machine new.machine)
+    → OnOk k (new ≡ record mid { machine = new.machine }) → IfOk k (IsResumed b r old new)
+resumed_so_ok (Ok m) old mid new b r l g d s is = resumed_so old mid new b r m l g d s is
+resumed_so_ok (Err x) old mid new b r l g d s is = tt

@@ -8,19 +8,19 @@ use Rattle.js_desc.specs.declared.reply.Reply.{Reply}
 use Rattle.js_run.specs.Acts.{Give}
 use Rattle.js_run.specs.Completions.{Replied}
 use Rattle.js_run.specs.Heap as heap
-use Rattle.js_run.specs.Heap.{Over_with, goes_on, hands, has_run}
+use Rattle.js_run.specs.Heap.{goes_on, hands}
 use Rattle.js_run.specs.Journal.{Application, is_host, owner_of}
 use Rattle.js_run.specs.Runs.{Asks, Request}
 use Rattle.js_machine.specs.Begun.{Left, with_left}
 use Rattle.js_machine.specs.Steps.{LeadsTo}
-use Rattle.js_machine.specs.Stops.{IsRun, stop_of}
+use Rattle.js_machine.specs.Stops.{IsRun}
 use Rattle.js_machine.specs.Views.{View, party_of}
 use Rattle.js_machine.specs.declared.asked.Answer.{Answer}
 use Rattle.js_machine.specs.declared.frame.Mode.{Mode}
 use Rattle.js_machine.specs.declared.stop.Stop.{Stop}
 use Rattle.js_machine.specs.declared.stop.Stop.TheVariants as stop
 use Rattle.js_world.specs.Shows.{shows_reply}
-use Rattle.js_world.specs.Worlds.{After, Counts, HasOwn, Suits, WorldView, around, charged, steps_of, waits_of}
+use Rattle.js_world.specs.Worlds.{After, Counts, HasOwn, HasStopped, Stands, Suits, WorldView, charged, steps_of, waits_of}
 use Rattle.js_world.specs.declared.ending.Turn.{Turn}
 use Rattle.js_world.specs.declared.waiting.Waiting.{Waiting}
 
@@ -37,13 +37,6 @@ pub record RunsHere (m : Mode) (old new : WorldView) (s : Stop) : Type 0 where
   pub runs : let p = old.machine.me in IsRun (is_host p) None (steps_of old p + (old.budget - old.spent)) (steps_of old p) m old.machine new.machine s
   pub rest : new ≡ record old { machine = new.machine }
 
--- it stopped in a world, which comes to be another
-pub record HasStopped (app : Application) (w : heap.World) (v : WorldView) (s : Stop) (after : heap.World) : Type 0 where
-  pub suits : Suits app v
-  pub others : (q : ℕ) → (v.machine.me ≡ q → ⊥) → HasOwn app w v q
-  pub counts : Counts app w v
-  pub comes : after ≡ has_run app v.machine.me w (stop_of (around app suits.reads w.journal v.machine.me) v.machine s)
-
 -- ASKS
 
 -- what a party sends to another one is in the journal, and the receiver is to run
@@ -58,8 +51,8 @@ pub record IsSent (r : Ref) (n : ℕ) (old new : WorldView) (x : Ask Ref MadeSym
   pub budget : new.budget ≡ old.budget
 
 -- the receiver runs
-pub record IsTaken (q : ℕ) (o : Request Ref MadeSymbol) (old new : WorldView) (t : Turn) : Type 0 where
-  pub takes : (app : Application) (w : heap.World) → HandsOver app w old q o → After app w new t
+pub record IsTaken (q : ℕ) (o : Request Ref MadeSymbol) (old new : WorldView) (m : Mode) : Type 0 where
+  pub takes : (app : Application) (w : heap.World) → HandsOver app w old q o → Stands app w new m
   pub budget : new.budget ≡ old.budget
 
 -- REPLIES
@@ -84,13 +77,13 @@ pub record Replies (b : Left) (r : Reply Ref MadeSymbol) (old new : View) (m : M
   pub leads : let low = with_left b old in LeadsTo (λ a. Give (Replied r) (party_of a low)) low new m
 
 -- it goes on
-pub record IsResumed (b : Waiting) (r : Reply Ref MadeSymbol) (old new : WorldView) (t : Turn) : Type 0 where
-  pub takes : (app : Application) (w : heap.World) → GoesOn app w old b r → After app w new t
+pub record IsResumed (b : Waiting) (r : Reply Ref MadeSymbol) (old new : WorldView) (m : Mode) : Type 0 where
+  pub takes : (app : Application) (w : heap.World) → GoesOn app w old b r → Stands app w new m
   pub budget : new.budget ≡ old.budget
 
 -- A STOP
 
 -- the world comes to its next crossing
 pub record Follows (s : Stop) (old new : WorldView) (t : Turn) : Type 0 where
-  pub follows : (app : Application) (w after : heap.World) → HasStopped app w old s after → After app after new t
+  pub follows : (app : Application) (w after : heap.World) → HasStopped app w old s after → After app w after new t
   pub budget : new.budget ≡ old.budget

@@ -5,11 +5,13 @@ use Rattle.js_run.specs.Journal.{Application, foreign_of}
 use Rattle.js_machine.specs.Begun.{Own}
 use Rattle.js_machine.specs.Views.{View}
 use Rattle.js_world.specs.Crossings.{Rests}
-use Rattle.js_world.specs.Worlds.{Suits, WorldView, own_here, party_with}
+use Rattle.js_machine.specs.declared.frame.Mode.{Mode}
+use Rattle.js_world.specs.Worlds.{Stands, Suits, WorldView, own_here, party_with}
+use Rattle.js_world.specs.declared.leads.Lead.{Lead}
 
 -- a machine of all parties that has done nothing yet
-abbrev pub as_new : View → List Own → (budget : ℕ) → WorldView
-as_new machine others budget = record { machine = machine; others = others; steps = replicate (length others) 0; spent = 0; budget = budget; stack = [] }
+abbrev pub as_new : View → List Own → List (List Lead) → (budget : ℕ) → WorldView
+as_new machine others leads budget = record { machine = machine; others = others; leads = leads; steps = replicate (length others) 0; spent = 0; budget = budget; stack = [] }
 
 -- each party has what the application has of it, and what is known is what the starts name
 pub record IsFirst (app : Application) (v : WorldView) : Type 0 where
@@ -20,3 +22,8 @@ pub record IsFirst (app : Application) (v : WorldView) : Type 0 where
 -- it rests where a run begins
 pub record RestsFirst (v : WorldView) : Type 0 where
   pub rests : (app : Application) → IsFirst app v → Rests app (begins app) v
+
+-- where it rests where a run begins, it stands there afterwards
+pub record IsBegun (old new : WorldView) (m : Mode) : Type 0 where
+  pub begins : (app : Application) → Rests app (begins app) old → Stands app (begins app) new m
+  pub budget : new.budget ≡ old.budget

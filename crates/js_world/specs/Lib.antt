@@ -1,5 +1,7 @@
 pub mod Shows
+pub mod Leads
 pub mod Worlds
 pub mod Crossings
 pub mod Ends
 pub mod First
+pub mod Asked_outside

@@ -1,5 +1,5 @@
 -- The machine of all parties as contracts see it, and that it stands where js_run's world stands.
-use Rattle.std.specs.Prelude.{◌≡◌, ◌<◌, ◌+◌, ◌-◌, ℕ, List, [], ◌∷◌, None, if◌then◌else◌, get_or, set, length, map, nat_eq}
+use Rattle.std.specs.Prelude.{◌≡◌, ◌<◌, ◌+◌, ◌-◌, ℕ, List, [], ◌∷◌, Option, Some, None, if◌then◌else◌, get_or, slice_get, set, length, map, nat_eq}
 use Rattle.lava_base.specs.declared.ids.MadeSymbol.{MadeSymbol}
 use Rattle.lava_base.specs.declared.ids.Ref.{Ref}
 use Rattle.js_text.specs.Naming.{naming_of}
@@ -8,7 +8,7 @@ use Rattle.js_native.specs.TextNatives.{FindsFirst}
 use Rattle.js_code.specs.Tables.{Tables}
 use Rattle.js_run.specs.Acts.{Next}
 use Rattle.js_run.specs.Heap as heap
-use Rattle.js_run.specs.Heap.{Control, Over_with, Runs, cross}
+use Rattle.js_run.specs.Heap.{Control, Over_with, Runs, cross, has_run}
 use Rattle.js_run.specs.Journal as journal
 use Rattle.js_run.specs.Journal.{Application, Crossing, env_of, foreign_of, table_of}
 use Rattle.js_run.specs.Parties.{Party}
@@ -17,19 +17,25 @@ use Rattle.js_machine.specs.Begun.{Own, left_of, nothing_left, own_of, with_left
 use Rattle.js_machine.specs.Packages.{Package, loaded_in}
 use Rattle.js_machine.specs.Shown.{no_ask}
 use Rattle.js_machine.specs.Steps.{point_of}
+use Rattle.js_machine.specs.Stops.{stop_of}
 use Rattle.js_machine.specs.Views.{Around, View, halt_of, nexts_of, templates_at}
 use Rattle.js_machine.specs.declared.frame.Mode.{Mode}
+use Rattle.js_machine.specs.declared.stop.Stop.{Stop}
+use Rattle.js_machine.specs.declared.stop.Stop.TheVariants as stop
+use Rattle.js_world.specs.Leads.{leads_among}
 use Rattle.js_world.specs.Shows.{shows_ask, shows_ref}
 use Rattle.js_world.specs.declared.ending.Ending.{Ending}
 use Rattle.js_world.specs.declared.ending.Ending.TheVariants as ending
 use Rattle.js_world.specs.declared.ending.Turn.{Turn}
 use Rattle.js_world.specs.declared.ending.Turn.TheVariants as turn
+use Rattle.js_world.specs.declared.leads.Lead.{Lead}
 use Rattle.js_world.specs.declared.waiting.Waiting.{Waiting}
 
--- the party that runs has its own things in the machine, and each other one has them in its place of the list. What waits stands with the newest first
+-- the party that runs has its own things in the machine, and each other one has them in its place of the list. Where the links of each party lead stands in a list, too. What waits stands with the newest first
 pub record WorldView : Type 0 where
   pub machine : View
   pub others : List Own
+  pub leads : List (List Lead)
   pub steps : List ℕ
   pub spent : ℕ
   pub budget : ℕ
@@ -42,10 +48,14 @@ no_package = record { name = []; main = []; modules = []; links = []; builtin = 
 
 -- a party that is nowhere has nothing
 abbrev pub no_own : Own
-no_own = record { me = 0; objects = []; templates = []; scopes = []; bodies = []; depth = 0; own_package = no_package; allowed = [] }
+no_own = record { me = 0; objects = []; templates = []; scopes = []; bodies = []; depth = 0; own_package = no_package; allowed = []; calls = [] }
 
 abbrev pub own_here : WorldView → ℕ → Own
 own_here v q = if nat_eq v.machine.me q then own_of v.machine else get_or v.others q no_own
+
+-- the party to which a link of a party leads
+abbrev pub leads_to : WorldView → ℕ → List ℕ → Option ℕ
+leads_to v q l = leads_among (slice_get v.leads q) l
 
 abbrev pub steps_of : WorldView → ℕ → ℕ
 steps_of v q = get_or v.steps q 0
@@ -64,6 +74,7 @@ party_with p c o = record p {
   scopes = o.scopes;
   bodies = o.bodies;
   depth = o.depth;
+  calls = o.calls;
 }
 
 -- a body that waits, with what goes on there
@@ -96,6 +107,10 @@ asked_away r v = record v { machine = shows_ask v.machine.asked.ask (shows_ref r
 abbrev pub sent : Ref → ℕ → WorldView → WorldView
 sent r n v = aside (charged v.machine.me n (asked_away r v))
 
+-- an import leaves the machine, and the body that sent it waits
+abbrev pub import_away : ℕ → WorldView → WorldView
+import_away n v = aside (charged v.machine.me n v)
+
 -- THAT IT STANDS WHERE THE WORLD STANDS
 
 -- texts are read as the numbers that they stand for, and a part is found where it stands first
@@ -107,7 +122,7 @@ pub record Reads (app : Application) : Type 0 where
 abbrev pub around : (app : Application) → Reads app → List Crossing → ℕ → Around
 around app r j q = record { shared = app.shared; env = env_of app (table_of app j) q; rest = app.own q; numbers = r.numbers; finds = r.finds }
 
--- the machine has the common part of the application, and each party has its number, its links and no meter
+-- the machine has the common part of the application, and each party has its number, its links and no meter. Links lead where the application says
 pub record Suits (app : Application) (v : WorldView) : Type 0 where
   pub reads : Reads app
   pub objects : v.machine.common ≡ app.shared.objects
@@ -115,6 +130,7 @@ pub record Suits (app : Application) (v : WorldView) : Type 0 where
   pub me : (q : ℕ) → q < length v.others → (own_here v q).me ≡ q
   pub links : (q : ℕ) → q < length v.others → (l : List ℕ) → is_link l (own_here v q).allowed ≡ app.allows q (app.links q l)
   pub meters : (q : ℕ) → q < length v.others → (app.own q).meter ≡ None
+  pub leads : (q : ℕ) → (l : List ℕ) → (n : ℕ) → leads_to v q l ≡ Some n → app.links q l ≡ n
 
 -- each party has its own things as the world has them
 abbrev pub HasOwn : Application → heap.World → WorldView → ℕ → Type 0
@@ -146,11 +162,20 @@ pub record IsOver (app : Application) (w : heap.World) (v : WorldView) (e : Endi
   pub spent : w.spent ≡ v.spent
   pub control : w.control ≡ Over_with (ending_of e)
 
-abbrev pub After : Application → heap.World → WorldView → Turn → Type 0
-After app w v (turn.Runs m) = Stands app w v m
-After app w v (turn.Over e) = IsOver app w v e
+-- the party in the machine has stopped in a world, which comes to be another. Where the outside is asked, it comes to that once the party goes on with the answer
+pub record HasStopped (app : Application) (w : heap.World) (v : WorldView) (s : Stop) (after : heap.World) : Type 0 where
+  pub suits : Suits app v
+  pub others : (q : ℕ) → (v.machine.me ≡ q → ⊥) → HasOwn app w v q
+  pub counts : Counts app w v
+  pub comes : after ≡ has_run app v.machine.me w (stop_of (around app suits.reads w.journal v.machine.me) v.machine s)
 
--- the machine comes to the next crossing, wherever the world stands as it does
+-- where the machine is after a crossing from one world to another; where the outside is asked, it is on its way
+abbrev pub After : Application → (w after : heap.World) → WorldView → Turn → Type 0
+After app w after v (turn.Runs m) = Stands app after v m
+After app w after v (turn.Over e) = IsOver app after v e
+After app w after v (turn.Asks p) = HasStopped app w v (stop.Outside p) after
+
+-- the machine comes to the next crossing, wherever the world stands as it does, or to a call of the outside before it
 pub record Crosses (old : WorldView) (m : Mode) (new : WorldView) (t : Turn) : Type 0 where
-  pub crosses : (app : Application) (w : heap.World) → Stands app w old m → After app (cross app old.budget w w.control) new t
+  pub crosses : (app : Application) (w : heap.World) → Stands app w old m → After app w (cross app old.budget w w.control) new t
   pub budget : new.budget ≡ old.budget

@@ -121,14 +121,13 @@ impl World {
     }
 
     /// The party of an object runs, for an ask at the object.
-    fn hand_over(&mut self, target: Ref, ask: Ask) -> Result<Turn, OutOfMemory>
+    fn hand_over(&mut self, target: Ref, ask: Ask) -> Result<Mode, OutOfMemory>
         requires { self.now.machine.frames ≡ [] }
         ensures { let receiver = owner_of target in
             IfOk result (IsTaken receiver (Asks target ask) self.old self.new) }
     {
         self.turn_to(owner_of(target))?;
-        let mode = self.serve(target, ask)?;
-        Ok(Turn::Runs(mode))
+        self.serve(target, ask)
     }
 
     /// A body goes on with a reply.
@@ -141,13 +140,12 @@ impl World {
     }
 
     /// A body that waits goes on with a reply.
-    fn resume(&mut self, waiting: Waiting, reply: Reply) -> Result<Turn, OutOfMemory>
+    fn resume(&mut self, waiting: Waiting, reply: Reply) -> Result<Mode, OutOfMemory>
         ensures { IfOk result (IsResumed waiting reply self.old self.new) }
     {
         let Waiting { party, left } = waiting;
         self.turn_to(party)?;
-        let mode = self.go_on(left, reply)?;
-        Ok(Turn::Runs(mode))
+        self.go_on(left, reply)
     }
 
     /// The machine's ask is sent to a foreign object, whose party runs.
@@ -155,7 +153,8 @@ impl World {
         ensures { IfOk result (Follows (stop.Sent target steps) self.old self.new) }
     {
         let ask = self.send_away(target, steps)?;
-        self.hand_over(target, ask)
+        let mode = self.hand_over(target, ask)?;
+        Ok(Turn::Runs(mode))
     }
 
     /// A body is over, and the newest one that waits goes on with its reply. Where none waits, the
@@ -165,7 +164,10 @@ impl World {
     {
         let reply = self.give_away(mode, steps)?;
         match self.take_waiting() {
-            Some(waiting) => self.resume(waiting, reply),
+            Some(waiting) => {
+                let mode = self.resume(waiting, reply)?;
+                Ok(Turn::Runs(mode))
+            }
             None => Ok(Turn::Over(end_of(&reply))),
         }
     }
@@ -188,8 +190,9 @@ impl World {
         Ok(Turn::Over(Ending::Fault(party, halt)))
     }
 
-    /// What becomes of a run that stops.
-    fn follow(&mut self, stop: Stop) -> Result<Turn, OutOfMemory>
+    /// What becomes of a run that stops. Where the outside is asked, the crossing goes on with its
+    /// answer.
+    pub(crate) fn follow(&mut self, stop: Stop) -> Result<Turn, OutOfMemory>
         ensures { IfOk result (Follows stop self.old self.new) }
     {
         match stop {
@@ -197,11 +200,14 @@ impl World {
             Stop::Gave { mode, steps } => self.hand_back(mode, steps),
             Stop::Stopped { halt, steps } => self.end_within(halt, steps),
             Stop::Short { steps } => self.end_short(steps),
+            Stop::Imports { steps } => self.send_import(steps),
+            Stop::Outside(pause) => Ok(Turn::Asks(pause)),
         }
     }
 
-    /// To the next crossing. Want of memory is answered too where a number of a party is none,
-    /// where steps could be too many to be counted, and where an ask makes a party.
+    /// To the next crossing, or to a call of the outside before it. Want of memory is answered too
+    /// where a number of a party is none, where steps could be too many to be counted, where the
+    /// table of leads has no such link, and where an ask makes a party.
     pub fn cross(&mut self, mode: Mode) -> Result<Turn, OutOfMemory>
         ensures { IfOk result (Crosses self.old mode self.new) }
     {

@@ -1,6 +1,7 @@
 // How a run of all parties ends.
 
 use js_machine::frame::{Halt, Mode};
+use js_machine::stop::Pause;
 
 /// How a run ends.
 #[derive(Clone, Copy, Debug, PartialEq, Eq)]
@@ -15,9 +16,11 @@ pub enum Ending {
     Fault(u32, Halt),
 }
 
-/// What is next: the party in the machine runs on, or the run is over.
+/// What is next: the party in the machine runs on, the run is over, or the outside is asked by the
+/// newest call of the party in the machine.
 #[derive(Clone, Copy)]
 pub enum Turn {
     Runs(Mode),
     Over(Ending),
+    Asks(Pause),
 }

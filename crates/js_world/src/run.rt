@@ -1,24 +1,26 @@
 // A run of all parties.
 
-ghost use Rattle.std.specs.Prelude.{◌≡◌, IfOk};
-ghost use Rattle.js_world.specs.Ends.{Ends};
+ghost use Rattle.std.specs.Prelude.{◌≡◌, IfOk, false};
+ghost use Rattle.js_world.specs.Ends.{Ends, runs_still};
 
-use crate::ending::{Ending, Turn};
+use crate::ending::Turn;
 use crate::world::World;
 use js_machine::frame::Mode;
 use lava_base::memory::OutOfMemory;
 
 impl World {
-    /// Runs all parties to the end, each in its turn. Want of memory is answered too after
-    /// 18,446,744,073,709,551,615 crossings, and where `cross` says so.
-    pub fn run_to_end(&mut self, mode: Mode) -> Result<Ending, OutOfMemory>
-        ensures { IfOk result (Ends self.old mode self.new) }
+    /// Runs all parties, each in its turn, to the end or to a call of the outside. Want of memory
+    /// is answered too after 18,446,744,073,709,551,615 crossings, and where `cross` says so.
+    pub fn run_to_end(&mut self, mode: Mode) -> Result<Turn, OutOfMemory>
+        ensures ends { IfOk result (Ends self.old mode self.new) }
+        ensures stops { IfOk result (λ t. runs_still t ≡ false) }
     {
         let mut mode = mode;
         for _i in 0..u64::MAX {
             match self.cross(mode)? {
                 Turn::Runs(next) => mode = next,
-                Turn::Over(ending) => return Ok(ending),
+                Turn::Over(ending) => return Ok(Turn::Over(ending)),
+                Turn::Asks(pause) => return Ok(Turn::Asks(pause)),
             }
         }
         Err(OutOfMemory)

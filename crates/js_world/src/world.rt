@@ -4,9 +4,11 @@ ghost use Rattle.std.specs.Prelude.{◌≡◌, ◌<◌, length, replicate, IfOk,
 ghost use Rattle.js_world.specs.First.{RestsFirst, as_new};
 ghost use Rattle.js_world.specs.Worlds.{aside, charged, exchanged, turned};
 
+use crate::leads::Lead;
 use crate::waiting::Waiting;
 use js_machine::machine::Machine;
 use js_machine::own::Own;
+use lava_base::list::List;
 use lava_base::memory::OutOfMemory;
 use std::alloc::Global;
 use std::marker::Model;
@@ -17,6 +19,8 @@ use std::marker::Model;
 pub struct World {
     pub(crate) machine: Machine,
     pub(crate) others: Vec<Own>,
+    /// Where the links of each party lead.
+    pub(crate) leads: Vec<List<Lead>>,
     /// The steps that each party has taken.
     pub(crate) steps: Vec<u64>,
     /// Those that all have taken.
@@ -35,6 +39,7 @@ impl Model for World {
     ghost view = { λ w. record {
       machine = w.machine;
       others = w.others.items;
+      leads = w.leads.items;
       steps = w.steps.items;
       spent = w.spent;
       budget = w.budget;
@@ -67,20 +72,36 @@ impl World {
         alloc: Global,
         machine: Machine,
         others: Vec<Own>,
+        leads: Vec<List<Lead>>,
         budget: u64,
     ) -> Result<World, OutOfMemory>
-        ensures new { IfOk result (λ w. w ≡ as_new machine others.items budget) }
+        ensures new { IfOk result (λ w. w ≡ as_new machine others.items leads.items budget) }
         ensures rests { IfOk result RestsFirst }
     {
         let steps = no_steps(alloc, count_of(&others))?;
         Ok(World {
             machine,
             others,
+            leads,
             steps,
             spent: 0,
             budget,
             stack: Vec::new(alloc),
         })
+    }
+
+    /// The steps that each party has taken, by their numbers.
+    pub fn steps(&self) -> &[u64]
+        ensures { result.now ≡ self.now.steps }
+    {
+        self.steps.as_slice()
+    }
+
+    /// The machine; the call that the outside is asked by is its newest one.
+    pub fn machine(&self) -> &Machine
+        ensures { result.now ≡ self.now.machine }
+    {
+        &self.machine
     }
 
     /// The things of the party in the machine and those of a place change places.

@@ -1,5 +1,6 @@
 use Rattle.js_machine.specs.declared.frame.Purpose.TheVariants as purpose
 use Rattle.js_machine.proofs.Called_laws.{applies}
+use Rattle.js_machine.proofs.Native_deeds.{native_applied}
 use Rattle.js_machine.proofs.machine.Machine.apply.Goals as goal
 
 pub returns-in-Call : goal.returns-in-Call
@@ -13,3 +14,6 @@ returns-in-SuperCall c = applies c.apply_super_call.result c.args.purpose purpos
 
 pub returns-in-SuperNew : goal.returns-in-SuperNew
 returns-in-SuperNew c = applies c.apply_super_new.result c.args.purpose purpose.SuperNew c.args.done c.args.self.now c.apply_super_new.new.self c.in-SuperNew.is c.apply_super_new.ensures
+
+pub returns-in-Native : goal.returns-in-Native
+returns-in-Native c = native_applied c.run_native.result c.args.purpose c.in-Native.which c.args.done c.args.self.now c.run_native.new.self c.in-Native.is c.run_native.ensures

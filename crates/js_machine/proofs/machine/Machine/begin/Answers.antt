@@ -1,4 +1,5 @@
 use Rattle.js_code.specs.declared.node.Node.TheVariants as node
+use Rattle.js_machine.specs.Views.{native_on, next_part_of}
 use Rattle.js_machine.proofs.Leads.{begun_ok}
 use Rattle.js_machine.proofs.machine.Machine.begin.Goals as goal
 
@@ -48,3 +49,16 @@ returns-in-Return c = begun_ok c.begin_return.result c.args.at node.Return c.arg
 pub returns-in-CallSuper : goal.returns-in-CallSuper
 returns-in-CallSuper c =
     begun_ok c.wait-in-CallSuper.result c.args.at (node.CallSuper c.in-CallSuper.key c.in-CallSuper.arguments) c.args.self.now c.wait-in-CallSuper.new.self c.in-CallSuper.ensures c.wait-in-CallSuper.ensures.leads
+
+pub returns-in-Define : goal.returns-in-Define
+unfolding next_part_of
+returns-in-Define c =
+    begun_ok c.wait-in-Define.result c.args.at (node.Define c.in-Define.object c.in-Define.start c.in-Define.count) c.args.self.now c.wait-in-Define.new.self c.in-Define.ensures c.wait-in-Define.ensures.leads
+
+pub returns-in-Class : goal.returns-in-Class
+returns-in-Class c = begun_ok c.begin_class.result c.args.at (node.Class c.in-Class.class) c.args.self.now c.begin_class.new.self c.in-Class.ensures c.begin_class.ensures
+
+pub returns-in-Native : goal.returns-in-Native
+unfolding native_on
+returns-in-Native c =
+    begun_ok c.next_argument.result c.args.at (node.Native c.in-Native.native c.in-Native.start c.in-Native.count) c.args.self.now c.next_argument.new.self c.in-Native.ensures c.next_argument.ensures

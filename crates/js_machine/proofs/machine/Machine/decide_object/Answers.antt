@@ -1,5 +1,16 @@
 use Rattle.js_machine.proofs.Ways_laws.{as_object}
+use Rattle.js_machine.proofs.Required.{as_mapped, as_module}
+use Rattle.js_machine.proofs.Outside_laws.{as_host}
 use Rattle.js_machine.proofs.machine.Machine.decide_object.Goals as goal
 
 pub returns-in-Object : goal.returns-in-Object
 returns-in-Object c = as_object c.decide_as_object.result c.args.me c.way.result c.args.self.now c.decide_as_object.new.self c.way.ensures c.in-Object.is c.decide_as_object.ensures
+
+pub returns-in-Module : goal.returns-in-Module
+returns-in-Module c = as_module c.call_require.result c.args.me c.way.result c.args.self.now c.call_require.new.self c.way.ensures c.in-Module.is c.call_require.ensures
+
+pub returns-in-Mapped : goal.returns-in-Mapped
+returns-in-Mapped c = as_mapped c.call_mapped.result c.args.me c.way.result c.args.self.now c.call_mapped.new.self c.way.ensures c.in-Mapped.is c.call_mapped.ensures
+
+pub returns-in-Host : goal.returns-in-Host
+returns-in-Host c = as_host c.call_host.result c.args.me c.way.result c.args.self.now c.call_host.new.self c.way.ensures c.in-Host.is c.call_host.ensures

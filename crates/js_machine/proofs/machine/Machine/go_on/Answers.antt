@@ -1,4 +1,5 @@
 use Rattle.js_machine.specs.declared.frame.Frame.TheVariants as frame
+use Rattle.js_machine.specs.Views.{next_part_of}
 use Rattle.js_machine.proofs.Leads.{arm}
 use Rattle.js_machine.proofs.machine.Machine.go_on.Goals as goal
 
@@ -100,3 +101,23 @@ returns-in-MethodGot c = arm c.method_got.result c.args.frame (frame.MethodGot c
 
 pub returns-in-MethodCalled : goal.returns-in-MethodCalled
 returns-in-MethodCalled c = arm c.method_gave.result c.args.frame (frame.MethodCalled c.in-MethodCalled.last c.in-MethodCalled.goal) c.args.value c.args.self.now c.method_gave.new.self c.in-MethodCalled.is c.method_gave.ensures
+
+pub returns-in-Define : goal.returns-in-Define
+unfolding next_part_of
+returns-in-Define c = arm c.define_comes.result c.args.frame (frame.Define c.in-Define.start c.in-Define.count) c.args.value c.args.self.now c.define_comes.new.self c.in-Define.is c.define_comes.ensures
+
+pub returns-in-Part : goal.returns-in-Part
+returns-in-Part c = arm c.part_operand_comes.result c.args.frame (frame.Part c.in-Part.enumerable c.in-Part.at c.in-Part.left) c.args.value c.args.self.now c.part_operand_comes.new.self c.in-Part.is c.part_operand_comes.ensures
+
+pub returns-in-PartValue : goal.returns-in-PartValue
+returns-in-PartValue c = arm c.part_value_comes.result c.args.frame (frame.PartValue c.in-PartValue.enumerable c.in-PartValue.at c.in-PartValue.left) c.args.value c.args.self.now c.part_value_comes.new.self c.in-PartValue.is c.part_value_comes.ensures
+
+pub returns-in-Parts : goal.returns-in-Parts
+returns-in-Parts c = arm c.parts_follow.result c.args.frame (frame.Parts c.in-Parts.enumerable c.in-Parts.start c.in-Parts.count) c.args.value c.args.self.now c.parts_follow.new.self c.in-Parts.is c.parts_follow.ensures
+
+pub returns-in-ClassParent : goal.returns-in-ClassParent
+unfolding next_part_of
+returns-in-ClassParent c = arm c.parent_comes.result c.args.frame (frame.ClassParent c.in-ClassParent.class) c.args.value c.args.self.now c.parent_comes.new.self c.in-ClassParent.is c.parent_comes.ensures
+
+pub returns-in-ClassPrototype : goal.returns-in-ClassPrototype
+returns-in-ClassPrototype c = arm c.class_prototype_comes.result c.args.frame (frame.ClassPrototype c.in-ClassPrototype.class) c.args.value c.args.self.now c.class_prototype_comes.new.self c.in-ClassPrototype.is c.class_prototype_comes.ensures

@@ -11,3 +11,6 @@ returns-in-SetGlobal c = arm_replied c.wait.result c.args.frame (frame.SetGlobal
 
 pub returns-in-Told : goal.returns-in-Told
 returns-in-Told c = arm_replied c.give.result c.args.frame frame.Told (reply.Flag c.args.flag) c.args.self.now c.give.new.self c.in-Told.is c.give.ensures.leads
+
+pub returns-in-HasDeleted : goal.returns-in-HasDeleted
+returns-in-HasDeleted c = arm_replied c.delete_done.result c.args.frame frame.HasDeleted (reply.Flag c.args.flag) c.args.self.now c.delete_done.new.self c.in-HasDeleted.is c.delete_done.ensures

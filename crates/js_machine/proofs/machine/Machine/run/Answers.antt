@@ -1,7 +1,11 @@
 use Rattle.std.proofs.Common.{arith}
-use Rattle.js_machine.proofs.Charged.{runs_charged}
+use Rattle.js_machine.proofs.Charged.{runs_charged, runs_free}
 use Rattle.js_machine.proofs.machine.Machine.run.Goals as goal
 
 pub returns : goal.returns
 returns c =
     runs_charged c.run_for-2.result c.args.free c.args.meter _ c.args.limit c.args.steps c.args.mode c.args.self.now c.run_for-2.new.self c.if-free.false (omega (arith, c.saturating_sub.ensures)) c.run_for-2.ensures
+
+pub returns-then-free : goal.returns-then-free
+returns-then-free c =
+    runs_free c.args.free c.args.meter c.args.limit c.args.steps c.args.mode c.args.self.now c.run_for.new.self c.in_ok-stop.stop c.with_steps.result c.if-free.true c.in_ok-stop.ensures c.with_steps.ensures

@@ -1,11 +1,11 @@
 use Rattle.std.proofs.Common.{◌∙◌, sym}
-use Rattle.js_world.proofs.Crossed.{ends_with, gives_so}
+use Rattle.js_world.proofs.Crossed.{ends_with, gives_back}
 use Rattle.js_world.proofs.world.World.hand_back.Goals as goal
 
-pub returns-in-Some : goal.returns-in-Some
-returns-in-Some c =
+pub returns-in_ok-mode-in-Some : goal.returns-in_ok-mode-in-Some
+returns-in_ok-mode-in-Some c =
     let given = c.in_ok-reply.ensures in
-    gives_so c.resume.result c.in_ok-reply.reply c.args.mode c.args.steps c.in-Some.waiting c.args.self.now c.give_away.new.self c.take_waiting.new.self c.resume.new.self given.given given.reply given.there (sym c.take_waiting.ensures.body ∙ c.in-Some.is) c.take_waiting.ensures.rest c.resume.ensures
+    gives_back c.in_ok-reply.reply c.args.mode c.args.steps c.in-Some.waiting c.args.self.now c.give_away.new.self c.take_waiting.new.self c.resume.new.self c.in_ok-mode-in-Some.mode given.given given.reply given.there (sym c.take_waiting.ensures.body ∙ c.in-Some.is) c.take_waiting.ensures.rest c.in_ok-mode-in-Some.ensures
 
 pub returns-in-None : goal.returns-in-None
 returns-in-None c =

@@ -1,0 +1,38 @@
+// The first import of a run.
+
+ghost use Rattle.std.specs.Prelude.{◌≡◌, [], IfOk};
+ghost use Rattle.js_run.specs.Journal.{root_link};
+ghost use Rattle.js_world.specs.First.{IsBegun};
+
+use crate::world::World;
+use js_machine::asked::Imported;
+use js_machine::frame::Mode;
+use js_machine::requests::text_of;
+use lava_base::memory::OutOfMemory;
+use std::alloc::Global;
+
+/// The link of the host to the application's own package.
+static ROOT_LINK: [u16; 6] = [36, 114, 111, 111, 116, 36];
+
+/// The party of the application's own package.
+const ROOT_PARTY: u32 = 1;
+
+/// The import of the main module over the host's link.
+fn first_import(alloc: Global) -> Result<Imported, OutOfMemory>
+    ensures { IfOk result (λ x. x ≡ record { link = root_link; path = [] }) }
+{
+    let link = text_of(alloc, &ROOT_LINK)?;
+    let path = text_of(alloc, &[])?;
+    Ok(Imported { link, path })
+}
+
+impl World {
+    /// The host imports the application's own package, whose party runs then.
+    pub fn begin(&mut self, alloc: Global) -> Result<Mode, OutOfMemory>
+        requires { self.now.machine.frames ≡ [] }
+        ensures { IfOk result (IsBegun self.old self.new) }
+    {
+        let imported = first_import(alloc)?;
+        self.hand_import(ROOT_PARTY, &imported)
+    }
+}

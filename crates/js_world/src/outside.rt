@@ -1,0 +1,35 @@
+// Answers of the outside.
+
+ghost use Rattle.std.specs.Prelude.{◌≡◌, ◌<◌, length, IfOk, OnOk};
+ghost use Rattle.js_world.specs.Asked_outside.{Answers, GoesOnAfter};
+
+use crate::ending::Turn;
+use crate::world::World;
+use js_machine::outside::HostAnswer;
+use js_machine::stop::{Pause, Stop};
+use lava_base::memory::OutOfMemory;
+
+impl World {
+    /// The party in the machine goes on with an answer of the outside, until it stops. Want of
+    /// memory is answered where there is no such party.
+    fn go_on_after(&mut self, pause: Pause, answer: HostAnswer) -> Result<Stop, OutOfMemory>
+        ensures goes { IfOk result (GoesOnAfter pause answer self.old.machine self.new.machine) }
+        ensures there { OnOk result (self.old.machine.me < length self.old.others) }
+        ensures rest { OnOk result (self.new ≡ record self.old { machine = self.new.machine }) }
+    {
+        if self.machine.party().0 as usize >= self.others.len() {
+            return Err(OutOfMemory);
+        }
+        let mode = self.machine.answer_outside(answer)?;
+        self.machine.run_on(None, pause, mode)
+    }
+
+    /// The outside answers the newest call of the party in the machine, at which a crossing paused,
+    /// and the machine goes on to the end of the crossing.
+    pub fn answer(&mut self, pause: Pause, answer: HostAnswer) -> Result<Turn, OutOfMemory>
+        ensures { IfOk result (Answers pause answer self.old self.new) }
+    {
+        let stop = self.go_on_after(pause, answer)?;
+        self.follow(stop)
+    }
+}

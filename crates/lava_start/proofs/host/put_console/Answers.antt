@@ -1,0 +1,25 @@
+use Rattle.std.proofs.Common.{Some, codes}
+use Rattle.js_store.specs.Frozen.{common_ref}
+use Rattle.js_store.specs.Objects.{fresh, not_extensible, plain_marks}
+use Rattle.js_store.specs.declared.slot.Slot.TheVariants as slot
+use Rattle.js_run.specs.declared.intrinsics.TheConstants.{OBJECT_PROTOTYPE}
+use Rattle.lava_start.specs.Making.{Thing, with_host_member}
+use Rattle.lava_start.proofs.Made_laws.{Last, changed}
+use Rattle.lava_start.proofs.host.put_console.Goals as goal
+
+pub returns-clause-objects : goal.returns-clause-objects
+returns-clause-objects c =
+    let os = c.args.objects.now.objects in
+    let o = fresh (Some (common_ref OBJECT_PROTOTYPE)) plain_marks slot.Plain in
+    let at = c.in_ok-at.at.0 in
+    let l0 : Last os o at c.put_object.new.objects.objects = record { is = c.in_ok-at.ensures.made; at = c.in_ok-at.ensures.id } in
+    let o1 : Thing = with_host_member (codes "log") 1 o in
+    let l1 = changed os o at c.put_object.new.objects.objects c.put_member.new.objects.objects (with_host_member (codes "log") 1) l0 c.in_ok-put_member.ensures.objects in
+    let o2 : Thing = with_host_member (codes "info") 2 o1 in
+    let l2 = changed os o1 at c.put_member.new.objects.objects c.put_member-2.new.objects.objects (with_host_member (codes "info") 2) l1 c.in_ok-put_member-2.ensures.objects in
+    let o3 : Thing = with_host_member (codes "warn") 3 o2 in
+    let l3 = changed os o2 at c.put_member-2.new.objects.objects c.put_member-3.new.objects.objects (with_host_member (codes "warn") 3) l2 c.in_ok-put_member-3.ensures.objects in
+    let o4 : Thing = with_host_member (codes "error") 4 o3 in
+    let l4 = changed os o3 at c.put_member-3.new.objects.objects c.put_member-4.new.objects.objects (with_host_member (codes "error") 4) l3 c.in_ok-put_member-4.ensures.objects in
+    let z = changed os o4 at c.put_member-4.new.objects.objects c.prevent.new.self.objects not_extensible l4 c.prevent.ensures.objects in
+    z.is

@@ -1,0 +1,20 @@
+// How all parties of a run stand before anything has happened: the host, and the application's
+// own package, which is given the whole host.
+//
+// - `words` makes texts, and `objects` objects with properties.
+// - `host` has the objects of the host, `global` the global of the application's own package.
+// - `marks` has what all parties know of the host's objects.
+// - `modules` puts templates and modules into a code, and `packages` has the things of each party.
+// - `first` puts all together: the machine of all parties.
+// - `laws` states that the application of a run is well made.
+#![tactic(auto)]
+
+pub mod first;
+pub mod global;
+pub mod host;
+pub mod laws;
+pub mod marks;
+pub mod modules;
+mod objects;
+mod packages;
+mod words;
