@@ -1,0 +1,29 @@
+-- A run on the machine of all parties.
+use Rattle.std.specs.Prelude.{◌≡◌, ℕ, suc, Bool, List, Option}
+use Rattle.js_run.specs.Heap.{begins, heap}
+use Rattle.js_run.specs.Journal.{Application}
+use Rattle.js_world.specs.Crossings.{Rests}
+use Rattle.js_world.specs.Worlds.{After, WorldView}
+use Rattle.js_world.specs.declared.ending.Turn.{Turn}
+use Rattle.js_world.specs.declared.ending.Turn.TheVariants as turn
+use Rattle.lava_host.specs.Hosts.{HostWorld}
+use Rattle.lava_host.specs.declared.fault.Which.{Which}
+use Rattle.lava_runner.specs.declared.run.Ran.{Ran}
+use Rattle.lava_runner.specs.Talks.{Agrees, AreTalks, Talk, newest_failed}
+
+-- after so much was asked and answered the machine is on its way from one crossing to the next, in each application that begins as the first world rests and whose outside answers so
+pub record IsUnderway (first : WorldView) (talks : List Talk) (now : WorldView) (t : Turn) : Type 0 where
+  pub crossings : ℕ
+  pub after : (app : Application) → Rests app (begins app) first → Agrees app talks → After app (heap app first.budget crossings) (heap app first.budget (suc crossings)) now t
+  pub budget : now.budget ≡ first.budget
+
+-- the same, with what was done to the outside meanwhile, and the object of it that has failed last
+pub record HasComeTo (emit : Bool) (dir : List ℕ) (first : WorldView) (before : HostWorld) (now : WorldView) (t : Turn) (failed : Option Which) (after : HostWorld) : Type 0 where
+  pub talks : List Talk
+  pub outside : AreTalks emit dir talks before after
+  pub underway : IsUnderway first talks now t
+  pub newest : failed ≡ newest_failed talks
+
+-- the run is over: the outside is as the host's answers have left it, and in each application that begins as the first world rests and whose outside answers so the machine of all parties ends so, with these steps
+pub record HasRun (emit : Bool) (dir : List ℕ) (first : WorldView) (before : HostWorld) (now : WorldView) (r : Ran) (after : HostWorld) : Type 0 where
+  pub come : HasComeTo emit dir first before now (turn.Over r.ending) r.failed after
