@@ -27,9 +27,9 @@ use Rattle.js_machine.specs.declared.frame.Mode.{Mode}
 use Rattle.js_machine.specs.declared.stop.Pause.{Pause}
 use Rattle.js_machine.specs.declared.stop.Stop.{Stop}
 use Rattle.js_machine.specs.declared.stop.Stop.TheVariants as stop
-use Rattle.js_world.specs.Crossings.{Follows, GoesOn, HandsOver, HasGiven, IsResumed, IsSent, IsTaken, RunsHere, newest}
+use Rattle.js_world.specs.Crossings.{Follows, GoesOn, HandsOver, HasGiven, IsResumed, IsSent, IsTaken, Rests, RunsHere, newest}
 use Rattle.js_world.specs.Shows.{makes_none, shows_ask, shows_ref, with_table}
-use Rattle.js_world.specs.Worlds.{Counts, Crosses, HasOwn, HasStopped, IsOver, Suits, WorldView, aside, charged, ending_of, import_away, leads_to, party_with, sent, steps_of, waits_of}
+use Rattle.js_world.specs.Worlds.{Counts, Crosses, HasOwn, HasAnswered, HasStopped, IsOver, IsTurnOf, KeepsAnswer, Suits, WorldView, aside, charged, ending_of, import_away, leads_to, party_with, sent, steps_of, waits_of}
 use Rattle.js_world.specs.declared.ending.Ending.{Ending}
 use Rattle.js_world.specs.declared.ending.Ending.TheVariants as ending
 use Rattle.js_world.specs.declared.ending.Turn.{Turn}
@@ -147,8 +147,9 @@ came app w after v r m n bs h e d =
 
 -- the end of a run
 over_with : (app : Application) (w after : heap.World) (v new : WorldView) (p n : ℕ) (e : Ending) → Counts app w v → p < length v.steps → new.steps ≡ set v.steps p n → new.spent ≡ v.spent + (n - steps_of v p)
-    → ((q : ℕ) → after.steps q ≡ put p n w.steps q) → after.spent ≡ w.spent + (n - w.steps p) → after.control ≡ Over_with (ending_of e) → IsOver app after new e
-over_with app w after v new p n e c l s t a b d = record {
+    → ((q : ℕ) → after.steps q ≡ put p n w.steps q) → after.spent ≡ w.spent + (n - w.steps p) → after.control ≡ Over_with (ending_of e) → KeepsAnswer app after new e → IsOver app after new e
+over_with app w after v new p n e c l s t a b d k = record {
+  answer = k;
   steps = λ q g. a q ∙ left_steps app w v p n c l q (subst (λ xs. q < length xs) s g) ∙ ap (λ xs. get_or xs q 0) (sym s);
   spent = b ∙ left_spent app w v p n c l ∙ sym t;
   control = d;
@@ -158,9 +159,38 @@ nothing : (bs : List Waiting) → newest bs ≡ None → bs ≡ []
 nothing [] e = refl
 nothing (b ∷ bs) e = absurd (cc e)
 
-pub ends_with : (r : Reply Ref MadeSymbol) (m : Mode) (n : ℕ) (old mid new : WorldView) (e : Ending) → HasGiven r n old mid → r ≡ reply_of (completion_of old.machine m) → old.machine.me < length old.steps → newest mid.stack ≡ None
-    → new ≡ record mid { stack = drop 1 mid.stack } → ending_of e ≡ end_of r → Follows (stop.Gave m n) old new (turn.Over e)
-ends_with r m n old mid new e g d there none is same =
+keeps : (app : Application) (w : heap.World) (v : WorldView) (e : Ending) → HasAnswered app w v → KeepsAnswer app w v e
+keeps app w v ending.Done x = x
+keeps app w v ending.Uncaught x = x
+keeps app w v (ending.Budget p) x = tt
+keeps app w v (ending.Fault p h) x = tt
+
+-- the answer to the host's import is kept
+answered : (app : Application) (w after : heap.World) (old mid new : WorldView) (r : Reply Ref MadeSymbol) (m : Mode) (n : ℕ) → HasStopped app w old (stop.Gave m n) after → HasGiven r n old mid
+    → r ≡ reply_of (completion_of old.machine m) → old.machine.me < length old.steps → old.stack ≡ [] → new ≡ record mid { stack = drop 1 mid.stack; last = Some r } → HasAnswered app after new
+answered app w after old mid new r m n h g d there empty is =
+    let p = old.machine.me in
+    let own = party_here app old in
+    let x = reply_crossing app old r n 0 in
+    let js = x ∷ w.journal in
+    let world = written p own n w.stack js (Over_with (end_of r)) w in
+    let left : WorldView = record (charged p n (record old { machine = with_table (known_with app old (reply_identities r)) (record old.machine { values = g.values; answer = g.answer }) })) { stack = old.stack } in
+    let none : drop 1 mid.stack ≡ old.stack = ap (λ (v : WorldView). drop 1 v.stack) g.given ∙ ap (λ l. drop 1 l) empty ∙ sym empty in
+    let still : new ≡ record left { last = Some r } = is ∙ ap (λ l. record mid { stack = l; last = Some r }) none ∙ ap (λ (v : WorldView). record v { stack = old.stack; last = Some r }) (reply_left app r n old mid g) in
+    let rests : Rests app world left = rests_left app w old old.machine.frames g.values old.machine.waits old.machine.asked g.answer (known_with app old (reply_identities r)) old.stack n own w.stack js world.control h.suits h.others h.counts there refl
+    h.counts.stack (ap (with_marks_of x.sent.marks) h.counts.known) in
+    let s = rests.suits in
+    let so : HasAnswered app world (record left { last = Some r }) = record {
+      suits = record { reads = s.reads; objects = s.objects; templates = s.templates; me = s.me; links = s.links; meters = s.meters; leads = s.leads };
+      own = rests.own;
+      counts = record { steps = rests.counts.steps; spent = rests.counts.spent; stack = rests.counts.stack; known = rests.counts.known };
+      last = refl;
+    } in
+    subst (λ y. HasAnswered app y new) (sym (came app w after old r m n [] h d empty)) (subst (λ v. HasAnswered app world v) (sym still) so)
+
+ends_so : (r : Reply Ref MadeSymbol) (m : Mode) (n : ℕ) (old mid new : WorldView) (e : Ending) → HasGiven r n old mid → r ≡ reply_of (completion_of old.machine m) → old.machine.me < length old.steps → newest mid.stack ≡ None
+    → new ≡ record mid { stack = drop 1 mid.stack; last = Some r } → ending_of e ≡ end_of r → Follows (stop.Gave m n) old new (turn.Over e)
+ends_so r m n old mid new e g d there none is same =
     let p = old.machine.me in
     let empty : old.stack ≡ [] = ap (λ (v : WorldView). v.stack) (sym g.given) ∙ nothing mid.stack none in
     record {
@@ -168,9 +198,15 @@ ends_with r m n old mid new e g d there none is same =
           (let c : after ≡ with_reply app w old r n [] = came app w after old r m n [] h d empty in
           over_with app w after old new p n e h.counts there
           (ap (λ (v : WorldView). v.steps) is ∙ ap (λ (v : WorldView). v.steps) g.given) (ap (λ (v : WorldView). v.spent) is ∙ ap (λ (v : WorldView). v.spent) g.given)
-          (λ q. ap (λ (y : heap.World). y.steps q) c) (ap (λ (y : heap.World). y.spent) c) (ap (λ (y : heap.World). y.control) c ∙ ap Over_with (sym same)));
+          (λ q. ap (λ (y : heap.World). y.steps q) c) (ap (λ (y : heap.World). y.spent) c) (ap (λ (y : heap.World). y.control) c ∙ ap Over_with (sym same))
+          (keeps app after new e (answered app w after old mid new r m n h g d there empty is)));
       budget = ap (λ (v : WorldView). v.budget) is ∙ ap (λ (v : WorldView). v.budget) g.given;
     }
+
+pub ends_with : (r : Reply Ref MadeSymbol) (m : Mode) (n : ℕ) (old mid low new : WorldView) (t : Turn) → HasGiven r n old mid → r ≡ reply_of (completion_of old.machine m) → old.machine.me < length old.steps → newest mid.stack ≡ None
+    → low ≡ record mid { stack = drop 1 mid.stack } → IsTurnOf t (end_of r) → new ≡ record low { last = Some r } → Follows (stop.Gave m n) old new t
+ends_with r m n old mid low new t g d there none is x kept =
+    subst (Follows (stop.Gave m n) old new) (sym x.is) (ends_so r m n old mid new x.ending g d there none (kept ∙ ap (λ (v : WorldView). record v { last = Some r }) is) x.same)
 
 first_off : (bs : List Waiting) (b : Waiting) → newest bs ≡ Some b → bs ≡ b ∷ drop 1 bs
 first_off [] b e = cc
@@ -210,14 +246,14 @@ gives_back r m n b old mid low new t g d there some is k = record {
 pub ends_short : (n : ℕ) (old new : WorldView) → old.machine.me < length old.steps → new ≡ charged old.machine.me n old → Follows (stop.Short n) old new (turn.Over (ending.Budget old.machine.me))
 ends_short n old new there is = record {
   follows = λ app w after h. over_with app w after old new old.machine.me n (ending.Budget old.machine.me) h.counts there (ap (λ (v : WorldView). v.steps) is) (ap (λ (v : WorldView). v.spent) is)
-      (λ q. ap (λ (y : heap.World). y.steps q) h.comes) (ap (λ (y : heap.World). y.spent) h.comes) (ap (λ (y : heap.World). y.control) h.comes);
+      (λ q. ap (λ (y : heap.World). y.steps q) h.comes) (ap (λ (y : heap.World). y.spent) h.comes) (ap (λ (y : heap.World). y.control) h.comes) tt;
   budget = ap (λ (v : WorldView). v.budget) is;
 }
 
 pub ends_stopped : (n : ℕ) (k : Halt) (old new : WorldView) → old.machine.me < length old.steps → new ≡ charged old.machine.me n old → Follows (stop.Stopped k n) old new (turn.Over (ending.Fault old.machine.me k))
 ends_stopped n k old new there is = record {
   follows = λ app w after h. over_with app w after old new old.machine.me n (ending.Fault old.machine.me k) h.counts there (ap (λ (v : WorldView). v.steps) is) (ap (λ (v : WorldView). v.spent) is)
-      (λ q. ap (λ (y : heap.World). y.steps q) h.comes) (ap (λ (y : heap.World). y.spent) h.comes) (ap (λ (y : heap.World). y.control) h.comes);
+      (λ q. ap (λ (y : heap.World). y.steps q) h.comes) (ap (λ (y : heap.World). y.spent) h.comes) (ap (λ (y : heap.World). y.control) h.comes) tt;
   budget = ap (λ (v : WorldView). v.budget) is;
 }
 

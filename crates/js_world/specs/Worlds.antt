@@ -3,12 +3,14 @@ use Rattle.std.specs.Prelude.{◌≡◌, ◌<◌, ◌+◌, ◌-◌, ℕ, List, [
 use Rattle.lava_base.specs.declared.ids.MadeSymbol.{MadeSymbol}
 use Rattle.lava_base.specs.declared.ids.Ref.{Ref}
 use Rattle.js_text.specs.Naming.{naming_of}
+use Rattle.js_desc.specs.declared.reply.Reply.{Reply}
 use Rattle.js_conversions.specs.Primitives.{ReadsNumbers}
 use Rattle.js_native.specs.TextNatives.{FindsFirst}
 use Rattle.js_code.specs.Tables.{Tables}
 use Rattle.js_run.specs.Acts.{Next}
 use Rattle.js_run.specs.Heap as heap
 use Rattle.js_run.specs.Heap.{Control, Over_with, Runs, cross, has_run}
+use Rattle.js_run.specs.Identities.{Message, Requests, Replies}
 use Rattle.js_run.specs.Journal as journal
 use Rattle.js_run.specs.Journal.{Application, Crossing, env_of, foreign_of, table_of}
 use Rattle.js_run.specs.Parties.{Party}
@@ -31,7 +33,7 @@ use Rattle.js_world.specs.declared.ending.Turn.TheVariants as turn
 use Rattle.js_world.specs.declared.leads.Lead.{Lead}
 use Rattle.js_world.specs.declared.waiting.Waiting.{Waiting}
 
--- the party that runs has its own things in the machine, and each other one has them in its place of the list. Where the links of each party lead stands in a list, too. What waits stands with the newest first
+-- the party that runs has its own things in the machine, and each other one has them in its place of the list. Where the links of each party lead stands in a list, too. What waits stands with the newest first. The answer to the host's import is kept, once there is one
 pub record WorldView : Type 0 where
   pub machine : View
   pub others : List Own
@@ -40,6 +42,7 @@ pub record WorldView : Type 0 where
   pub spent : ℕ
   pub budget : ℕ
   pub stack : List Waiting
+  pub last : Option (Reply Ref MadeSymbol)
 
 -- THE THINGS OF EACH PARTY
 
@@ -156,8 +159,38 @@ ending_of ending.Uncaught = journal.Uncaught
 ending_of (ending.Budget p) = journal.Budget p
 ending_of (ending.Fault p h) = journal.Fault p (halt_of h)
 
+-- a turn that is the end of a run
+pub record IsTurnOf (t : Turn) (e : journal.Ending) : Type 0 where
+  pub ending : Ending
+  pub is : t ≡ turn.Over ending
+  pub same : ending_of ending ≡ e
+
+-- what the newest crossing replies, if it is a reply
+abbrev pub reply_in : Message Ref MadeSymbol → Option (Reply Ref MadeSymbol)
+reply_in (Requests o) = None
+reply_in (Replies r) = Some r
+
+abbrev pub last_reply : List Crossing → Option (Reply Ref MadeSymbol)
+last_reply [] = None
+last_reply (x ∷ older) = reply_in x.sent.body
+
+-- the host's import is answered: no party runs, each has its own things as the world has them, and the answer that is kept is that of the newest crossing
+pub record HasAnswered (app : Application) (w : heap.World) (v : WorldView) : Type 0 where
+  pub suits : Suits app v
+  pub own : (q : ℕ) → HasOwn app w v q
+  pub counts : Counts app w v
+  pub last : v.last ≡ last_reply w.journal
+
+-- where a run ends by the answer to the host's import, that is kept
+abbrev pub KeepsAnswer : Application → heap.World → WorldView → Ending → Type 0
+KeepsAnswer app w v ending.Done = HasAnswered app w v
+KeepsAnswer app w v ending.Uncaught = HasAnswered app w v
+KeepsAnswer app w v (ending.Budget p) = Unit {0}
+KeepsAnswer app w v (ending.Fault p h) = Unit {0}
+
 -- a run is over
 pub record IsOver (app : Application) (w : heap.World) (v : WorldView) (e : Ending) : Type 0 where
+  pub answer : KeepsAnswer app w v e
   pub steps : (q : ℕ) → q < length v.steps → w.steps q ≡ steps_of v q
   pub spent : w.spent ≡ v.spent
   pub control : w.control ≡ Over_with (ending_of e)

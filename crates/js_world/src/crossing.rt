@@ -1,6 +1,6 @@
 // From one crossing to the next.
 
-ghost use Rattle.std.specs.Prelude.{◌≡◌, ◌<◌, [], drop, length, IfOk, OnOk, true};
+ghost use Rattle.std.specs.Prelude.{◌≡◌, ◌<◌, [], drop, length, IfOk, OnOk, Some, true};
 ghost use Rattle.js_run.specs.Completions.{reply_of};
 ghost use Rattle.js_run.specs.Journal.{end_of, is_host, owner_of};
 ghost use Rattle.js_run.specs.Runs.{Asks};
@@ -9,7 +9,7 @@ ghost use Rattle.js_machine.specs.Views.{completion_of};
 ghost use Rattle.js_machine.specs.declared.stop.Stop.TheVariants as stop;
 ghost use Rattle.js_world.specs.Crossings.{Follows, HasGiven, IsResumed, IsSent, IsTaken, Replies, RunsHere, newest};
 ghost use Rattle.js_world.specs.Shows.{makes_none};
-ghost use Rattle.js_world.specs.Worlds.{Crosses, ending_of, sent};
+ghost use Rattle.js_world.specs.Worlds.{Crosses, IsTurnOf, ending_of, sent};
 
 use crate::ending::{Ending, Turn};
 use crate::shows::{show_ask, show_reply};
@@ -157,6 +157,16 @@ impl World {
         Ok(Turn::Runs(mode))
     }
 
+    /// The host's import is answered, and the answer is kept.
+    fn end_with(&mut self, reply: Reply) -> Turn
+        ensures over { IsTurnOf result (end_of reply) }
+        ensures kept { self.new ≡ record self.old { last = Some reply } }
+    {
+        let ending = end_of(&reply);
+        self.last = Some(reply);
+        Turn::Over(ending)
+    }
+
     /// A body is over, and the newest one that waits goes on with its reply. Where none waits, the
     /// run is over.
     fn hand_back(&mut self, mode: Mode, steps: u64) -> Result<Turn, OutOfMemory>
@@ -168,7 +178,7 @@ impl World {
                 let mode = self.resume(waiting, reply)?;
                 Ok(Turn::Runs(mode))
             }
-            None => Ok(Turn::Over(end_of(&reply))),
+            None => Ok(self.end_with(reply)),
         }
     }
 

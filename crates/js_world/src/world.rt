@@ -1,11 +1,12 @@
 // The machine of all parties, and whose things stand in it.
 
-ghost use Rattle.std.specs.Prelude.{◌≡◌, ◌<◌, length, replicate, IfOk, OnOk};
+ghost use Rattle.std.specs.Prelude.{◌≡◌, ◌<◌, length, replicate, option_map, IfOk, OnOk};
 ghost use Rattle.js_world.specs.First.{RestsFirst, as_new};
 ghost use Rattle.js_world.specs.Worlds.{aside, charged, exchanged, turned};
 
 use crate::leads::Lead;
 use crate::waiting::Waiting;
+use js_desc::reply::Reply;
 use js_machine::machine::Machine;
 use js_machine::own::Own;
 use lava_base::list::List;
@@ -28,6 +29,8 @@ pub struct World {
     pub(crate) budget: u64,
     /// The bodies that wait, the newest last.
     pub(crate) stack: Vec<Waiting>,
+    /// What the host's import was answered with, once it is.
+    pub(crate) last: Option<Reply>,
 }
 
 impl Model for World {
@@ -44,6 +47,7 @@ impl Model for World {
       spent = w.spent;
       budget = w.budget;
       stack = reverse w.stack.items;
+      last = w.last;
     } };
 }
 
@@ -87,6 +91,7 @@ impl World {
             spent: 0,
             budget,
             stack: Vec::new(alloc),
+            last: None,
         })
     }
 
@@ -95,6 +100,13 @@ impl World {
         ensures { result.now ≡ self.now.steps }
     {
         self.steps.as_slice()
+    }
+
+    /// What the host's import was answered with; nothing before it is.
+    pub fn last(&self) -> Option<&Reply>
+        ensures { option_map (λ r. r.now) result ≡ self.now.last }
+    {
+        self.last.as_ref()
     }
 
     /// The machine; the call that the outside is asked by is its newest one.

@@ -4,13 +4,12 @@
 ghost use Rattle.std.specs.Prelude.{◌≡◌, IfOk, OnErr};
 ghost use Rattle.lava.specs.Ends.{IsAnswer};
 
-use lava_cli::command::refuse;
+use lava_cli::command::{lava, refuse};
 use lava_cli::real_clock::RealClock;
 use lava_cli::real_folder::RealFolder;
 use lava_cli::real_sink::RealSink;
 use lava_cli::real_source::RealSource;
 use lava_streams::sink::Sink;
-use lava_tree::tree::command;
 use std::io::BufReader;
 use std::process::ExitCode;
 use std::rt::{Clock, Env, Files};
@@ -43,7 +42,7 @@ fn run<R: Files + Env + Input + Clock + AllocGlobal, O: Sink, E: Sink>(
     let mut input = RealSource::new(alloc, BufReader::new(alloc, rt.reader())?);
     let mut folder = RealFolder::new(rt);
     let mut clock = RealClock::new(rt);
-    let status = command(
+    let status = lava(
         alloc,
         words.as_slice(),
         &mut folder,

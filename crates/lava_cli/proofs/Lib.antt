@@ -1,36 +1,3 @@
-pub mod Agree
-pub mod Budgets
-pub mod Chain
-pub mod Compose
-pub mod Corollaries
-pub mod Declaring
-pub mod Evaluates
-pub mod Executes
-pub mod Goes
-pub mod Growth
-pub mod Hoisting
-pub mod In_order
-pub mod Known
-pub mod Lawful
-pub mod Lines_text
-pub mod Named
-pub mod OneProgram
-pub mod Options
-pub mod ParseComplete
-pub mod ParseSound
-pub mod Printing
-pub mod Rename
-pub mod Ruled
-pub mod Sample
-pub mod Sound
-pub mod Sources
-pub mod Spelled
-pub mod States
-pub mod Steps
-pub mod Swap
-pub mod Two_runs
-pub mod View
-pub mod Ways
-pub mod Whole
-pub mod LineLemmas
-pub mod PieceLemmas
+mod Comes
+mod LineLemmas
+mod PieceLemmas

@@ -1,29 +1,21 @@
-// The program: words, statuses, what a command does, and the real objects of the outside.
+//! The program `lava`: words, what a command does, its answer, and the real objects of the outside.
+//!
+//! - `command` is the call that the program makes: `lava`.
+//! - `words` reads the words, `loading` loads an application, `run_command` runs it.
+//! - `outcome` has how a run ends, `run_report` tells it.
+//! - `real_folder`, `real_source`, `real_sink` and `real_clock` are the system's, and `faults` counts their faults.
+//!
+//! Definitions are in specs/: `Words`, `Loads`, `RunAnswers` and `Adapters`.
 #![tactic(auto)]
 
-mod binding;
-mod bindings;
 pub mod command;
-mod effects;
-mod evaluation;
-mod expressions;
 mod faults;
-pub mod laws;
-mod lines;
+pub mod loading;
 pub mod outcome;
-mod parser;
-mod partial;
-mod print;
-mod program;
-mod reader;
 pub mod real_clock;
 pub mod real_folder;
 pub mod real_sink;
 pub mod real_source;
-mod reserved;
-pub mod source;
-mod spelling;
-mod statements;
-pub mod syntax_line;
-mod token;
-mod words;
+pub mod run_command;
+pub mod run_report;
+pub mod words;

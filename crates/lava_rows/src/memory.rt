@@ -5,11 +5,11 @@ ghost use Rattle.std.specs.Prelude.{◌≤◌};
 use crate::fault::Fault;
 use crate::shown::{meant, number, show};
 use lava_base::memory::OutOfMemory;
+use lava_cli::command::lava;
 use lava_streams::memory_clock::MemoryClock;
 use lava_streams::memory_folder::MemoryFolder;
 use lava_streams::memory_sink::MemorySink;
 use lava_streams::memory_source::MemorySource;
-use lava_tree::tree::command;
 use std::alloc::Global;
 
 // A call that comes in no row.
@@ -129,7 +129,7 @@ fn status(
 ) -> u8 {
     let mut input = MemorySource::new(alloc);
     let mut clock = MemoryClock::new(alloc);
-    command(alloc, words, folder, &mut input, out, err, &mut clock)
+    lava(alloc, words, folder, &mut input, out, err, &mut clock)
 }
 
 // A status, what was printed, and what stands on the errors.

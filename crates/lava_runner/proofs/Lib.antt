@@ -1,1 +1,2 @@
 mod Underway
+mod Reported

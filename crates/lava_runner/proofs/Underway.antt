@@ -1,23 +1,32 @@
 -- How a run goes on, from the first import to the end.
 use Rattle.std.proofs.Common.{◌≡◌, ℕ, zero, suc, ◌+◌, Bool, List, [], ◌∷◌, drop, Option, Some, None, refl, sym, ap, ◌∙◌, subst, arith, Result, Ok, Err, IfOk}
 use Rattle.std.specs.Option.{unwrap_or}
-use Rattle.js_run.specs.Outside.{OutsideCall, Fails}
+use Rattle.js_text.specs.Naming.{naming_of}
+use Rattle.js_run.specs.Completions as halt
+use Rattle.js_run.specs.Hosts.{outside_answers}
+use Rattle.js_run.specs.Journal.{Application, Fault, outside_of}
+use Rattle.js_run.specs.Outside.{OutsideAnswer, OutsideCall, Fails, IsGone}
+use Rattle.js_run.specs.Runs.{Stopped, answered}
 use Rattle.js_machine.specs.Outsides.{answer_of, newest_call}
 use Rattle.js_machine.specs.declared.outside.HostAnswer.TheVariants as host_answer
 use Rattle.lava_runner.specs.declared.answers.Answered.{Answered}
-use Rattle.js_run.specs.Heap.{heap}
+use Rattle.js_run.specs.Heap.{Control, Over_with, World, has_run, heap}
+use Rattle.js_machine.specs.Steps.{settles}
+use Rattle.js_machine.specs.Stops.{runs_on, told_as}
+use Rattle.js_machine.specs.Views.{party_of}
 use Rattle.js_machine.specs.declared.frame.Mode.{Mode}
 use Rattle.js_machine.specs.declared.outside.HostAnswer.{HostAnswer}
 use Rattle.js_machine.specs.declared.stop.Pause.{Pause}
 use Rattle.js_world.specs.Asked_outside.{Answers}
 use Rattle.js_world.specs.Ends.{Ends}
 use Rattle.js_world.specs.First.{IsBegun}
-use Rattle.js_world.specs.Worlds.{After, Stands, WorldView}
+use Rattle.js_machine.specs.declared.stop.Stop.TheVariants as stop
+use Rattle.js_world.specs.Worlds.{After, HasStopped, Stands, WorldView, around}
 use Rattle.js_world.specs.declared.ending.Turn.{Turn}
 use Rattle.js_world.specs.declared.ending.Turn.TheVariants as turn
 use Rattle.lava_host.specs.Hosts.{HostWorld}
 use Rattle.lava_host.specs.declared.fault.Which.{Which}
-use Rattle.lava_runner.specs.Ran.{HasComeTo, IsUnderway}
+use Rattle.lava_runner.specs.Ran.{BeginsSo, HasComeTo, IsAskedIn, IsUnderway}
 use Rattle.lava_runner.specs.Talks.{IsHostTalk, IsTalk, Talk, talk_of}
 
 -- the host's import is sent, and the machine runs
@@ -57,12 +66,29 @@ ran_on (Err x) first talks old new m u e = tt
 
 -- nothing was asked yet
 pub none_asked : (emit : Bool) (dir : List ℕ) (first new : WorldView) (w : HostWorld) (t : Turn) → IsUnderway first [] new t → HasComeTo emit dir first w new t None w
-none_asked emit dir first new w t u = record { talks = []; outside = refl; underway = u; newest = refl }
+none_asked emit dir first new w t u = record { talks = []; outside = refl; asked = tt; underway = u; newest = refl }
 
 -- it has come further
 pub came_on : (emit : Bool) (dir : List ℕ) (first old new : WorldView) (start w : HostWorld) (t : Turn) (m : Mode) (failed : Option Which) → HasComeTo emit dir first start old (turn.Runs m) failed w
     → ((talks : List Talk) → IsUnderway first talks old (turn.Runs m) → IsUnderway first talks new t) → HasComeTo emit dir first start new t failed w
-came_on emit dir first old new start w t m failed h go = record { talks = h.talks; outside = h.outside; underway = go h.talks h.underway; newest = h.newest }
+came_on emit dir first old new start w t m failed h go = record { talks = h.talks; outside = h.outside; asked = h.asked; underway = go h.talks h.underway; newest = h.newest }
+
+-- a run ends where its outside has no answer
+gone_told : (told : Option ℕ) (app : Application) (p n : ℕ) (w : World) → (has_run app p w (told_as told (Stopped halt.Outside n))).control ≡ Over_with (Fault p halt.Outside)
+gone_told None app p n w = refl
+gone_told (Some k) app p n w = refl
+
+gone : (app : Application) (w after : World) (v : WorldView) (p : Pause) → HasStopped app w v (stop.Outside p) after → outside_of app v.machine.me v.machine.calls ≡ IsGone → after.control ≡ Over_with (Fault v.machine.me halt.Outside)
+gone app w after v p h e =
+    let me = v.machine.me in
+    let a = around app h.suits.reads w.journal me in
+    let names = naming_of me in
+    let leads : OutsideAnswer → Control = λ o. (has_run app me w (runs_on names a.shared a.env p (settles a v.machine v.machine.values (answered names a.env (outside_answers names a.shared (party_of a v.machine) o))))).control in
+    ap (λ (x : World). x.control) h.comes ∙ ap leads e ∙ gone_told p.told app me p.steps w
+
+asked_here : (first old : WorldView) (talks : List Talk) (p : Pause) (x : HostAnswer) (failed : Option Which) → IsUnderway first talks old (turn.Asks p) → IsAskedIn (BeginsSo first) first.budget (talk_of old x failed) talks
+asked_here first old talks p x failed u =
+    λ app b g e. (suc u.crossings, gone app (heap app first.budget u.crossings) (heap app first.budget (suc u.crossings)) old p (u.after app b g) e)
 
 -- the outside has answered
 pub came_by : (emit : Bool) (dir : List ℕ) (first old new : WorldView) (start before after : HostWorld) (p : Pause) (x : HostAnswer) (t : Turn) (earlier failed : Option Which) → HasComeTo emit dir first start old (turn.Asks p) earlier before
@@ -71,6 +97,7 @@ came_by emit dir first old new start before after p x t earlier failed h talk a 
     record {
       talks = talk_of old x failed ∷ h.talks;
       outside = (before, (h.outside, talk));
+      asked = (asked_here first old h.talks p x failed h.underway, h.asked);
       underway = record {
         crossings = h.underway.crossings;
         after = λ app r g. a.answers app (heap app first.budget h.underway.crossings) (heap app first.budget (suc h.underway.crossings)) (h.underway.after app r g.1) g.0;

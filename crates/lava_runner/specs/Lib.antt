@@ -1,2 +1,6 @@
 pub mod Ran
 pub mod Talks
+pub mod Commons
+pub mod Modules
+pub mod Reports
+pub mod Uncaught

@@ -11,7 +11,7 @@ use Rattle.js_lower_table.specs.Table.{source_template_of}
 use Rattle.js_program.specs.Programs.{HasProgram, IsProgram, IsProgramFault}
 use Rattle.js_tree.specs.declared.tree.SourceKind.TheVariants as kinds
 use Rattle.js_tree_lines.specs.Lines.{AreLinesOf}
-use Rattle.lava_cli.specs.declared.source.TheConstants.{FILE_LIMIT}
+use Rattle.lava_tree.specs.declared.tree_source.TheConstants.{FILE_LIMIT}
 use Rattle.lava_tree.specs.TreeAnswers.{IsFileAt, IsTreeText, OneText, OneTree, TellsFile, TreeAnswers, TreeComes, TreeEnds, TreeRefuses, TreeReports, TreeStops, TreeWrites}
 use Rattle.lava_tree.specs.declared.tree_outcome.TreeOutcome.{TreeOutcome}
 use Rattle.lava_tree.specs.declared.tree_outcome.TreeOutcome.TheVariants as outcome

@@ -1,14 +1,12 @@
 -- What `lava tree FILE` answers: the cause of each answer, and what the call leaves of the outside.
-use Rattle.std.specs.Prelude.{◌≡◌, ℕ, List, [], ◌∷◌, ◌++◌, ◌⊎◌, Option, Some, None, if◌then◌else◌}
-use Rattle.std.specs.Fmt.{decimal}
+use Rattle.std.specs.Prelude.{◌≡◌, ℕ, List, [], ◌⊎◌, Option, Some}
 use Rattle.lava_base.specs.declared.place.Place.{Place}
-use Rattle.js_text.specs.Texts.{same_units}
 use Rattle.js_fault.specs.declared.fault.SyntaxFault.TheVariants as faults
 use Rattle.js_fault.specs.declared.fault.SyntaxWhat.{SyntaxWhat}
 use Rattle.js_lower_table.specs.Table.{source_template_of}
 use Rattle.js_parser.specs.Trees.{IsModuleOf}
 use Rattle.js_term.specs.declared.term.Template.{Template}
-use Rattle.js_program.specs.Programs.{IsProgram, IsProgramFault}
+use Rattle.js_program.specs.Programs.{HasProgram, IsProgram, IsProgramFault}
 use Rattle.js_reader.specs.Reading.{IsRefusal}
 use Rattle.js_tree.specs.declared.tree.Module.{Module}
 use Rattle.js_tree.specs.declared.tree.SourceKind.{SourceKind}
@@ -20,27 +18,31 @@ use Rattle.lava_streams.specs.Folders.{file_read}
 use Rattle.lava_streams.specs.Outside.{Stand, Outside, IsFaultless, HasFault, Grows, Fails}
 use Rattle.lava_streams.specs.declared.folder.FileRead.{FileRead}
 use Rattle.lava_streams.specs.declared.folder.FileRead.TheVariants.{Bytes, Absent, Longer}
-use Rattle.lava_cli.specs.Answers.{Answers, HasNoFault, IsOnlyFault, Puts}
-use Rattle.lava_cli.specs.SyntaxLines.{what_text}
-use Rattle.lava_cli.specs.declared.outcome.TheConstants as texts
-use Rattle.lava_cli.specs.declared.source.TheConstants.{FILE_LIMIT}
-use Rattle.lava_tree.specs.declared.tree.TheConstants.{TREE}
-use Rattle.lava_tree.specs.declared.tree_line.TheConstants as lines
+use Rattle.lava_lines.specs.Lines.{missing_line, syntax_line}
+use Rattle.lava_lines.specs.Puts.{Puts}
+use Rattle.lava_lines.specs.declared.status.TheConstants as texts
+use Rattle.lava_tree.specs.declared.tree.TheConstants as tree
+use Rattle.lava_tree.specs.declared.tree_source.TheConstants.{FILE_LIMIT}
 use Rattle.lava_tree.specs.declared.tree_outcome.TreeOutcome.{TreeOutcome}
 use Rattle.lava_tree.specs.declared.tree_outcome.TreeOutcome.TheVariants as outcome
 use Rattle.lava_tree.specs.declared.tree_outcome.TreeSource.{TreeSource}
 use Rattle.lava_tree.specs.declared.tree_outcome.TreeSource.TheVariants as source
 
--- the file of the words `tree FILE`
-abbrev pub tree_file : (words : List (List ℕ)) → Option (List ℕ)
-tree_file [] = None
-tree_file (w ∷ []) = None
-tree_file (w ∷ f ∷ []) = if same_units w TREE.now then Some f else None
-tree_file (w ∷ f ∷ x ∷ xs) = None
-
 -- what was read is the file of this path, where the folder tells its files
 abbrev pub IsFileAt : Option Files → (path : List ℕ) → FileRead → Type 0
 IsFileAt told path r = ForTold told (λ files. r ≡ file_read files path FILE_LIMIT)
+
+-- no other fault is told of these bytes, but for another form that is left out at the same token, and they are no program
+abbrev pub IsOnlyFault : (bytes : List ℕ) → Place → SyntaxWhat → Type 0
+IsOnlyFault bytes place what =
+    (HasProgram kinds.Module bytes → ⊥)
+    × ((other : Place) (w : SyntaxWhat) → IsProgramFault kinds.Module bytes other w → IsRefusal other w (faults.At place what))
+
+-- no fault is told of a file
+abbrev pub HasNoFault : FileRead → Type 0
+HasNoFault (Bytes bytes) = (place : Place) (what : SyntaxWhat) → IsProgramFault kinds.Module bytes place what → ⊥
+HasNoFault Absent = Unit {0}
+HasNoFault Longer = Unit {0}
 
 -- the text is the lines of the module that these bytes are: of the term that the table of lowering gives
 abbrev pub IsTreeText : (bytes text : List ℕ) → Type 0
@@ -86,23 +88,14 @@ tree_status outcome.FolderFailed = texts.OUTSIDE_STATUS
 tree_status outcome.OutputFailed = texts.OUTSIDE_STATUS
 tree_status outcome.OutOfMemory = texts.MEMORY_STATUS
 
--- the line of a file that is not there
-abbrev pub missing_line : (path : List ℕ) → List ℕ
-missing_line path = lines.MISSING_START.now ++ (path ++ (10 ∷ []))
-
--- the line of a file that is no program
-abbrev pub tree_syntax_line : (path : List ℕ) → Place → SyntaxWhat → List ℕ
-tree_syntax_line path place w =
-    lines.SYNTAX_START.now ++ (path ++ (58 ∷ (decimal place.line ++ (58 ∷ (decimal place.unit ++ (32 ∷ (what_text w ++ (10 ∷ []))))))))
-
 -- the line on the errors
 abbrev pub tree_line : (path : List ℕ) → TreeOutcome → List ℕ
 tree_line path outcome.Finished = []
-tree_line path outcome.Missing = missing_line path
-tree_line path outcome.TooLong = lines.TOO_LONG_LINE.now
-tree_line path (outcome.Syntax place what) = tree_syntax_line path place what
-tree_line path outcome.FolderFailed = texts.FOLDER_LINE.now
-tree_line path outcome.OutputFailed = texts.OUTPUT_LINE.now
+tree_line path outcome.Missing = missing_line texts.ROOT_PACKAGE.now path
+tree_line path outcome.TooLong = tree.TOO_LONG_LINE.now
+tree_line path (outcome.Syntax place what) = syntax_line texts.ROOT_PACKAGE.now path place what
+tree_line path outcome.FolderFailed = tree.FOLDER_LINE.now
+tree_line path outcome.OutputFailed = tree.OUTPUT_LINE.now
 tree_line path outcome.OutOfMemory = texts.MEMORY_LINE.now
 
 -- the line of an outcome is written, and the status is its own
@@ -145,15 +138,6 @@ TreeRefuses path before after status =
     (bytes : List ℕ) (place : Place) (what : SyntaxWhat) → TellsFile path before (Bytes bytes) → IsProgramFault kinds.Module bytes place what
     → ((at : Place) × (said : SyntaxWhat) × IsRefusal place what (faults.At at said) × TreeWrites path (outcome.Syntax at said) before.errors after.errors status)
     ⊎ TreeStops path before after status
-
--- A COMMAND: `tree FILE`, or what the other words ask for
-
-abbrev pub CommandAnswersBy : Option (List ℕ) → (words : List (List ℕ)) → (before after : Outside) → (status : ℕ) → Type 0
-CommandAnswersBy None words before after status = Answers words before after status
-CommandAnswersBy (Some path) words before after status = TreeAnswers path before after status
-
-abbrev pub CommandAnswers : (words : List (List ℕ)) → (before after : Outside) → (status : ℕ) → Type 0
-CommandAnswers words before after status = CommandAnswersBy (tree_file words) words before after status
 
 -- a source has one syntax tree at most, and a term one text of lines
 abbrev pub OneTree : Type 0

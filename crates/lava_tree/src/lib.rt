@@ -8,6 +8,5 @@
 #![tactic(auto)]
 
 pub mod tree;
-pub mod tree_line;
 pub mod tree_outcome;
 pub mod tree_source;

@@ -1,42 +1,33 @@
 // The command `lava tree FILE`.
 
-ghost use Rattle.std.specs.Prelude.{◌≡◌, ℕ, List, map, option_map, string_bytes};
+ghost use Rattle.std.specs.Prelude.{◌≡◌, ℕ, List};
 ghost use Rattle.lava_streams.specs.Outside.{Stand, outside};
-ghost use Rattle.lava_cli.specs.Answers.{Puts};
-ghost use Rattle.lava_tree.specs.TreeAnswers.{CommandAnswers, TreeAnswers, TreeComes, TreeEnds, TreeRefuses, TreeReports, tree_file};
+ghost use Rattle.lava_tree.specs.TreeAnswers.{TreeAnswers, TreeComes, TreeEnds, TreeRefuses, TreeReports};
 
-use crate::tree_line::{TOO_LONG_LINE, missing_line, tree_syntax_line};
 use crate::tree_outcome::{TreeOutcome, TreeSource};
 use crate::tree_source::find;
 use js_fault::fault::SyntaxWhat;
 use js_program::laws::one_tree;
 use js_tree_lines::lines::one_text;
-use lava_base::memory::OutOfMemory;
 use lava_base::place::Place;
-use lava_cli::command::lava;
-use lava_cli::outcome::{
-    DONE_STATUS, FOLDER_LINE, LOADING_STATUS, MEMORY_LINE, MEMORY_STATUS, OUTPUT_LINE,
-    OUTSIDE_STATUS,
+use lava_lines::lines::{missing_line, syntax_line};
+use lava_lines::report::{put_line, put_made};
+use lava_lines::status::{
+    DONE_STATUS, LOADING_STATUS, MEMORY_LINE, MEMORY_STATUS, OUTSIDE_STATUS, ROOT_PACKAGE,
 };
-use lava_streams::clock::Clock;
 use lava_streams::fault::{Failed, ReadFault};
 use lava_streams::folder::Folder;
 use lava_streams::sink::Sink;
-use lava_streams::source::Source as Input;
 use std::alloc::Global;
 
-/// The word of the command that prints a module's term.
-pub const TREE: &str = "tree";
+/// The line of a file that has too many bytes.
+pub const TOO_LONG_LINE: &str = "lava: too many file 1048577\n";
 
-/// The file of the words `tree FILE`.
-pub fn tree_file(words: &[String]) -> Option<&str>
-    ensures { option_map (λ f. f.now) result ≡ tree_file (map string_bytes words.now) }
-{
-    match words {
-        [command, file] if command.as_str() == TREE => Some(file.as_str()),
-        _ => None,
-    }
-}
+/// The line where a call on the folder failed.
+pub const FOLDER_LINE: &str = "lava: outside folder\n";
+
+/// The line where a call on the output failed.
+pub const OUTPUT_LINE: &str = "lava: outside output\n";
 
 /// How the command ends. What it leaves is said whatever the errors stand at.
 fn outcome_of<F: Folder, O: Sink>(
@@ -64,24 +55,11 @@ fn outcome_of<F: Folder, O: Sink>(
     }
 }
 
-/// Writes a line, and gives the status, or that of a fault of the outside where the writing fails.
-fn put_line<E: Sink>(line: &[u8], status: u8, err: &mut E) -> u8
-    ensures { Puts line.now status (E.stand err.old) (E.stand err.new) result }
-{
-    match err.put(line) {
-        Ok(()) => status,
-        Err(Failed) => OUTSIDE_STATUS,
-    }
-}
-
 /// Writes that there is no such file.
 fn write_missing<E: Sink>(alloc: Global, path: &str, err: &mut E) -> u8
     ensures { TreeReports path.now TreeOutcome.Missing (E.stand err.old) (E.stand err.new) result }
 {
-    match missing_line(alloc, path) {
-        Ok(line) => put_line(line.as_slice(), LOADING_STATUS, err),
-        Err(OutOfMemory) => put_line(MEMORY_LINE.as_bytes(), MEMORY_STATUS, err),
-    }
+    put_made(missing_line(alloc, ROOT_PACKAGE, path), LOADING_STATUS, err)
 }
 
 /// Writes what is wrong with the file.
@@ -95,10 +73,11 @@ fn write_syntax<E: Sink>(
     ensures { let outcome = TreeOutcome.Syntax place what in
         TreeReports path.now outcome (E.stand err.old) (E.stand err.new) result }
 {
-    match tree_syntax_line(alloc, path, place, &what) {
-        Ok(line) => put_line(line.as_slice(), LOADING_STATUS, err),
-        Err(OutOfMemory) => put_line(MEMORY_LINE.as_bytes(), MEMORY_STATUS, err),
-    }
+    put_made(
+        syntax_line(alloc, ROOT_PACKAGE, path, place, &what),
+        LOADING_STATUS,
+        err,
+    )
 }
 
 /// Reports an outcome: nothing of a finished one.
@@ -143,28 +122,4 @@ pub fn tree<F: Folder, O: Sink, E: Sink>(
     one_text();
     let outcome = outcome_of(alloc, path, folder, out);
     report(alloc, path, outcome, err)
-}
-
-/// Does what the words say, and gives the exit status: `tree FILE`, or what `lava` of lava_cli does.
-pub fn command<F: Folder, I: Input, O: Sink, E: Sink, C: Clock>(
-    alloc: Global,
-    words: &[String],
-    folder: &mut F,
-    input: &mut I,
-    out: &mut O,
-    err: &mut E,
-    clock: &mut C,
-) -> u8
-    ensures answers { let said = map string_bytes words.now in
-        let before = outside (F.stand folder.old) (O.stand out.old) (E.stand err.old) in
-        let after = outside (F.stand folder.new) (O.stand out.new) (E.stand err.new) in
-        CommandAnswers said before after result }
-    ensures folder { (F.stand folder.new).told ≡ (F.stand folder.old).told }
-    ensures input { input.new ≡ input.old }
-    ensures clock { clock.new ≡ clock.old }
-{
-    match tree_file(words) {
-        Some(path) => tree(alloc, path, folder, out, err),
-        None => lava(alloc, words, folder, input, out, err, clock),
-    }
 }

@@ -15,10 +15,12 @@ use js_tree::tree::{Module, SourceKind};
 use js_tree_lines::lines::template_lines;
 use lava_base::list::List;
 use lava_base::memory::OutOfMemory;
-use lava_cli::source::FILE_LIMIT;
 use lava_streams::fault::ReadFault;
 use lava_streams::folder::{FileRead, Folder};
 use std::alloc::Global;
+
+/// How many bytes a file has at most.
+pub const FILE_LIMIT: u32 = 1048576;
 
 /// The lines of a module's term.
 fn lines_of(alloc: Global, tree: &Module) -> Result<List<u8>, OutOfMemory>

@@ -8,6 +8,7 @@ use pkg_load::reader::{ModuleKind, ModuleRead, ModuleReader};
 use std::alloc::Global;
 
 /// The reader of modules of the language.
+#[derive(Drop)]
 pub struct SourceReader;
 
 impl ModuleReader for SourceReader {

@@ -1,13 +1,15 @@
 -- What code above may rely on: how a locked list stands.
-use Rattle.std.specs.Prelude.{◌≡◌, ℕ, ◌<◌, Bool, true, List, [], ◌∷◌, length, ◌⊎◌}
+use Rattle.std.specs.Prelude.{◌≡◌, ℕ, ◌<◌, ◌≤◌, Bool, true, List, [], ◌∷◌, length, map, ◌⊎◌}
 use Rattle.std.specs.List.{AllByRecursion}
 use Rattle.lava_base.specs.declared.ids.MadeSymbol.{MadeSymbol}
 use Rattle.js_text.specs.declared.value.Key.{Key}
 use Rattle.js_text.specs.CommonPaths.{common_paths}
-use Rattle.js_store.specs.Frozen.{IsFrozen}
+use Rattle.js_store.specs.Frozen.{CommonObject, IsFrozen, as_read, common_ref}
 use Rattle.js_store.specs.Objects.{object_at}
+use Rattle.ses_lockdown.specs.Entries.{HasTableMarks}
+use Rattle.ses_lockdown.specs.Intrinsics.{copied, initial_objects, with_function, with_other}
 use Rattle.ses_lockdown.specs.Lockdown.{Obj, locked, locked_object, role_at}
-use Rattle.ses_lockdown.specs.Permits.{Permit, permits, key_of, is_for, is_common_if_any, is_common_slot}
+use Rattle.ses_lockdown.specs.Permits.{Permit, permits, count, key_of, is_for, is_common_if_any, is_common_slot}
 use Rattle.ses_lockdown.specs.declared.table.Role.TheVariants as role
 
 -- an object is the one that stood at its place, locked: it keeps its marks, its prototype, and its template where the prelude gives one
@@ -40,3 +42,27 @@ pub record StandsLocked (before after : List Obj) : Type 0 where
 
 abbrev pub Lockdown_locks : Type 0
 Lockdown_locks = (objects : List Obj) → StandsLocked objects (locked objects)
+
+-- WHAT STAYS
+
+-- the marks of the common objects are those of the table of places, before a function comes, after it, and after lockdown
+-- SES intrinsics
+pub record MarksStay : Type 0 where
+  pub initial : HasTableMarks initial_objects
+  pub given : (place number parameters : ℕ) (objects : List Obj) → HasTableMarks objects → HasTableMarks (with_function place number parameters objects)
+  pub other : (number : ℕ) (objects : List Obj) → count ≤ length objects → HasTableMarks objects → HasTableMarks (with_other number objects)
+  pub after : (objects : List Obj) → HasTableMarks objects → HasTableMarks (locked objects)
+
+-- a locked list is locked already: the intrinsics of it are its objects, and lockdown leaves these as they are
+-- SES lockdown
+pub record LocksOnce (before : List Obj) : Type 0 where
+  pub intrinsics : (common : List CommonObject) → map (as_read common_ref) common ≡ locked before → copied common ≡ locked before
+  pub again : locked (locked before) ≡ locked before
+
+-- what stands behind the common objects goes with lockdown
+-- SES removeUnpermittedIntrinsics
+abbrev pub Lockdown_drops : Type 0
+Lockdown_drops = (number : ℕ) (objects : List Obj) → count ≤ length objects → locked (with_other number objects) ≡ locked objects
+
+abbrev pub Lockdown_once : Type 0
+Lockdown_once = (objects : List Obj) → HasTableMarks objects → LocksOnce objects

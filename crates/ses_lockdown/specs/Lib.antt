@@ -1,5 +1,7 @@
 pub mod Lockdown
 pub mod Permits
 pub mod Intrinsics
+pub mod Entries
 pub mod Laws
+pub mod Repairs
 pub mod Apart

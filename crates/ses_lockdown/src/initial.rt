@@ -1,16 +1,15 @@
 // The common objects before lockdown.
 
-ghost use Rattle.std.specs.Prelude.{◌≡◌, ◌<◌, ◌++◌, ◌∷◌, [], length, map, get_or, IfOk, OnOk};
+ghost use Rattle.std.specs.Prelude.{◌≡◌, ◌<◌, ◌++◌, ◌∷◌, [], length, IfOk, OnOk};
 ghost use Rattle.std.specs.Option.{option_map};
 ghost use Rattle.js_store.specs.Frozen.{common_ref};
 ghost use Rattle.js_store.specs.Objects.{at_place};
 ghost use Rattle.ses_lockdown.specs.Permits.{permits, row_of};
 ghost use Rattle.ses_lockdown.specs.Lockdown.{more, one_more};
-ghost use Rattle.ses_lockdown.specs.Intrinsics.{holding, name_at, initial_property, marks_of, initial_at, initial_object, initial_objects};
+ghost use Rattle.ses_lockdown.specs.Intrinsics.{holding, initial_property, marks_of, initial_at, initial_object, initial_objects};
 
 use crate::making::{common, define, is_for};
-use crate::names::NAMES;
-use crate::rows::{permit, place};
+use crate::rows::{name_at, permit, place};
 use crate::table::{COUNT, Kind, PERMIT_COUNT, Permit, Stands};
 use crate::words::text_of;
 use js_desc::descriptor::Descriptor;
@@ -22,20 +21,6 @@ use lava_base::ids::{ObjId, PartyId, Ref};
 use lava_base::marks::{Class, Marks};
 use lava_base::memory::OutOfMemory;
 use std::alloc::Global;
-
-/// The text of a place, or the empty one past the end.
-fn text_at(texts: &[&'static str], at: usize) -> &'static str
-    ensures { result.now ≡ get_or (map (λ text. text.now) texts.now) at [] }
-{
-    if at < texts.len() { texts[at] } else { "" }
-}
-
-/// The name of the function of a place.
-fn name_at(place: u32) -> &'static str
-    ensures { result.now ≡ name_at place }
-{
-    text_at(&NAMES, place as usize)
-}
 
 /// A property that holds a value.
 pub(crate) fn holding(value: Value) -> Descriptor

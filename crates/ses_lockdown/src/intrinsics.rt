@@ -6,11 +6,13 @@ ghost use Rattle.js_text.specs.Length.{length_key};
 ghost use Rattle.js_text.specs.declared.value.Value.TheVariants as value;
 ghost use Rattle.js_store.specs.Objects.{at_place, with_slot};
 ghost use Rattle.js_term.specs.declared.term.Template.{out-Template};
+ghost use Rattle.ses_lockdown.specs.Entries.{HasTableMarks};
 ghost use Rattle.ses_lockdown.specs.Permits.{count};
 ghost use Rattle.ses_lockdown.specs.Intrinsics.{initial_objects, holding, body_of, copied, with_function, with_other};
 
 use crate::copied::copy_objects;
 use crate::initial::{holding, put_objects};
+use crate::laws::marks_stay;
 use crate::making::common;
 use js_desc::decision::BodyId;
 use js_desc::descriptor::Descriptor;
@@ -74,7 +76,9 @@ impl Unlocked {
         requires { place < count }
         ensures ok { OnOk result (self.new ≡ with_function place number parameters self.old) }
         ensures err { OnErr result (self.new ≡ self.old) }
+        ensures marks { HasTableMarks self.old → OnOk result (HasTableMarks self.new) }
     {
+        marks_stay();
         let key = length_key(alloc)?;
         put_body(&mut self.store, place, number, parameters, key);
         Ok(())
@@ -84,7 +88,9 @@ impl Unlocked {
     fn put_other(&mut self, number: u32) -> Result<(), OutOfMemory>
         ensures ok { OnOk result (self.new ≡ with_other number self.old) }
         ensures err { OnErr result (self.new ≡ self.old) }
+        ensures marks { HasTableMarks self.old → OnOk result (HasTableMarks self.new) }
     {
+        marks_stay();
         let marks = Marks {
             class: Class::Function,
             callable: true,
@@ -158,7 +164,9 @@ impl Intrinsics {
     pub fn new(alloc: Global) -> Result<Intrinsics, OutOfMemory>
         ensures objects { IfOk result (λ i. i.objects ≡ initial_objects) }
         ensures templates { IfOk result (λ i. i.templates ≡ []) }
+        ensures marks { IfOk result (λ i. HasTableMarks i.objects) }
     {
+        marks_stay();
         Ok(Intrinsics {
             objects: Unlocked {
                 store: put_objects(alloc)?,
@@ -187,7 +195,11 @@ impl Intrinsics {
             let given = with_function in
             (place : ℕ) → IsPathOf path place → OnOk result
             (self.new.objects ≡ given place n (out-Template template).length self.old.objects) }
+        ensures other { let n = length self.old.templates in
+            ((place : ℕ) → IsPathOf path place → ⊥) → OnOk result
+            (self.new.objects ≡ with_other n self.old.objects) }
         ensures templates { OnOk result (self.new.templates ≡ self.old.templates ++ template ∷ []) }
+        ensures marks { HasTableMarks self.old.objects → OnOk result (HasTableMarks self.new.objects) }
     {
         let number = next_number(&self.templates)?;
         match common_id(path.as_str()) {

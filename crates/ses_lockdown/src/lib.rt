@@ -20,6 +20,6 @@ mod making;
 pub mod names;
 pub mod permits;
 pub mod places;
-mod rows;
+pub mod rows;
 pub mod table;
 mod words;

@@ -3,14 +3,18 @@
 ghost use Rattle.std.specs.Prelude.{◌≡◌, ◌≤◌, ◌<◌, ◌++◌, ◌∷◌, [], length, map, IfOk, OnOk};
 ghost use Rattle.std.specs.Option.{option_map};
 ghost use Rattle.lava_base.specs.Ids.{same_made_symbol};
-ghost use Rattle.js_store.specs.Frozen.{as_read, common_ref};
+ghost use Rattle.js_store.specs.Frozen.{as_read, common_part, common_ref};
 ghost use Rattle.js_store.specs.Objects.{object_at, at_place, ordinary_get_own_property};
 ghost use Rattle.js_store.specs.declared.slot.Slot.TheVariants as slot;
+ghost use Rattle.ses_lockdown.specs.Entries.{HasTableMarks, StandsInOrder};
+ghost use Rattle.ses_lockdown.specs.Intrinsics.{copied};
 ghost use Rattle.ses_lockdown.specs.Laws.{StandsLocked};
 ghost use Rattle.ses_lockdown.specs.Permits.{row_of, permits, count, is_common, is_common_if_any, is_shared_symbol, is_common_value, is_common_property, is_shared_key, is_for};
+ghost use Rattle.ses_lockdown.specs.Repairs.{Repairs};
 ghost use Rattle.ses_lockdown.specs.Lockdown.{tamed, repaired, fixed, common_only, locked_at, holder_place, property_of, kept_value, kept_of, kept_place, kept_by, held_or, role_at, common_slot, common_prototype, one_more, more, locked_object, locked};
 
 use crate::intrinsics::{Intrinsics, Unlocked};
+use crate::laws::{lockdown_once, lockdown_orders, lockdown_repairs};
 use crate::locked_property::{
     is_common, is_common_if_any, is_common_value, is_shared_key, locked_at, own_at, tamed,
 };
@@ -248,7 +252,9 @@ fn lock_objects(alloc: Global, objects: &FlatStore) -> Result<FlatStore, OutOfMe
 /// The common objects, locked (SES, lockdown).
 fn locked_objects(alloc: Global, objects: &FlatStore) -> Result<FrozenStore, OutOfMemory>
     requires { count ≤ length objects.now.objects }
-    ensures { let after = locked objects.now.objects in
+    ensures list { let after = locked objects.now.objects in
+        IfOk result (λ store. store ≡ common_part after) }
+    ensures exact { let after = locked objects.now.objects in
         IfOk result (λ store. map (as_read common_ref) store ≡ after) }
 {
     Ok(FrozenStore::freeze(lock_objects(alloc, objects)?))
@@ -256,20 +262,38 @@ fn locked_objects(alloc: Global, objects: &FlatStore) -> Result<FrozenStore, Out
 
 /// Locks the common objects.
 fn lock_unlocked(alloc: Global, objects: &Unlocked) -> Result<FrozenStore, OutOfMemory>
+    ensures list { IfOk result (λ store. store ≡ common_part (locked objects.now)) }
     ensures exact { IfOk result
         (λ store. map (as_read common_ref) store ≡ locked objects.now) }
     ensures stands { IfOk result
         (λ store. StandsLocked objects.now (map (as_read common_ref) store)) }
+    ensures order { HasTableMarks objects.now → IfOk result
+        (λ store. StandsInOrder objects.now (map (as_read common_ref) store)) }
+    ensures repairs { HasTableMarks objects.now → IfOk result
+        (λ store. Repairs objects.now (map (as_read common_ref) store)) }
+    ensures again { HasTableMarks objects.now → IfOk result
+        (λ store. common_part (locked (copied store)) ≡ store) }
 {
+    lockdown_orders();
+    lockdown_repairs();
+    lockdown_once();
     Ok(locked_objects(alloc, objects.store())?)
 }
 
 /// Locks the intrinsics: the common objects with the properties of the permits alone, none of which can be changed (SES, lockdown). Nothing stays of the functions of other paths.
+/// Where the marks are those of the table, as they are of all that `new` and `add` give, the intrinsics of the list are locked to the list again.
 pub fn lockdown(alloc: Global, intrinsics: Intrinsics) -> Result<FrozenStore, OutOfMemory>
+    ensures list { IfOk result (λ store. store ≡ common_part (locked intrinsics.objects)) }
     ensures exact { IfOk result
         (λ store. map (as_read common_ref) store ≡ locked intrinsics.objects) }
     ensures stands { IfOk result
         (λ store. StandsLocked intrinsics.objects (map (as_read common_ref) store)) }
+    ensures order { HasTableMarks intrinsics.objects → IfOk result
+        (λ store. StandsInOrder intrinsics.objects (map (as_read common_ref) store)) }
+    ensures repairs { HasTableMarks intrinsics.objects → IfOk result
+        (λ store. Repairs intrinsics.objects (map (as_read common_ref) store)) }
+    ensures again { HasTableMarks intrinsics.objects → IfOk result
+        (λ store. common_part (locked (copied store)) ≡ store) }
 {
     lock_unlocked(alloc, &intrinsics.objects)
 }

@@ -10,4 +10,4 @@ returns-in_ok-mode-in-Some c =
 pub returns-in-None : goal.returns-in-None
 returns-in-None c =
     let given = c.in_ok-reply.ensures in
-    ends_with c.in_ok-reply.reply c.args.mode c.args.steps c.args.self.now c.give_away.new.self c.take_waiting.new.self c.end_of.result given.given given.reply given.there (sym c.take_waiting.ensures.body ∙ c.in-None.is) c.take_waiting.ensures.rest c.end_of.ensures
+    ends_with c.in_ok-reply.reply c.args.mode c.args.steps c.args.self.now c.give_away.new.self c.take_waiting.new.self c.end_with.new.self c.end_with.result given.given given.reply given.there (sym c.take_waiting.ensures.body ∙ c.in-None.is) c.take_waiting.ensures.rest c.end_with.ensures.over c.end_with.ensures.kept

@@ -1,0 +1,56 @@
+-- Loading an application: its packages, and then its modules.
+use Rattle.std.specs.Prelude.{◌≡◌, ℕ, List, Option, Some, Result, Ok, Err}
+use Rattle.lava_streams.specs.Counts.{Rises}
+use Rattle.lava_streams.specs.Files.{Files}
+use Rattle.pkg_graph.specs.Faults.{Agrees, CountsFolder}
+use Rattle.pkg_graph.specs.Graphs.{IsGraphAnswer}
+use Rattle.pkg_graph.specs.Naming.{graph_of}
+use Rattle.pkg_graph.specs.Worlds.{world_of}
+use Rattle.pkg_graph.specs.declared.fault.GraphFault.{GraphFault}
+use Rattle.pkg_graph.specs.declared.graph.Package.{Package}
+use Rattle.pkg_load.specs.Applications.{Application, IsLoadAnswer, IsLoaded}
+use Rattle.pkg_load.specs.LoadFaults.{Answers, CountsLoad}
+use Rattle.pkg_load.specs.Reasons.{Explained}
+use Rattle.pkg_load.specs.Sources.{ForSources}
+use Rattle.pkg_load.specs.declared.fault.LoadFault.{LoadFault}
+use Rattle.pkg_source.specs.Reading.{IsRead}
+use Rattle.pkg_source.specs.declared.code.ModuleCode.{ModuleCode}
+use Rattle.lava_cli.specs.declared.loading.LoadingFault.{LoadingFault}
+use Rattle.lava_cli.specs.declared.loading.LoadingFault.TheVariants as fault
+
+abbrev pub Loaded : Type 0
+Loaded = Application ModuleCode
+
+-- the packages of the application in a directory, or why they are not read, where the folder tells its files
+pub record IsGraphRead (told : Option Files) (directory : List ℕ) (r : Result (List Package) GraphFault) : Type 0 where
+  pub agrees : (files : Files) → told ≡ Some files → Agrees (graph_of (world_of files directory)) r
+  pub says : (files : Files) → told ≡ Some files → IsGraphAnswer (world_of files directory) r
+
+-- the modules of these packages that are reached, or why they are not loaded
+pub record IsLoadRead (told : Option Files) (directory : List ℕ) (packages : List Package) (r : Result Loaded LoadFault) : Type 0 where
+  pub agrees : ForSources told directory packages IsRead (λ w. Answers (Explained IsRead w (IsLoaded w)) r)
+  pub says : ForSources told directory packages IsRead (λ w. Answers (Explained IsRead w (IsLoadAnswer w)) r)
+
+-- the modules of these packages are loaded, or why they are not
+abbrev pub IsLoadingOf : Option Files → (directory : List ℕ) → List Package → Result Loaded LoadingFault → Type 0
+IsLoadingOf told directory packages (Ok app) = IsLoadRead told directory packages (Ok app)
+IsLoadingOf told directory packages (Err (fault.Graph f)) = ⊥
+IsLoadingOf told directory packages (Err (fault.Load f)) = IsLoadRead told directory packages (Err f)
+
+-- the application in a directory: its packages are read, and then its modules are loaded
+pub record IsLoadedFrom (told : Option Files) (directory : List ℕ) (r : Result Loaded LoadFault) : Type 0 where
+  pub packages : List Package
+  pub graph : IsGraphRead told directory (Ok packages)
+  pub load : IsLoadRead told directory packages r
+
+-- what loading answers
+abbrev pub IsLoading : Option Files → (directory : List ℕ) → Result Loaded LoadingFault → Type 0
+IsLoading told directory (Ok app) = IsLoadedFrom told directory (Ok app)
+IsLoading told directory (Err (fault.Graph f)) = IsGraphRead told directory (Err f)
+IsLoading told directory (Err (fault.Load f)) = IsLoadedFrom told directory (Err f)
+
+-- what it does to the folder's count of faults
+abbrev pub CountsLoading : ℕ → ℕ → Result Loaded LoadingFault → Type 0
+CountsLoading old new (Ok app) = new ≡ old
+CountsLoading old new (Err (fault.Graph f)) = CountsFolder {T = List Package} old new (Err f)
+CountsLoading old new (Err (fault.Load f)) = CountsLoad {T = Loaded} old new (Err f)

@@ -1,0 +1,188 @@
+-- What `lava run DIR` answers: the cause of each answer, and what the call leaves of the outside.
+use Rattle.std.specs.Prelude.{◌≡◌, ℕ, zero, suc, true, List, [], ◌∷◌, Option, Some, None, Result, Ok, Err, codes}
+use Rattle.lava_base.specs.declared.place.Place.{Place}
+use Rattle.js_fault.specs.declared.fault.SyntaxWhat.{SyntaxWhat}
+use Rattle.js_machine.specs.declared.frame.Halt.{Halt}
+use Rattle.js_machine.specs.declared.frame.Halt.TheVariants as halt
+use Rattle.js_world.specs.declared.ending.Ending.{Ending}
+use Rattle.js_world.specs.declared.ending.Ending.TheVariants as ending
+use Rattle.lava_host.specs.Hosts.{HostWorld}
+use Rattle.lava_host.specs.declared.fault.Which.{Which}
+use Rattle.lava_host.specs.declared.fault.Which.TheVariants as which
+use Rattle.lava_lines.specs.Lines as lines
+use Rattle.lava_lines.specs.Puts as puts
+use Rattle.lava_lines.specs.declared.status.TheConstants as texts
+use Rattle.lava_runner.specs.Reports.{IsRunOf}
+use Rattle.lava_runner.specs.declared.app.Report.{Report}
+use Rattle.lava_streams.specs.Files.{Files}
+use Rattle.lava_streams.specs.Outside.{Stand, Outside, outside}
+use Rattle.lava_tree.specs.TreeAnswers.{TreeAnswers}
+use Rattle.pkg_graph.specs.declared.fault.GraphFault.{GraphFault}
+use Rattle.pkg_graph.specs.declared.fault.GraphFault.TheVariants as graph
+use Rattle.pkg_load.specs.declared.fault.LoadFault.{LoadFault}
+use Rattle.pkg_load.specs.declared.fault.LoadFault.TheVariants as load
+use Rattle.pkg_load.specs.declared.module.LoadedModule.{LoadedModule}
+use Rattle.pkg_source.specs.declared.code.ModuleCode.{ModuleCode}
+use Rattle.ses_prelude.specs.Preludes.{IsPreludeFault, prelude}
+use Rattle.lava_cli.specs.Loads.{CountsLoading, IsLoadedFrom, IsLoading, Loaded}
+use Rattle.lava_cli.specs.Words.{Asked, Runs, Trees, command_of}
+use Rattle.lava_cli.specs.declared.loading.LoadingFault.{LoadingFault}
+use Rattle.lava_cli.specs.declared.loading.LoadingFault.TheVariants as loading
+use Rattle.lava_cli.specs.declared.outcome.RunOutcome.{RunOutcome}
+use Rattle.lava_cli.specs.declared.outcome.RunOutcome.TheVariants as outcome
+use Rattle.lava_cli.specs.declared.run_report.TheConstants as words
+
+-- THE CAUSES
+
+-- the run of these modules, or why there is none
+abbrev pub RunsOf : (directory : List ℕ) → List (LoadedModule ModuleCode) → (budget : ℕ) → (before after : HostWorld) → RunOutcome → Type 0
+RunsOf directory ms budget before after (outcome.Ran r) = IsRunOf true directory ms budget before after r
+RunsOf directory ms budget before after (outcome.Prelude place what) = IsPreludeFault prelude place what
+RunsOf directory ms budget before after outcome.OutOfMemory = Unit {0}
+RunsOf directory ms budget before after (outcome.Graph f) = ⊥
+RunsOf directory ms budget before after (outcome.Load f) = ⊥
+
+-- the folder alone was read, and tells what it told
+pub record HasReadFolder (before after : HostWorld) (r : Result Loaded LoadingFault) : Type 0 where
+  pub rest : after ≡ record before { folder = after.folder }
+  pub told : after.folder.told ≡ before.folder.told
+  pub counts : CountsLoading before.folder.count after.folder.count r
+
+-- an application was loaded, and then it ran so
+pub record HasRunIn (directory : List ℕ) (budget : ℕ) (before after : HostWorld) (o : RunOutcome) : Type 0 where
+  pub app : Loaded
+  pub mid : HostWorld
+  pub loaded : IsLoading before.folder.told directory (Ok app)
+  pub read : HasReadFolder before mid (Ok app)
+  pub ran : RunsOf directory app.modules budget mid after o
+
+-- nothing was loaded
+pub record IsRefusedBy (directory : List ℕ) (before after : HostWorld) (f : LoadingFault) : Type 0 where
+  pub cause : IsLoading before.folder.told directory (Err f)
+  pub read : HasReadFolder before after (Err f)
+
+-- the cause of each outcome, with what it leaves of the outside
+abbrev pub RunComes : (directory : List ℕ) → (budget : ℕ) → (before after : HostWorld) → RunOutcome → Type 0
+RunComes directory budget before after (outcome.Ran r) = HasRunIn directory budget before after (outcome.Ran r)
+RunComes directory budget before after (outcome.Prelude place what) = HasRunIn directory budget before after (outcome.Prelude place what)
+RunComes directory budget before after outcome.OutOfMemory = HasRunIn directory budget before after outcome.OutOfMemory
+RunComes directory budget before after (outcome.Graph f) = IsRefusedBy directory before after (loading.Graph f)
+RunComes directory budget before after (outcome.Load f) = IsRefusedBy directory before after (loading.Load f)
+
+-- WHAT IS TOLD
+
+abbrev pub which_word : Which → List ℕ
+which_word which.Folder = words.FOLDER.now
+which_word which.Input = codes "input"
+which_word which.Output = codes "output"
+which_word which.Errors = codes "errors"
+which_word which.Clock = codes "clock"
+
+abbrev pub halt_word : Halt → List ℕ
+halt_word halt.Number = codes "Number"
+halt_word halt.Text = codes "Text"
+halt_word halt.Depth = codes "Depth"
+halt_word halt.Meter = codes "Meter"
+halt_word halt.Outside = codes "Outside"
+
+abbrev pub party_word : ℕ → List ℕ
+party_word zero = texts.HOST_PARTY.now
+party_word (suc p) = texts.ROOT_PACKAGE.now
+
+abbrev pub syntax_line : (owner path : List ℕ) → Place → SyntaxWhat → List ℕ
+syntax_line owner path place w = lines.syntax_line owner path place w
+
+abbrev pub missing_line : (owner request : List ℕ) → List ℕ
+missing_line owner request = lines.missing_line owner request
+
+-- a line is written, or there was no memory for it
+abbrev pub PutsLine : (line : List ℕ) → (own : ℕ) → (before after : Stand (List ℕ)) → (status : ℕ) → Type 0
+PutsLine line own before after status = puts.PutsLine line own before after status
+
+abbrev pub Lacks : (before after : Stand (List ℕ)) → (status : ℕ) → Type 0
+Lacks before after status = puts.Lacks before after status
+
+-- a run that nothing caught has a value, so that want of memory is told of none
+abbrev pub TellsUncaught : Option (List ℕ) → (before after : Stand (List ℕ)) → (status : ℕ) → Type 0
+TellsUncaught (Some text) before after status = PutsLine (lines.uncaught_line text) texts.UNCAUGHT_STATUS before after status
+TellsUncaught None before after status = Lacks before after status
+
+-- a run that the outside ended has the object that failed
+abbrev pub TellsOutside : Option Which → (before after : Stand (List ℕ)) → (status : ℕ) → Type 0
+TellsOutside (Some w) before after status = PutsLine (lines.outside_line (which_word w)) texts.OUTSIDE_STATUS before after status
+TellsOutside None before after status = Lacks before after status
+
+abbrev pub TellsEnded : (party : ℕ) → (word : List ℕ) → (own : ℕ) → (before after : Stand (List ℕ)) → (status : ℕ) → Type 0
+TellsEnded p word own before after status = PutsLine (lines.ended_line word (party_word p)) own before after status
+
+abbrev pub TellsHalt : (party : ℕ) → Halt → Option Which → (before after : Stand (List ℕ)) → (status : ℕ) → Type 0
+TellsHalt p halt.Outside w before after status = TellsOutside w before after status
+TellsHalt p halt.Number w before after status = TellsEnded p (halt_word halt.Number) texts.LIMIT_STATUS before after status
+TellsHalt p halt.Text w before after status = TellsEnded p (halt_word halt.Text) texts.LIMIT_STATUS before after status
+TellsHalt p halt.Depth w before after status = TellsEnded p (halt_word halt.Depth) texts.LIMIT_STATUS before after status
+TellsHalt p halt.Meter w before after status = TellsEnded p (halt_word halt.Meter) texts.LIMIT_STATUS before after status
+
+abbrev pub TellsEnding : Ending → Report → (before after : Stand (List ℕ)) → (status : ℕ) → Type 0
+TellsEnding ending.Done r before after status = (status ≡ texts.DONE_STATUS) × (after ≡ before)
+TellsEnding ending.Uncaught r before after status = TellsUncaught r.uncaught before after status
+TellsEnding (ending.Budget p) r before after status = TellsEnded p (codes "Budget") texts.BUDGET_STATUS before after status
+TellsEnding (ending.Fault p h) r before after status = TellsHalt p h r.which before after status
+
+-- what is told of a run: nothing of one that was done
+abbrev pub TellsRun : Report → (before after : Stand (List ℕ)) → (status : ℕ) → Type 0
+TellsRun r before after status = TellsEnding r.ending r before after status
+
+abbrev pub TellsGraph : GraphFault → (before after : Stand (List ℕ)) → (status : ℕ) → Type 0
+TellsGraph (graph.Manifest dir field) before after status = PutsLine (lines.manifest_line dir field) texts.LOADING_STATUS before after status
+TellsGraph (graph.TooMany what count) before after status = PutsLine (lines.too_many_line what count) texts.LOADING_STATUS before after status
+TellsGraph graph.Folder before after status = PutsLine (lines.outside_line words.FOLDER.now) texts.OUTSIDE_STATUS before after status
+TellsGraph graph.OutOfMemory before after status = Lacks before after status
+
+abbrev pub TellsLoad : LoadFault → (before after : Stand (List ℕ)) → (status : ℕ) → Type 0
+TellsLoad (load.Syntax name path place what) before after status = PutsLine (syntax_line name path place what) texts.LOADING_STATUS before after status
+TellsLoad (load.Missing name request) before after status = PutsLine (missing_line name request) texts.LOADING_STATUS before after status
+TellsLoad (load.TooMany what count) before after status = PutsLine (lines.too_many_line what count) texts.LOADING_STATUS before after status
+TellsLoad load.Folder before after status = PutsLine (lines.outside_line words.FOLDER.now) texts.OUTSIDE_STATUS before after status
+TellsLoad load.OutOfMemory before after status = Lacks before after status
+
+-- what is told of each outcome, and the exit status
+abbrev pub RunReports : RunOutcome → (before after : Stand (List ℕ)) → (status : ℕ) → Type 0
+RunReports (outcome.Ran r) before after status = TellsRun r before after status
+RunReports (outcome.Graph f) before after status = TellsGraph f before after status
+RunReports (outcome.Load f) before after status = TellsLoad f before after status
+RunReports (outcome.Prelude place what) before after status = PutsLine (syntax_line words.PRELUDE_PACKAGE.now words.PRELUDE_PATH.now place what) texts.LOADING_STATUS before after status
+RunReports outcome.OutOfMemory before after status = Lacks before after status
+
+-- THE ANSWERS
+
+-- `run DIR`: some outcome has its cause, and then it is told on the errors alone
+pub record RunAnswers (directory : List ℕ) (budget : ℕ) (before after : HostWorld) (status : ℕ) : Type 0 where
+  pub outcome : RunOutcome
+  pub mid : HostWorld
+  pub comes : RunComes directory budget before mid outcome
+  pub told : RunReports outcome mid.errors after.errors status
+  pub rest : after ≡ record mid { errors = after.errors }
+
+-- what a command changes of the outside, where it leaves input and clock
+abbrev pub outside_in : HostWorld → Outside
+outside_in w = outside w.folder w.output w.errors
+
+-- `tree FILE`
+pub record TreeAnswersIn (file : List ℕ) (before after : HostWorld) (status : ℕ) : Type 0 where
+  pub answers : TreeAnswers file (outside_in before) (outside_in after) status
+  pub input : after.input ≡ before.input
+  pub clock : after.clock ≡ before.clock
+
+-- a usage fault: its line is told, and nothing else is touched
+pub record UsageAnswers (before after : HostWorld) (status : ℕ) : Type 0 where
+  pub told : puts.Puts texts.USAGE_LINE.now texts.USAGE_STATUS before.errors after.errors status
+  pub rest : after ≡ record before { errors = after.errors }
+
+abbrev pub AnswersTo : Option Asked → (before after : HostWorld) → (status : ℕ) → Type 0
+AnswersTo None before after status = UsageAnswers before after status
+AnswersTo (Some (Runs directory budget)) before after status = RunAnswers directory budget before after status
+AnswersTo (Some (Trees file)) before after status = TreeAnswersIn file before after status
+
+-- the answer to words
+abbrev pub CommandAnswers : (said : List (List ℕ)) → (before after : HostWorld) → (status : ℕ) → Type 0
+CommandAnswers said before after status = AnswersTo (command_of said) before after status

@@ -1,0 +1,70 @@
+// The command `lava run DIR`.
+
+ghost use Rattle.std.specs.Prelude.{◌≡◌};
+ghost use Rattle.lava_host.specs.Hosts.{host_world};
+ghost use Rattle.lava_cli.specs.RunAnswers.{RunComes, RunsOf};
+
+use crate::loading::{LoadingFault, load_application};
+use crate::outcome::RunOutcome;
+use lava_runner::app::run_app;
+use lava_runner::common::RunFault;
+use lava_streams::clock::Clock;
+use lava_streams::folder::Folder;
+use lava_streams::sink::Sink;
+use lava_streams::source::Source;
+use pkg_load::load::Application;
+use pkg_source::code::ModuleCode;
+use std::alloc::Global;
+
+/// Runs an application.
+fn run_loaded<F: Folder, I: Source, O: Sink, E: Sink, C: Clock>(
+    alloc: Global,
+    app: &Application<ModuleCode>,
+    directory: &str,
+    budget: u64,
+    folder: &mut F,
+    input: &mut I,
+    out: &mut O,
+    err: &mut E,
+    clock: &mut C,
+) -> RunOutcome
+    ensures { let before = host_world (F.Folder.stand folder.old) (I.Source.stand input.old)
+        (O.Sink.stand out.old) (E.Sink.stand err.old) (C.Clock.stand clock.old) in
+        let after = host_world (F.Folder.stand folder.new) (I.Source.stand input.new)
+        (O.Sink.stand out.new) (E.Sink.stand err.new) (C.Clock.stand clock.new) in
+        RunsOf directory.now app.now.modules budget before after result }
+{
+    match run_app(
+        alloc, app, budget, true, directory, folder, input, out, err, clock,
+    ) {
+        Ok(report) => RunOutcome::Ran(report),
+        Err(RunFault::Prelude(place, what)) => RunOutcome::Prelude(place, what),
+        Err(RunFault::OutOfMemory) => RunOutcome::OutOfMemory,
+    }
+}
+
+/// Loads the application of a directory, and runs its own package.
+pub fn run_directory<F: Folder, I: Source, O: Sink, E: Sink, C: Clock>(
+    alloc: Global,
+    directory: &str,
+    budget: u64,
+    folder: &mut F,
+    input: &mut I,
+    out: &mut O,
+    err: &mut E,
+    clock: &mut C,
+) -> RunOutcome
+    ensures { let before = host_world (F.Folder.stand folder.old) (I.Source.stand input.old)
+        (O.Sink.stand out.old) (E.Sink.stand err.old) (C.Clock.stand clock.old) in
+        let after = host_world (F.Folder.stand folder.new) (I.Source.stand input.new)
+        (O.Sink.stand out.new) (E.Sink.stand err.new) (C.Clock.stand clock.new) in
+        RunComes directory.now budget before after result }
+{
+    match load_application(alloc, directory, folder) {
+        Ok(app) => run_loaded(
+            alloc, &app, directory, budget, folder, input, out, err, clock,
+        ),
+        Err(LoadingFault::Graph(fault)) => RunOutcome::Graph(fault),
+        Err(LoadingFault::Load(fault)) => RunOutcome::Load(fault),
+    }
+}

@@ -1,0 +1,127 @@
+-- The report on a run that is over.
+use Rattle.std.proofs.Common.{◌≡◌, ◌<◌, ℕ, zero, suc, Bool, true, false, List, [], ◌∷◌, get_or, set, length, nat_eq, Option, Some, None, refl, sym, ap, ◌∙◌, subst, arith, Result, Ok, Err, IfOk, ⊎_elim, if◌then◌else◌}
+use Rattle.std.proofs.lemmas.Bool.Decides.{eqb_tells}
+use Rattle.std.specs.Option.{option_map}
+use Rattle.lava_base.specs.Ids.{same_ref}
+use Rattle.lava_base.specs.declared.ids.MadeSymbol.{MadeSymbol}
+use Rattle.lava_base.specs.declared.ids.Ref.{Ref}
+use Rattle.lava_base.specs.declared.marks.Marks.{Marks}
+use Rattle.js_text.specs.Naming.{Origin, Own, Common, Foreign, naming_of, origin_of}
+use Rattle.js_store.specs.Foreign.{marks_of}
+use Rattle.js_store.specs.Objects.{object_at}
+use Rattle.js_run.specs.Heap as heap
+use Rattle.js_run.specs.Heap.{Over_with, World, begins}
+use Rattle.js_run.specs.Completions as halt
+use Rattle.js_run.specs.Journal.{Application, Fault, foreign_of}
+use Rattle.js_run.specs.Laws.{IsWellMade, Journal_is_net}
+use Rattle.js_run.specs.Parties.{Party}
+use Rattle.js_run.specs.Laws as laws
+use Rattle.js_run.specs.Net.{net}
+use Rattle.js_machine.specs.Begun as begun
+use Rattle.js_machine.specs.Begun.{own_of}
+use Rattle.js_machine.specs.Looks.{marks_at, marks_in}
+use Rattle.js_machine.specs.Views.{View}
+use Rattle.js_world.specs.Crossings.{Rests}
+use Rattle.js_world.specs.Worlds.{HasAnswered, IsOver, KeepsAnswer, Reads, WorldView, ending_of, last_reply, no_own, own_here, turned}
+use Rattle.js_world.specs.declared.ending.Ending.{Ending}
+use Rattle.js_world.specs.declared.ending.Ending.TheVariants as ending
+use Rattle.lava_host.specs.Hosts.{HostWorld}
+use Rattle.lava_host.specs.Printed.{printed_reference, printed_value}
+use Rattle.lava_start.specs.Applications.{RunParts, root_application}
+use Rattle.lava_start.specs.Firsts.{IsFirstWorld}
+use Rattle.lava_start.specs.Laws.{Runs_are_well_made}
+use Rattle.pkg_load.specs.declared.module.LoadedModule.{LoadedModule}
+use Rattle.pkg_source.specs.declared.code.ModuleCode.{ModuleCode}
+use Rattle.lava_runner.specs.Commons.{IsCommonPart}
+use Rattle.lava_runner.specs.Ran.{AreAskedIn, BeginsSo, HasRun, IsAskedIn}
+use Rattle.lava_runner.specs.Reports.{EndsSo, HasReport, HasRunFrom, IsApplicationOf, IsFirstOf, IsReportOf, IsRunOf, IsUncaughtText, parts_of, uncaught_text}
+use Rattle.lava_runner.specs.Talks.{Agrees, Talk}
+use Rattle.lava_runner.specs.Uncaught.{IsUncaughtIn, Thrown, host_marks, marks_there, shown, thrown_in, uncaught_of}
+use Rattle.lava_runner.specs.declared.app.Report.{Report}
+use Rattle.lava_runner.specs.declared.common.CommonPart.{CommonPart}
+use Rattle.lava_runner.specs.declared.run.Ran.{Ran}
+
+-- THE APPLICATION BEGINS AS THE FIRST WORLD RESTS
+
+pub begins_so : (parts : RunParts) (budget : ℕ) (v : WorldView) → IsFirstWorld parts budget v → (app : Application) → IsApplicationOf parts app → BeginsSo v app
+begins_so parts budget v f app a = subst (λ x. Rests x (begins x) v) (sym a.is) (f.rests a.surroundings (subst Reads a.is a.reads))
+
+asked_in : (parts : RunParts) (budget : ℕ) (v : WorldView) (f : IsFirstWorld parts budget v) (ts : List Talk) → AreAskedIn (BeginsSo v) v.budget ts → AreAskedIn (IsApplicationOf parts) budget ts
+asked_in parts budget v f [] a = tt
+asked_in parts budget v f (t ∷ ts) a =
+    ((λ app b g e. subst (λ n. (c : ℕ) × ((heap.heap app n c).control ≡ Over_with (Fault t.party halt.Outside))) f.limit (a.0 app (begins_so parts budget v f app b) g e)), asked_in parts budget v f ts a.1)
+
+-- WHAT NOTHING CAUGHT
+
+-- the things of the host are in the machine once it is turned to it
+laid_down : (xs : List begun.Own) (p : ℕ) (x : begun.Own) → p < length xs → get_or (set xs p x) 0 no_own ≡ (if nat_eq p 0 then x else get_or xs 0 no_own)
+laid_down [] p x l = absurd (omega (arith, l))
+laid_down (y ∷ ys) zero x l = refl
+laid_down (y ∷ ys) (suc p) x l = ⊎_elim (λ h. absurd (omega (arith, h.1))) (λ h. ap (λ b. if b then x else y) (sym h.0)) (eqb_tells (suc p) 0)
+
+own_turned : (v : WorldView) → v.machine.me < length v.others → own_of (turned 0 v).machine ≡ own_here v 0
+own_turned v l = laid_down v.others v.machine.me (own_of v.machine) l
+
+marks_same : (app : Application) (w : World) (m : View) (r : Ref) (o : Origin) → m.objects ≡ (w.own 0).objects → m.common ≡ app.shared.objects → m.known ≡ foreign_of app w.journal → marks_at m r o ≡ marks_there app w r o
+marks_same app w m r (Own i) a b c = ap (λ xs. (object_at xs i).marks) a
+marks_same app w m r (Common k) a b c = ap (λ xs. (object_at xs k).marks) b
+marks_same app w m r Foreign a b c = ap (λ known. marks_of same_ref r known) c
+
+marks_seen : (app : Application) (w : World) (v : WorldView) → HasAnswered app w v → v.machine.me < length v.others → 0 < length v.others → (r : Ref) → marks_in (turned 0 v).machine r ≡ host_marks app w r
+marks_seen app w v h l g r =
+    let m = (turned 0 v).machine in
+    let own = own_turned v l in
+    let me : m.me ≡ 0 = ap (λ (o : begun.Own). o.me) own ∙ h.suits.me 0 g in
+    let objects : m.objects ≡ (w.own 0).objects = ap (λ (o : begun.Own). o.objects) own ∙ ap (λ (p : Party Ref MadeSymbol). p.objects) (sym (h.own 0 g)) in
+    ap (λ n. marks_at m r ((naming_of n).origin r)) me ∙ marks_same app w m r (origin_of 0 r) objects h.suits.objects h.counts.known
+
+told : (app : Application) (w : World) (v : WorldView) (text : Option (List ℕ)) → HasAnswered app w v → IsUncaughtIn v text → text ≡ uncaught_of app w
+told app w v text h u =
+    let same : marks_in (turned 0 v).machine ≡ host_marks app w = λ j r. marks_seen app w v h u.here u.host r j in
+    let show : (Ref → Marks) → Thrown → List ℕ = λ f x. printed_value (λ r. printed_reference (f r)) x in
+    u.is ∙ ap (λ f. option_map (show f) (thrown_in v.last)) same ∙ ap (λ o. option_map (shown app w) (thrown_in o)) h.last
+
+uncaught_so : (app : Application) (w : World) (v : WorldView) (e : Ending) (text : Option (List ℕ)) → KeepsAnswer app w v e → IsUncaughtText v e text → text ≡ uncaught_text e (uncaught_of app w)
+uncaught_so app w v ending.Uncaught text k u = told app w v text k u
+uncaught_so app w v ending.Done text k u = u
+uncaught_so app w v (ending.Budget p) text k u = u
+uncaught_so app w v (ending.Fault p h) text k u = u
+
+-- THE RUN OF AN APPLICATION
+
+pub ran_from : {E : Type 0} (r : Result Report E) (emit : Bool) (dir : List ℕ) (ms : List (LoadedModule ModuleCode)) (c : CommonPart) (budget : ℕ) (before after : HostWorld) (first : WorldView) → IsFirstOf ms c budget first
+    → IfOk r (HasReport emit dir first before after) → IfOk r (HasRunFrom emit dir ms c budget before after)
+ran_from (Ok r) emit dir ms c budget before after first f h = record { first = first; is = f; report = h }
+ran_from (Err e) emit dir ms c budget before after first f h = tt
+
+ends_so : Journal_is_net → Runs_are_well_made → (parts : RunParts) (budget crossings : ℕ) (last : WorldView) (ran : Ran) (r : Report) → IsReportOf last ran r → (app : Application) → IsApplicationOf parts app
+    → IsOver app (heap.heap app budget crossings) last ran.ending → EndsSo app budget crossings r
+ends_so law made parts budget n last ran r s app a over =
+    let is : (heap.heap app budget n).control ≡ Over_with (ending_of r.ending) = over.control ∙ ap (λ e. Over_with (ending_of e)) (sym s.ending) in
+    let well = subst IsWellMade (sym a.is) (made parts a.surroundings) in
+    record {
+      machine = is;
+      network = sym (law app well budget n).ending ∙ ap laws.ending_of is;
+      uncaught = uncaught_so app (heap.heap app budget n) last ran.ending r.uncaught over.answer s.uncaught ∙ ap (λ e. uncaught_text e (uncaught_of app (heap.heap app budget n))) (sym s.ending);
+    }
+
+pub is_run : Journal_is_net → Runs_are_well_made → (emit : Bool) (dir : List ℕ) (ms : List (LoadedModule ModuleCode)) (budget : ℕ) (before after : HostWorld) (r : Report) (c : CommonPart)
+    → IsCommonPart c → HasRunFrom emit dir ms c budget before after r → IsRunOf emit dir ms budget before after r
+is_run law made emit dir ms budget before after r c part run =
+    let first = run.first in
+    let f = run.is in
+    let h = run.report in
+    let come = h.runs.come in
+    let parts = parts_of c ms in
+    record {
+      common = c;
+      part = part;
+      talks = come.talks;
+      outside = come.outside;
+      which = h.report.which ∙ come.newest;
+      asked = asked_in parts budget first f come.talks come.asked;
+      crossings = suc come.underway.crossings;
+      ends = λ app a g.
+          ends_so law made parts budget (suc come.underway.crossings) h.last h.ran r h.report app a
+          (subst (λ b. IsOver app (heap.heap app b (suc come.underway.crossings)) h.last h.ran.ending) f.limit (come.underway.after app (begins_so parts budget first f app a) g));
+    }

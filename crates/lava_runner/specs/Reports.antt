@@ -1,0 +1,83 @@
+-- The run of an application, and the report on it.
+use Rattle.std.specs.Prelude.{◌≡◌, ℕ, Bool, List, Option, Some, None}
+use Rattle.js_run.specs.Heap.{Over_with, World, heap}
+use Rattle.js_run.specs.Journal.{Application}
+use Rattle.js_run.specs.Net.{net}
+use Rattle.js_world.specs.Worlds.{Reads, WorldView, ending_of}
+use Rattle.js_world.specs.declared.ending.Ending.{Ending}
+use Rattle.js_world.specs.declared.ending.Ending.TheVariants as ending
+use Rattle.lava_host.specs.Hosts.{HostWorld}
+use Rattle.lava_start.specs.Applications.{RunParts, Surroundings, root_application}
+use Rattle.lava_start.specs.Firsts.{IsFirstWorld, run_parts_of}
+use Rattle.pkg_load.specs.declared.module.LoadedModule.{LoadedModule}
+use Rattle.pkg_source.specs.declared.code.ModuleCode.{ModuleCode}
+use Rattle.lava_runner.specs.Commons.{IsCommonPart}
+use Rattle.lava_runner.specs.Modules.{main_path, sources_of}
+use Rattle.lava_runner.specs.Ran.{AreAskedIn, HasRun}
+use Rattle.lava_runner.specs.Talks.{Agrees, AreTalks, Talk, newest_failed}
+use Rattle.lava_runner.specs.Uncaught.{IsUncaughtIn, uncaught_of}
+use Rattle.lava_runner.specs.declared.app.Report.{Report}
+use Rattle.lava_runner.specs.declared.app.TheConstants.{OWN_PACKAGE}
+use Rattle.lava_runner.specs.declared.common.CommonPart.{CommonPart}
+use Rattle.lava_runner.specs.declared.run.Ran.{Ran}
+
+-- what the run of an application's own package is made of
+abbrev pub parts_of : CommonPart → List (LoadedModule ModuleCode) → RunParts
+parts_of c ms = run_parts_of c.objects c.templates (main_path ms) (sources_of OWN_PACKAGE ms)
+
+abbrev pub IsFirstOf : List (LoadedModule ModuleCode) → CommonPart → (budget : ℕ) → WorldView → Type 0
+IsFirstOf ms c budget v = IsFirstWorld (parts_of c ms) budget v
+
+-- an application of the host and the application's own package, whatever its outside answers and however it reads texts as programs
+pub record IsApplicationOf (parts : RunParts) (app : Application) : Type 0 where
+  pub surroundings : Surroundings
+  pub is : app ≡ root_application parts surroundings
+  pub reads : Reads app
+
+-- what is told of what nothing caught: the thrown value where there is one, and else nothing
+abbrev pub uncaught_text : Ending → Option (List ℕ) → Option (List ℕ)
+uncaught_text ending.Uncaught text = text
+uncaught_text ending.Done text = None
+uncaught_text (ending.Budget p) text = None
+uncaught_text (ending.Fault p h) text = None
+
+abbrev pub IsUncaughtText : WorldView → Ending → Option (List ℕ) → Type 0
+IsUncaughtText v ending.Uncaught text = IsUncaughtIn v text
+IsUncaughtText v ending.Done text = text ≡ None
+IsUncaughtText v (ending.Budget p) text = text ≡ None
+IsUncaughtText v (ending.Fault p h) text = text ≡ None
+
+-- the report on a run that left the machine so
+pub record IsReportOf (v : WorldView) (ran : Ran) (r : Report) : Type 0 where
+  pub ending : r.ending ≡ ran.ending
+  pub which : r.which ≡ ran.failed
+  pub uncaught : IsUncaughtText v ran.ending r.uncaught
+
+pub record HasReport (emit : Bool) (dir : List ℕ) (first : WorldView) (before after : HostWorld) (r : Report) : Type 0 where
+  pub last : WorldView
+  pub ran : Ran
+  pub runs : HasRun emit dir first before last ran after
+  pub report : IsReportOf last ran r
+
+-- the run of these modules from a first world of theirs
+pub record HasRunFrom (emit : Bool) (dir : List ℕ) (ms : List (LoadedModule ModuleCode)) (c : CommonPart) (budget : ℕ) (before after : HostWorld) (r : Report) : Type 0 where
+  pub first : WorldView
+  pub is : IsFirstOf ms c budget first
+  pub report : HasReport emit dir first before after r
+
+-- so many crossings after its first import the run of an application is over: so the machine of all parties says, and the network
+pub record EndsSo (app : Application) (budget crossings : ℕ) (r : Report) : Type 0 where
+  pub machine : (heap app budget crossings).control ≡ Over_with (ending_of r.ending)
+  pub network : (net app budget crossings).ending ≡ Some (ending_of r.ending)
+  pub uncaught : r.uncaught ≡ uncaught_text r.ending (uncaught_of app (heap app budget crossings))
+
+-- the run of an application's own package: what it asks of the host, each in its turn, is what was done to the outside, and in each application whose outside answers so it ends with this report
+pub record IsRunOf (emit : Bool) (dir : List ℕ) (ms : List (LoadedModule ModuleCode)) (budget : ℕ) (before after : HostWorld) (r : Report) : Type 0 where
+  pub common : CommonPart
+  pub part : IsCommonPart common
+  pub talks : List Talk
+  pub outside : AreTalks emit dir talks before after
+  pub which : r.which ≡ newest_failed talks
+  pub asked : AreAskedIn (IsApplicationOf (parts_of common ms)) budget talks
+  pub crossings : ℕ
+  pub ends : (app : Application) → IsApplicationOf (parts_of common ms) app → Agrees app talks → EndsSo app budget crossings r

@@ -1,0 +1,183 @@
+// The run of an application.
+
+ghost use Rattle.std.specs.Prelude.{◌≡◌, [], IfOk, MatchResult};
+ghost use Rattle.lava_host.specs.Hosts.{host_world};
+ghost use Rattle.lava_start.specs.Firsts.{IsFirstWorld};
+ghost use Rattle.lava_runner.specs.Commons.{HasRunCause, IsCommonPart};
+ghost use Rattle.lava_runner.specs.Ran.{HasRun};
+ghost use Rattle.lava_runner.specs.Reports.{HasReport, HasRunFrom, IsFirstOf, IsReportOf, IsRunOf};
+ghost use Rattle.lava_runner.specs.Reports.{IsUncaughtText};
+
+use crate::common::{CommonPart, RunFault, common_part};
+use crate::modules::{main_path, sources_of};
+use crate::run::{Ran, run};
+use crate::uncaught::uncaught;
+use js_run_laws::journal_is_net;
+use js_world::ending::Ending;
+use js_world::world::World;
+use lava_base::list::List;
+use lava_base::memory::OutOfMemory;
+use lava_host::fault::Which;
+use lava_start::first::first_world;
+use lava_start::laws::runs_are_well_made;
+use lava_streams::clock::Clock;
+use lava_streams::folder::Folder;
+use lava_streams::sink::Sink;
+use lava_streams::source::Source;
+use pkg_load::load::Application;
+use pkg_load::module::LoadedModule;
+use pkg_source::code::ModuleCode;
+use std::alloc::Global;
+
+/// The place of the application's own package among the packages.
+pub const OWN_PACKAGE: usize = 0;
+
+/// How a run ended.
+#[derive(Drop)]
+pub struct Report {
+    pub ending: Ending,
+    /// The thrown value as `console` prints it, where the ending is `Uncaught`.
+    pub uncaught: Option<List<u8>>,
+    /// The object of the outside whose call failed, where one did.
+    pub which: Option<Which>,
+}
+
+/// The machine of all parties before an application's own package runs.
+fn first_of(
+    alloc: Global,
+    modules: &[LoadedModule<ModuleCode>],
+    common: CommonPart,
+    budget: u64,
+) -> Result<World, OutOfMemory>
+    ensures { let c = common in
+        IfOk result (IsFirstOf modules.now c budget) }
+{
+    let CommonPart { objects, templates } = common;
+    let main = main_path(alloc, modules)?;
+    let sources = sources_of(alloc, OWN_PACKAGE, modules)?;
+    first_world(
+        alloc,
+        objects,
+        templates.as_slice(),
+        sources.as_slice(),
+        &main,
+        budget,
+    )
+}
+
+/// The thrown value as `console` prints it, where a run ends by it.
+fn uncaught_at(
+    alloc: Global,
+    world: &mut World,
+    ending: Ending,
+) -> Result<Option<List<u8>>, OutOfMemory>
+    ensures { IfOk result (IsUncaughtText world.old ending) }
+{
+    match ending {
+        Ending::Uncaught => uncaught(alloc, world),
+        _ => Ok(None),
+    }
+}
+
+/// The report on a run that is over.
+fn report_of(alloc: Global, world: &mut World, ran: Ran) -> Result<Report, OutOfMemory>
+    ensures { IfOk result (IsReportOf world.old ran) }
+{
+    let uncaught = uncaught_at(alloc, world, ran.ending)?;
+    Ok(Report {
+        ending: ran.ending,
+        uncaught,
+        which: ran.failed,
+    })
+}
+
+/// Runs an application from a world in which nothing has happened, and reports on it.
+fn run_world<F: Folder, I: Source, O: Sink, E: Sink, C: Clock>(
+    alloc: Global,
+    world: &mut World,
+    emit: bool,
+    dir: &str,
+    folder: &mut F,
+    input: &mut I,
+    out: &mut O,
+    err: &mut E,
+    clock: &mut C,
+) -> Result<Report, OutOfMemory>
+    requires { world.now.machine.frames ≡ [] }
+    ensures { let before = host_world (F.Folder.stand folder.old) (I.Source.stand input.old)
+        (O.Sink.stand out.old) (E.Sink.stand err.old) (C.Clock.stand clock.old) in
+        let after = host_world (F.Folder.stand folder.new) (I.Source.stand input.new)
+        (O.Sink.stand out.new) (E.Sink.stand err.new) (C.Clock.stand clock.new) in
+        IfOk result (HasReport emit dir.now world.old before after) }
+{
+    let ran = run(world, alloc, emit, dir, folder, input, out, err, clock)?;
+    report_of(alloc, world, ran)
+}
+
+/// Runs the modules of an application's own package over a common part, and reports on it.
+fn run_modules<F: Folder, I: Source, O: Sink, E: Sink, C: Clock>(
+    alloc: Global,
+    modules: &[LoadedModule<ModuleCode>],
+    common: CommonPart,
+    budget: u64,
+    emit: bool,
+    dir: &str,
+    folder: &mut F,
+    input: &mut I,
+    out: &mut O,
+    err: &mut E,
+    clock: &mut C,
+) -> Result<Report, OutOfMemory>
+    ensures { let before = host_world (F.Folder.stand folder.old) (I.Source.stand input.old)
+        (O.Sink.stand out.old) (E.Sink.stand err.old) (C.Clock.stand clock.old) in
+        let after = host_world (F.Folder.stand folder.new) (I.Source.stand input.new)
+        (O.Sink.stand out.new) (E.Sink.stand err.new) (C.Clock.stand clock.new) in
+        IfOk result (HasRunFrom emit dir.now modules.now common budget before after) }
+{
+    let mut world = first_of(alloc, modules, common, budget)?;
+    run_world(alloc, &mut world, emit, dir, folder, input, out, err, clock)
+}
+
+/// Runs the own package of an application: the common part is locked, the main module is imported, and what it asks of the host is done to the outside.
+/// Where lines are not emitted, `console` prints nothing. The budget is the number of steps that all parties may take together.
+pub fn run_app<F: Folder, I: Source, O: Sink, E: Sink, C: Clock>(
+    alloc: Global,
+    app: &Application<ModuleCode>,
+    budget: u64,
+    emit: bool,
+    dir: &str,
+    folder: &mut F,
+    input: &mut I,
+    out: &mut O,
+    err: &mut E,
+    clock: &mut C,
+) -> Result<Report, RunFault>
+    ensures runs { let before = host_world (F.Folder.stand folder.old) (I.Source.stand input.old)
+        (O.Sink.stand out.old) (E.Sink.stand err.old) (C.Clock.stand clock.old) in
+        let after = host_world (F.Folder.stand folder.new) (I.Source.stand input.new)
+        (O.Sink.stand out.new) (E.Sink.stand err.new) (C.Clock.stand clock.new) in
+        IfOk result (IsRunOf emit dir.now app.now.modules budget before after) }
+    ensures cause { MatchResult result (λ r. Unit {0}) HasRunCause }
+{
+    journal_is_net();
+    runs_are_well_made();
+    match common_part(alloc) {
+        Ok(common) => {
+            let report = run_modules(
+                alloc,
+                app.modules(),
+                common,
+                budget,
+                emit,
+                dir,
+                folder,
+                input,
+                out,
+                err,
+                clock,
+            )?;
+            Ok(report)
+        }
+        Err(fault) => Err(fault),
+    }
+}

@@ -1,0 +1,5 @@
+pub mod Paths_laws
+pub mod Functions_laws
+pub mod Bodies_laws
+pub mod Prelude_laws
+mod Marks_laws
