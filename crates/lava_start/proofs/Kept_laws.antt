@@ -68,7 +68,7 @@ both_within : (c : Tables) (ms ns : List Module) → ModulesWithin c ms → Modu
 both_within c [] ns v w = w
 both_within c (m ∷ ms) ns v w = (v.0, both_within c ms ns v.1 w)
 
-map_both : {A B : Type 0} (f : A → B) (xs ys : List A) → map f (xs ++ ys) ≡ map f xs ++ map f ys
+pub map_both : {A B : Type 0} (f : A → B) (xs ys : List A) → map f (xs ++ ys) ≡ map f xs ++ map f ys
 map_both f [] ys = refl
 map_both f (x ∷ xs) ys = ap (λ t. f x ∷ t) (map_both f xs ys)
 

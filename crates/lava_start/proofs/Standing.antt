@@ -1,160 +1,220 @@
 -- That the machine of all parties stands where a run begins.
-use Rattle.std.proofs.Common.{Bool, ◌≡◌, ℕ, zero, suc, ◌<◌, Result, Ok, Err, IfOk, true, false, ◌||◌, cond, unwrap_or, Some, List, [], ◌∷◌, None, length, map, nat_eq, if◌then◌else◌, refl, sym, ap, ◌∙◌, subst, arith}
+use Rattle.std.proofs.Common.{◌≡◌, ℕ, zero, suc, ◌<◌, ◌+◌, Bool, true, false, List, [], ◌∷◌, ◌++◌, length, map, get_or, nat_eq, slice_get, take, Some, None, Option, cond, unwrap_or, Result, Ok, Err, IfOk,  if◌then◌else◌, refl, sym, ap, ◌∙◌, subst, arith}
+use Rattle.std.proofs.lemmas.List.{append_assoc, length-take-le, take_more}
 use Rattle.lava_base.specs.declared.ids.Ref.{Ref}
 use Rattle.lava_base.specs.declared.marks.Marks.{Marks}
 use Rattle.js_text.specs.Naming.{naming_of}
 use Rattle.js_text.specs.Texts.{same_units}
 use Rattle.js_code.specs.Settled.{Extends}
 use Rattle.js_code.specs.Tables.{Tables}
+use Rattle.js_store.specs.Frozen.{CommonObject}
+use Rattle.js_store.specs.Objects.{Owned}
 use Rattle.js_run.specs.Hosts.{host_objects}
 use Rattle.js_run.specs.Journal.{foreign_of, root_link}
 use Rattle.js_run.specs.Parties.{Loaded}
-use Rattle.js_run.specs.Starts.{host_party, package_global, root_endowments}
-use Rattle.js_store.specs.Frozen.{CommonObject}
-use Rattle.js_store.specs.Objects.{Owned}
-use Rattle.js_machine.specs.Begun as begun
-use Rattle.js_machine.specs.Begun.{Own, new_own, own_of}
-use Rattle.js_machine.specs.Packages.{Package, loaded_of}
-use Rattle.js_machine.specs.Views.{View}
-use Rattle.js_machine.specs.declared.asked.Answer.{Answer}
-use Rattle.js_machine.specs.declared.asked.Asked.{Asked}
-use Rattle.js_machine.specs.declared.asked.Imported.{Imported}
-use Rattle.js_machine.specs.declared.package.Module.{Module}
+use Rattle.js_run.specs.Starts.{host_party}
 use Rattle.js_term.specs.declared.term.Template.{Template}
+use Rattle.js_machine.specs.Begun as begun
+use Rattle.js_machine.specs.Begun.{Own, left_of, new_own, own_of}
+use Rattle.js_machine.specs.Packages.{Package, loaded_of}
+use Rattle.js_machine.specs.Views.{View, templates_at}
 use Rattle.js_world.specs.First.{IsFirst, RestsFirst, as_new}
+use Rattle.js_world.specs.Leads.{leads_by}
+use Rattle.js_world.specs.Worlds.{leads_to, Reads, WorldView, no_own, own_here}
+use Rattle.js_world.proofs.Kept.{at_home, elsewhere}
 use Rattle.js_world.specs.declared.leads.Lead.{Lead}
-use Rattle.js_world.specs.Worlds.{leads_to, Reads, WorldView, own_here}
-use Rattle.lava_start.specs.Applications.{RunParts, Surroundings, first_starts, host_start, link_target, may_import, root_application, root_start, start_at}
-use Rattle.lava_start.specs.Firsts.{IsFirstWorld, HostStands, IsHost, IsMachineOf, IsRootMachine, IsRootOver, StandsAs, first_leads, host_known, host_things, run_parts_of, root_things}
-use Rattle.lava_start.specs.Making.{Thing, first_marks}
-use Rattle.lava_start.specs.Templates.{HaveSources, HaveTemplates, KeepsTemplates}
+use Rattle.lava_start.specs.Applications.{RunParts, Surroundings, all_starts, host_start, link_target, no_start, package_start, package_starts, run_application, start_at}
+use Rattle.lava_start.specs.Firsts.{AreAppended, AreOthers, ArePackagesOver, IsFirstWorld, IsHostMachine, IsPackageOver, IsPlace, IsWorldOver, StandsAs, allowed_names, host_leads, host_things, known_first, leads_in, part_of_link, package_with, parts_of, run_parts_of}
+use Rattle.lava_start.specs.Grants.{package_builtin, package_objects}
+use Rattle.lava_start.specs.Making.{Thing}
+use Rattle.lava_start.specs.Templates.{HaveSources, HaveTemplates, KeepsTemplates, loaded_source}
 use Rattle.lava_start.specs.declared.first.Prepared.{Prepared}
-use Rattle.lava_start.specs.declared.modules.SourceModule.{SourceModule}
+use Rattle.lava_start.specs.declared.packages.PackageSource.{PackageSource}
 use Rattle.lava_start.proofs.Kept_laws.{extended, have_still, sources_still}
+use Rattle.lava_start.proofs.Links.{allowed_so, led_so}
 
 -- THE HOST
 
--- the one link of the host leads to the application's own package, and no other name leads to a party that it may import
-host_link : (l : List ℕ) → (same_units l root_link || false) ≡ may_import host_start.links (link_target host_start.links l)
-host_link l = elim (same_units l root_link) as (λ b. (b || false) ≡ may_import host_start.links (unwrap_or (cond b (Some 1) None) 0)) [ true ↦ refl | false ↦ refl ]
+host_party_stands : (c : Tables) (s : Owned) → s.party.0 ≡ 0 → s.objects ≡ host_objects (naming_of 0) → StandsAs host_start 0 c (new_own s host_things (root_link ∷ []))
+host_party_stands c s party objects = record {
+  me = party;
+  own = ap (λ (os : List Thing). record host_party { objects = os }) (sym objects);
+  links = λ l. allowed_so host_start.links l;
+  meter = refl;
+}
 
-pub host_stands : (s : Owned) (o : Own) → o ≡ new_own s host_things (root_link ∷ []) → s.party.0 ≡ 0 → s.objects ≡ host_objects (naming_of 0) → IsHost host_start o
-host_stands s o is party objects =
-    let so : IsHost host_start (new_own s host_things (root_link ∷ [])) = record {
-      stands = λ c. record {
-        me = party;
-        own = ap (λ (os : List Thing). record host_party { objects = os }) (sym objects);
-        links = host_link;
-        meter = refl;
-      };
+-- A PACKAGE
+
+package_own : (p : ℕ) (x : PackageSource) (loaded : List Loaded) (objects : List Thing) → map loaded_source x.modules.items ≡ loaded → package_objects p x.globals x.builtins ≡ objects
+    → (package_start p (parts_of x)).own ≡ record (package_start p (parts_of x)).own { modules = loaded; objects = objects }
+package_own p x loaded objects e d = λ j. record (package_start p (parts_of x)).own { modules = e j; objects = d j }
+
+-- over a code that has grown
+pub package_stands : (c d : Tables) (p : ℕ) (x : PackageSource) (o : Own) → KeepsTemplates c d → IsPackageOver c p x o → StandsAs (package_start p (parts_of x)) p d o
+package_stands c d p x o keeps over =
+    let s = over.own.store in
+    let have : HaveSources d over.modules x.modules.items = sources_still c d over.modules x.modules.items keeps over.have in
+    let builtin = package_builtin p x.globals x.builtins in
+    let so : StandsAs (package_start p (parts_of x)) p d (new_own s (package_with x over.modules builtin) (allowed_names x.links.items)) = record {
+      me = over.own.party;
+      own = package_own p x (map (loaded_of d) over.modules) s.objects (sym have.are) (sym over.own.objects);
+      links = λ l. allowed_so (map part_of_link x.links.items) l;
+      meter = refl;
     } in
-    subst (IsHost host_start) (sym is) so
+    subst (StandsAs (package_start p (parts_of x)) p d) (sym over.own.is) so
 
--- THE APPLICATION'S OWN PACKAGE
+-- each package, by its place behind the first one
+pub packages_stand : (c d : Tables) (p : ℕ) (xs : List PackageSource) (os : List Own) → KeepsTemplates c d → ArePackagesOver c p xs os → (k : ℕ) → k < length os → StandsAs (get_or (package_starts p (map parts_of xs)) k no_start) (p + k) d (get_or os k no_own)
+packages_stand c d p [] [] keeps over k lt = absurd (omega (arith, lt))
+packages_stand c d p [] (o ∷ os) keeps over k lt = absurd over
+packages_stand c d p (x ∷ xs) [] keeps over k lt = absurd over
+packages_stand c d p (x ∷ xs) (o ∷ os) keeps over zero lt = subst (λ n. StandsAs (package_start p (parts_of x)) n d o) (omega arith) (package_stands c d p x o keeps over.0)
+packages_stand c d p (x ∷ xs) (o ∷ os) keeps over (suc k) lt = subst (λ n. StandsAs (get_or (package_starts (suc p) (map parts_of xs)) k no_start) n d (get_or os k no_own)) (omega arith) (packages_stand c d (suc p) xs os keeps over.1 k (omega (arith, lt)))
 
-root_own : (main : List ℕ) (loaded : List Loaded) (modules : List Loaded) (objects : List Thing) → loaded ≡ modules → objects ≡ package_global (naming_of 1) root_endowments ∷ []
-    → (root_start main modules).own ≡ record (root_start main modules).own { modules = loaded; objects = objects }
-root_own main loaded modules objects e d = λ j. record (root_start main modules).own { modules = sym e j; objects = sym d j }
+pub as_many : (c : Tables) (p : ℕ) (xs : List PackageSource) (os : List Own) → ArePackagesOver c p xs os → length os ≡ length (map parts_of xs)
+as_many c p [] [] over = refl
+as_many c p [] (o ∷ os) over = absurd over
+as_many c p (x ∷ xs) [] over = absurd over
+as_many c p (x ∷ xs) (o ∷ os) over = ap suc (as_many c (suc p) xs os over.1)
 
--- a new machine over a code that has the templates
-pub root_stands : (r : RunParts) (known : List (Ref × Marks)) (c : Tables) (s : Owned) (ms : List Module) (places : List ℕ) (asked : Asked) (answer : Answer) (imported : Imported) (m : View)
-    → m ≡ begun.as_new c s (root_things r.main ms) [] r.common places known asked answer imported → s.party.0 ≡ 1 → s.objects ≡ package_global (naming_of 1) root_endowments ∷ [] → HaveTemplates c places r.templates → map (loaded_of c) ms ≡ r.modules
-    → IsRootMachine r known m
-root_stands r known c s ms places asked answer imported m is party objects templates modules =
-    let so : IsRootMachine r known (begun.as_new c s (root_things r.main ms) [] r.common places known asked answer imported) = record {
-      common = refl;
-      templates = templates.are;
-      stands = record { me = party; own = root_own r.main (map (loaded_of c) ms) r.modules s.objects modules objects; links = λ l. refl; meter = refl };
-      knows = refl;
-      idle = refl;
-    } in
-    subst (IsRootMachine r known) (sym is) so
+-- WHERE THE LINK OF THE HOST LEADS
 
--- the places that were given keep what they have while more is appended
-pub root_made : (common : List CommonObject) (templates : List Template) (main : List ℕ) (sources : List SourceModule) (known : List (Ref × Marks)) (p : Prepared) (m : View)
-    → HaveTemplates p.code p.places.items templates → HaveSources p.code p.modules.items sources → IsRootOver common p main known m → IsRootMachine (run_parts_of common templates main sources) known m
-root_made common templates main sources known p m have has over =
-    let more : KeepsTemplates p.code m.code = extended p.code m.code over.extends in
-    root_stands (run_parts_of common templates main sources) known m.code over.store p.modules.items p.places.items m.asked m.answer m.imported m over.new over.party over.objects
-    (have_still p.code m.code p.places.items templates more have)
-    (sources_still p.code m.code p.modules.items sources more has).are
-
--- A MACHINE THAT IS MADE
-
-pub machine_made : {E : Type 0} → (r : Result View E) (c : Tables) (s : Owned) (own_package : Package) (allowed : List (List ℕ)) (common : List CommonObject) (places : List ℕ) (known : List (Ref × Marks)) → allowed ≡ [] → IfOk r (λ m. Extends c m.code)
-    → IfOk r (λ m. m ≡ begun.as_new m.code s own_package allowed common places known m.asked m.answer m.imported) → IfOk r (IsMachineOf c s own_package common places known)
-machine_made (Ok m) c s own_package allowed common places known e extends new = record { extends = extends; new = new ∙ ap (λ ls. begun.as_new m.code s own_package ls common places known m.asked m.answer m.imported) e }
-machine_made (Err e) c s own_package allowed common places known a b d = d
-
-pub root_over : {E : Type 0} → (r : Result View E) (common : List CommonObject) (p : Prepared) (main : List ℕ) (known : List (Ref × Marks)) (s : Owned) (own_package : Package) → own_package ≡ root_things main p.modules.items → s.party.0 ≡ 1 → s.objects ≡ package_global (naming_of 1) root_endowments ∷ []
-    → IfOk r (IsMachineOf p.code s own_package common p.places.items known) → IfOk r (IsRootOver common p main known)
-root_over (Ok m) common p main known s own_package e party objects made =
-    record { extends = made.extends; store = s; party = party; objects = objects; new = made.new ∙ ap (λ q. begun.as_new m.code s q [] common p.places.items known m.asked m.answer m.imported) e }
-root_over (Err e) common p main known s own_package q party objects made = made
+host_led : (l : List ℕ) (n : ℕ) → leads_by host_leads l ≡ Some n → link_target host_start.links l ≡ n
+host_led l n e = by (same_units l root_link) n e
+  where
+    by : (b : Bool) (n : ℕ) → (if b then Some 1 else None) ≡ Some n → unwrap_or (cond b (Some 1) None) 0 ≡ n
+    by true n e = cc e
+    by false n e = absurd (cc e)
 
 -- ALL PARTIES
 
--- the marks of the host's objects are what a run knows at its beginning
-first_known : (r : RunParts) (s : Surroundings) → first_marks (host_objects (naming_of 0)) (length (host_objects (naming_of 0))) ≡ foreign_of (root_application r s) []
+-- the marks of the host's objects, and that of the application's own global, are what a run knows at its beginning
+first_known : (r : RunParts) (s : Surroundings) → known_first ≡ foreign_of (run_application r s) []
 first_known r s = refl
 
-pub marks_known : (r : RunParts) (s : Surroundings) (objects : List Thing) (known : List (Ref × Marks)) → objects ≡ host_objects (naming_of 0) → known ≡ first_marks objects (length objects) → known ≡ foreign_of (root_application r s) []
-marks_known r s objects known e d = d ∙ ap (λ os. first_marks os (length os)) e ∙ first_known r s
+module _ (common : List CommonObject) (templates : List Template) (xs : List PackageSource) (p : Prepared) (m : View) (place : Own) (owns : List Own) (budget : ℕ)
+    (have : HaveTemplates p.code p.places.items templates) (over : ArePackagesOver p.code 1 xs owns) (host : IsHostMachine common p.code p.places.items m) where
+  abbrev parts : RunParts
+  parts = run_parts_of common templates xs
 
-root_led : (b : Bool) (n : ℕ) → (if b then Some 1 else None) ≡ Some n → unwrap_or (cond b (Some 1) None) 0 ≡ n
-root_led true n e = cc e
-root_led false n e = absurd (cc e)
-
-module _ (r : RunParts) (known : List (Ref × Marks)) (m : View) (host place : Own) (budget : ℕ) (root : IsRootMachine r known m) (first : IsHost host_start host) where
   abbrev world : WorldView
-  world = as_new m (host ∷ place ∷ []) first_leads budget
+  world = as_new m (place ∷ owns) (leads_in xs) budget
+
+  abbrev keeps : KeepsTemplates p.code m.code
+  keeps = extended p.code m.code host.extends
+
+  here : m.me ≡ 0
+  here = ap (λ (w : View). w.me) host.new ∙ host.party
+
+  own_there : own_of m ≡ new_own host.store host_things (root_link ∷ [])
+  own_there = ap own_of host.new
 
   -- each party has its place
-  stands : (q : ℕ) → q < 2 → StandsAs (start_at (first_starts r.main r.modules) q) q m.code (own_here world q)
+  stands : (q : ℕ) → q < length (place ∷ owns) → StandsAs (start_at (all_starts (map parts_of xs)) q) q m.code (own_here world q)
   stands zero lt =
-      let e : own_here world 0 ≡ host = ap (λ k. if nat_eq k 0 then own_of m else host) root.stands.me in
-      subst (λ (o : Own). StandsAs host_start 0 m.code o) (sym e) (first.stands m.code)
-  stands (suc zero) lt =
-      let e : own_here world 1 ≡ own_of m = ap (λ k. if nat_eq k 1 then own_of m else place) root.stands.me in
-      subst (λ (o : Own). StandsAs (root_start r.main r.modules) 1 m.code o) (sym e) root.stands
-  stands (suc (suc q)) lt = absurd (omega arith)
+      let e : own_here world 0 ≡ new_own host.store host_things (root_link ∷ []) = at_home m.me 0 (own_of m) place here ∙ own_there in
+      subst (λ (o : Own). StandsAs host_start 0 m.code o) (sym e) (host_party_stands m.code host.store host.party host.objects)
+  stands (suc q) lt =
+      let e : own_here world (suc q) ≡ get_or owns q no_own = elsewhere m.me (suc q) (own_of m) (get_or owns q no_own) (λ z. absurd (let bad : suc q ≡ 0 = sym z ∙ here in omega (arith, bad))) in
+      let so : StandsAs (start_at (all_starts (map parts_of xs)) (suc q)) (suc q) m.code (get_or owns q no_own) =
+        subst (λ n. StandsAs (get_or (package_starts 1 (map parts_of xs)) q no_start) n m.code (get_or owns q no_own)) (omega arith) (packages_stand p.code m.code 1 xs owns keeps over q (omega (arith, lt)))
+      in
+      subst (λ (o : Own). StandsAs (start_at (all_starts (map parts_of xs)) (suc q)) (suc q) m.code o) (sym e) so
 
   -- links lead where the starts say
-  lead_so : (q : ℕ) (l : List ℕ) (n : ℕ) → leads_to world q l ≡ Some n → link_target (start_at (first_starts r.main r.modules) q).links l ≡ n
-  lead_so zero l n e = root_led (same_units l root_link) n e
-  lead_so (suc zero) l n e = absurd (cc e)
-  lead_so (suc (suc q)) l n e = absurd (cc e)
+  lead_so : (q : ℕ) (l : List ℕ) (n : ℕ) → leads_to world q l ≡ Some n → link_target (start_at (all_starts (map parts_of xs)) q).links l ≡ n
+  lead_so zero l n e = host_led l n e
+  lead_so (suc q) l n e = led_so 1 xs q l n e
 
-  first_of : (s : Surroundings) → Reads (root_application r s) → known ≡ foreign_of (root_application r s) [] → IsFirst (root_application r s) world
-  first_of s reads e =
+  view_common : m.common ≡ common
+  view_common = ap (λ (w : View). w.common) host.new
+
+  view_templates : templates_at m.code m.common_templates ≡ templates
+  view_templates = ap (λ (w : View). templates_at m.code w.common_templates) host.new ∙ (have_still p.code m.code p.places.items templates keeps have).are
+
+  view_known : m.known ≡ known_first
+  view_known = ap (λ (w : View). w.known) host.new
+
+  first_of : (s : Surroundings) → Reads (run_application parts s) → IsFirst (run_application parts s) world
+  first_of s reads =
       record {
         suits = record {
           reads = reads;
-          objects = root.common;
-          templates = root.templates;
+          objects = view_common;
+          templates = view_templates;
           me = λ q lt. (stands q lt).me;
           links = λ q lt l. (stands q lt).links l;
           meters = λ q lt. (stands q lt).meter;
           leads = lead_so;
         };
         own = λ q lt. (stands q lt).own;
-        known = root.knows ∙ e;
+        known = view_known ∙ first_known parts s;
       }
 
-  begun_so : (objects : List Thing) → objects ≡ host_objects (naming_of 0) → known ≡ first_marks objects (length objects) → RestsFirst world → IsFirstWorld r budget world
-  begun_so objects e d law =
+  begun_so : RestsFirst world → IsFirstWorld parts budget world
+  begun_so law =
       record {
-        first = λ s reads. first_of s reads (marks_known r s objects known e d);
-        rests = λ s reads. law.rests (root_application r s) (first_of s reads (marks_known r s objects known e d));
-        parties = refl;
-        here = root.stands.me;
-        idle = root.idle;
-        leads = refl;
+        first = λ s reads. first_of s reads;
+        rests = λ s reads. law.rests (run_application parts s) (first_of s reads);
+        parties = ap suc (as_many p.code 1 xs owns over);
+        idle = ap left_of host.new;
         limit = refl;
       }
 
-pub world_begun : {E : Type 0} → (w : Result WorldView E) (r : RunParts) (known : List (Ref × Marks)) (m : View) (others : List Own) (leads : List (List Lead)) (budget : ℕ) → IsRootMachine r known m → HostStands others → known ≡ host_known → leads ≡ first_leads → IfOk w (λ v. v ≡ as_new m others leads budget) → IfOk w RestsFirst → IfOk w (IsFirstWorld r budget)
-world_begun (Ok v) r known m others leads budget root h k led is law =
-    let so : v ≡ as_new m (h.host ∷ h.are.place ∷ []) first_leads budget = is ∙ ap (λ os. as_new m os leads budget) h.are.are ∙ ap (λ ls. as_new m (h.host ∷ h.are.place ∷ []) ls budget) led in
-    subst (IsFirstWorld r budget) (sym so) (begun_so r known m h.host h.are.place budget root h.stands (host_objects (naming_of 0)) refl k (subst RestsFirst so law))
-world_begun (Err e) r known m others leads budget root h k led is law = law
+pub world_begun : {E : Type 0} → (w : Result WorldView E) (common : List CommonObject) (templates : List Template) (xs : List PackageSource) (p : Prepared) (leads : List (List Lead)) (budget : ℕ)
+    → HaveTemplates p.code p.places.items templates → AreOthers p.code xs p.others.items → leads ≡ leads_in xs → IfOk w (IsWorldOver common p leads budget) → IfOk w (IsFirstWorld (run_parts_of common templates xs) budget)
+world_begun (Ok v) common templates xs p leads budget have others led over =
+    let so : v ≡ as_new over.machine (others.place ∷ others.owns) (leads_in xs) budget = over.new ∙ ap (λ os. as_new over.machine os leads budget) others.are ∙ ap (λ ls. as_new over.machine (others.place ∷ others.owns) ls budget) led in
+    subst (IsFirstWorld (run_parts_of common templates xs) budget) (sym so) (begun_so common templates xs p over.machine others.place others.owns budget have others.stand over.host (subst RestsFirst so over.rests))
+world_begun (Err e) common templates xs p leads budget have others led over = over
+
+-- A PACKAGE MORE
+
+over_still : (c d : Tables) (p : ℕ) (xs : List PackageSource) (os : List Own) → KeepsTemplates c d → ArePackagesOver c p xs os → ArePackagesOver d p xs os
+over_still c d p [] [] more over = tt
+over_still c d p [] (o ∷ os) more over = absurd over
+over_still c d p (x ∷ xs) [] more over = absurd over
+over_still c d p (x ∷ xs) (o ∷ os) more over = (record { modules = over.0.modules; have = sources_still c d over.0.modules x.modules.items more over.0.have; own = over.0.own }, over_still c d (suc p) xs os more over.1)
+
+over_more : (c : Tables) (p n : ℕ) (xs : List PackageSource) (os : List Own) (x : PackageSource) (o : Own) → ArePackagesOver c p xs os → n ≡ p + length xs → IsPackageOver c n x o → ArePackagesOver c p (xs ++ x ∷ []) (os ++ o ∷ [])
+over_more c p n [] [] x o over e one = (subst (λ k. IsPackageOver c k x o) (e ∙ omega arith) one, tt)
+over_more c p n [] (y ∷ os) x o over e one = absurd over
+over_more c p n (y ∷ xs) [] x o over e one = absurd over
+over_more c p n (y ∷ xs) (z ∷ os) x o over e one = (over.0, over_more c (suc p) n xs os x o over.1 (e ∙ omega arith) one)
+
+-- the things of the first packages of a list, and those of the next one
+pub package_pushed : (old : List Own) (c d : Tables) (all : List PackageSource) (i p : ℕ) (now after : List Own) (x : PackageSource) (o : Own) → AreAppended old c (take i all) now → KeepsTemplates c d → IsPackageOver d p x o → after ≡ now ++ o ∷ []
+    → p ≡ suc i → i < length all → x ≡ get_or all i x → AreAppended old d (take (i + 1) all) after
+package_pushed old c d all i p now after x o h more one pushed number within item =
+    let front : take (i + 1) all ≡ take i all ++ x ∷ [] = take_more all i x within ∙ ap (λ u. take i all ++ u ∷ []) (sym item) in
+    let size : length (take i all) ≡ i = length-take-le i all (omega (arith, within)) in
+    let n : p ≡ 1 + length (take i all) = number ∙ ap suc (sym size) ∙ omega arith in
+    record {
+      owns = h.owns ++ o ∷ [];
+      are = pushed ∙ ap (λ os. os ++ o ∷ []) h.are ∙ append_assoc old h.owns (o ∷ []);
+      stand = subst (λ us. ArePackagesOver d 1 us (h.owns ++ o ∷ [])) (sym front) (over_more d 1 p (take i all) h.owns x o (over_still c d 1 (take i all) h.owns more h.stand) n one);
+    }
+
+pub others_are : (c : Tables) (xs : List PackageSource) (before others : List Own) → IsPlace before → AreAppended before c xs others → AreOthers c xs others
+others_are c xs before others place h = record {
+  place = place.place;
+  owns = h.owns;
+  are = h.are ∙ ap (λ os. os ++ h.owns) place.are;
+  stand = h.stand;
+}
+
+-- THE MACHINE OF THE HOST
+
+pub machine_made : {E : Type 0} → (r : Result View E) (c : Tables) (s : Owned) (own_package : Package) (allowed : List (List ℕ)) (common : List CommonObject) (places : List ℕ) (known : List (Ref × Marks)) → s.party.0 ≡ 0 → s.objects ≡ host_objects (naming_of 0)
+    → own_package ≡ host_things → allowed ≡ root_link ∷ [] → known ≡ known_first → IfOk r (λ m. Extends c m.code)
+    → IfOk r (λ m. m ≡ begun.as_new m.code s own_package allowed common places known m.asked m.answer m.imported) → IfOk r (IsHostMachine common c places)
+machine_made (Ok m) c s own_package allowed common places known party objects things links marks extends new =
+    record {
+      extends = extends;
+      store = s;
+      party = party;
+      objects = objects;
+      new = new ∙ (λ j. begun.as_new m.code s (things j) (links j) common places (marks j) m.asked m.answer m.imported);
+    }
+machine_made (Err e) c s own_package allowed common places known party objects things links marks extends new = new
+

@@ -1,32 +1,65 @@
 -- How the machine of all parties stands before anything has happened.
-use Rattle.std.specs.Prelude.{◌≡◌, ℕ, List, [], ◌∷◌, Some, None, length, map}
+use Rattle.std.specs.Prelude.{◌≡◌, ℕ, suc, List, [], ◌∷◌, ◌++◌, Option, None, length, map, ⊤}
+use Rattle.lava_base.specs.Ids.{same_ref}
+use Rattle.lava_base.specs.declared.ids.MadeSymbol.{MadeSymbol}
 use Rattle.lava_base.specs.declared.ids.Ref.{Ref}
 use Rattle.lava_base.specs.declared.marks.Marks.{Marks}
-use Rattle.js_text.specs.declared.value.Value.TheVariants as value
-use Rattle.js_code.specs.Tables.{Tables}
-use Rattle.js_run.specs.Heap.{begins}
-use Rattle.js_run.specs.Journal.{root_link}
-use Rattle.js_run.specs.Requests.{is_link}
-use Rattle.js_run.specs.Hosts.{host_objects}
-use Rattle.js_run.specs.Starts.{host_ref, package_global, root_endowments}
 use Rattle.js_text.specs.Naming.{naming_of}
+use Rattle.js_text.specs.declared.value.Value.{Value}
 use Rattle.js_code.specs.Settled.{Extends}
+use Rattle.js_code.specs.Tables.{Tables}
+use Rattle.js_store.specs.Foreign.{with_marks}
 use Rattle.js_store.specs.Frozen.{CommonObject}
 use Rattle.js_store.specs.Objects.{Owned}
+use Rattle.js_run.specs.Globals.{global_marks}
+use Rattle.js_run.specs.Heap.{begins}
+use Rattle.js_run.specs.Hosts.{host_objects}
+use Rattle.js_run.specs.Journal.{root_link}
+use Rattle.js_run.specs.Requests.{is_link}
 use Rattle.js_term.specs.declared.term.Template.{Template}
-use Rattle.js_machine.specs.Begun.{Own, as_new, left_of, nothing_left, own_of}
+use Rattle.js_machine.specs.Begun as begun
+use Rattle.js_machine.specs.Begun.{Own, left_of, new_own, nothing_left}
 use Rattle.js_machine.specs.Packages.{Package}
-use Rattle.js_machine.specs.Views.{View, templates_at}
+use Rattle.js_machine.specs.Views.{View}
 use Rattle.js_machine.specs.declared.package.Module.{Module}
 use Rattle.js_world.specs.Crossings.{Rests}
-use Rattle.js_world.specs.First.{IsFirst}
+use Rattle.js_world.specs.First.{IsFirst, RestsFirst, as_new}
 use Rattle.js_world.specs.Worlds.{Reads, WorldView, party_with}
 use Rattle.js_world.specs.declared.leads.Lead.{Lead}
-use Rattle.lava_start.specs.Applications.{PartyStart, RunParts, Surroundings, host_start, link_target, may_import, root_application, root_start}
+use Rattle.lava_start.specs.Applications.{PackageParts, PartyLink, PartyStart, RunParts, Surroundings, allowed_links, link_name, link_target, may_import, run_application}
+use Rattle.lava_start.specs.Grants.{package_builtin, package_objects, root_global}
 use Rattle.lava_start.specs.Making.{first_marks}
-use Rattle.lava_start.specs.Templates.{loaded_source}
+use Rattle.lava_start.specs.Templates.{HaveSources, loaded_source}
 use Rattle.lava_start.specs.declared.first.Prepared.{Prepared}
-use Rattle.lava_start.specs.declared.modules.SourceModule.{SourceModule}
+use Rattle.lava_start.specs.declared.packages.PackageLink.{PackageLink}
+use Rattle.lava_start.specs.declared.packages.PackageSource.{PackageSource}
+
+-- LINKS
+
+abbrev pub part_of_link : PackageLink → PartyLink
+part_of_link l = record { name = l.name; party = l.party; allowed = l.allowed }
+
+abbrev pub link_names : List PackageLink → List (List ℕ)
+link_names ls = map link_name (map part_of_link ls)
+
+-- the names of the links that may be imported over
+-- LavaMoat policy, packages
+abbrev pub allowed_names : List PackageLink → List (List ℕ)
+allowed_names ls = map link_name (allowed_links (map part_of_link ls))
+
+abbrev pub lead_of : PartyLink → Lead
+lead_of l = record { link = l.name; party = l.party }
+
+-- where they lead
+abbrev pub leads_of : List PackageLink → List Lead
+leads_of ls = map lead_of (allowed_links (map part_of_link ls))
+
+-- the one link of the host leads to the application's own package
+abbrev pub host_leads : List Lead
+host_leads = record { link = root_link; party = 1 } ∷ []
+
+abbrev pub leads_in : List PackageSource → List (List Lead)
+leads_in xs = host_leads ∷ map (λ (x : PackageSource). leads_of x.links.items) xs
 
 -- THE PACKAGES
 
@@ -34,9 +67,20 @@ use Rattle.lava_start.specs.declared.modules.SourceModule.{SourceModule}
 abbrev pub host_things : Package
 host_things = record { name = []; main = []; modules = []; links = root_link ∷ []; builtin = None; mapped = [] }
 
--- the application's own package, whose `require` of `fs` gives the host's object
-abbrev pub root_things : (main : List ℕ) → List Module → Package
-root_things main modules = record { name = root_link; main = main; modules = modules; links = []; builtin = Some (value.Ref (host_ref 9)); mapped = [] }
+-- what a package has of its source, over its modules, with what its `require` of `fs` gives
+abbrev pub package_with : PackageSource → List Module → Option (Value Ref MadeSymbol) → Package
+package_with x modules builtin = record { name = x.name; main = x.main; modules = modules; links = link_names x.links.items; builtin = builtin; mapped = [] }
+
+-- what a package is made of
+abbrev pub parts_of : PackageSource → PackageParts
+parts_of x = record {
+  name = x.name;
+  main = x.main;
+  modules = map loaded_source x.modules.items;
+  links = map part_of_link x.links.items;
+  globals = x.globals;
+  builtins = x.builtins;
+}
 
 -- HOW PARTIES STAND
 
@@ -47,65 +91,73 @@ pub record StandsAs (s : PartyStart) (p : ℕ) (c : Tables) (o : Own) : Type 0 w
   pub links : (l : List ℕ) → is_link l o.allowed ≡ may_import s.links (link_target s.links l)
   pub meter : s.own.meter ≡ None
 
--- whatever the code is, since it has no modules
-pub record IsHost (s : PartyStart) (o : Own) : Type 0 where
-  pub stands : (c : Tables) → StandsAs s 0 c o
-
--- a machine that knows these marks, and stands as the application's own package
-pub record IsRootMachine (r : RunParts) (known : List (Ref × Marks)) (m : View) : Type 0 where
-  pub common : m.common ≡ r.common
-  pub templates : templates_at m.code m.common_templates ≡ r.templates
-  pub stands : StandsAs (root_start r.main r.modules) 1 m.code (own_of m)
-  pub knows : m.known ≡ known
-  pub idle : left_of m ≡ nothing_left
-
--- a new machine over a code, which may have one template more
-pub record IsMachineOf (c : Tables) (s : Owned) (own_package : Package) (common : List CommonObject) (places : List ℕ) (known : List (Ref × Marks)) (m : View) : Type 0 where
-  pub extends : Extends c m.code
-  pub new : m ≡ as_new m.code s own_package [] common places known m.asked m.answer m.imported
-
--- the things of the host stand first, and the place of the party in the machine has any
-pub record AreOthers (host : Own) (others : List Own) : Type 0 where
-  pub place : Own
-  pub are : others ≡ host ∷ place ∷ []
-
--- the host stands first
-pub record HostStands (others : List Own) : Type 0 where
-  pub host : Own
-  pub stands : IsHost host_start host
-  pub are : AreOthers host others
-
--- what is known of the host's objects from the start
-abbrev pub host_known : List (Ref × Marks)
-host_known = first_marks (host_objects (naming_of 0)) (length (host_objects (naming_of 0)))
-
--- a machine of the application's own package over a code with all templates
-pub record IsRootOver (common : List CommonObject) (p : Prepared) (main : List ℕ) (known : List (Ref × Marks)) (m : View) : Type 0 where
-  pub extends : Extends p.code m.code
+-- the things of a package of this number over its modules
+pub record IsOwnOf (p : ℕ) (x : PackageSource) (modules : List Module) (o : Own) : Type 0 where
   pub store : Owned
-  pub party : store.party.0 ≡ 1
-  pub objects : store.objects ≡ package_global (naming_of 1) root_endowments ∷ []
-  pub new : m ≡ as_new m.code store (root_things main p.modules.items) [] common p.places.items known m.asked m.answer m.imported
+  pub party : store.party.0 ≡ p
+  pub objects : store.objects ≡ package_objects p x.globals x.builtins
+  pub is : o ≡ new_own store (package_with x modules (package_builtin p x.globals x.builtins)) (allowed_names x.links.items)
 
--- the one link leads to the application's own package, which has none
-abbrev pub root_lead : Lead
-root_lead = record { link = root_link; party = 1 }
+-- the same, where the modules have their places in a code
+pub record IsPackageOver (c : Tables) (p : ℕ) (x : PackageSource) (o : Own) : Type 0 where
+  pub modules : List Module
+  pub have : HaveSources c modules x.modules.items
+  pub own : IsOwnOf p x modules o
 
-abbrev pub first_leads : List (List Lead)
-first_leads = (root_lead ∷ []) ∷ [] ∷ []
+-- the things of packages, numbered from this party on
+abbrev pub ArePackagesOver : Tables → (party : ℕ) → List PackageSource → List Own → Type 0
+ArePackagesOver c p [] [] = ⊤
+ArePackagesOver c p [] (o ∷ os) = ⊥
+ArePackagesOver c p (x ∷ xs) [] = ⊥
+ArePackagesOver c p (x ∷ xs) (o ∷ os) = IsPackageOver c p x o × ArePackagesOver c (suc p) xs os
+
+-- they stand behind what was there
+pub record AreAppended (old : List Own) (c : Tables) (xs : List PackageSource) (new : List Own) : Type 0 where
+  pub owns : List Own
+  pub are : new ≡ old ++ owns
+  pub stand : ArePackagesOver c 1 xs owns
+
+-- a place for the party in the machine, which has any things
+pub record IsPlace (others : List Own) : Type 0 where
+  pub place : Own
+  pub are : others ≡ place ∷ []
+
+-- they stand behind that place
+pub record AreOthers (c : Tables) (xs : List PackageSource) (others : List Own) : Type 0 where
+  pub place : Own
+  pub owns : List Own
+  pub are : others ≡ place ∷ owns
+  pub stand : ArePackagesOver c 1 xs owns
+
+-- what is known from the start: the host's objects, and the global of the application's own package
+abbrev pub known_first : List (Ref × Marks)
+known_first = with_marks same_ref root_global global_marks (first_marks (host_objects (naming_of 0)) (length (host_objects (naming_of 0))))
+
+-- a new machine with the things of the host over a code, which may have one template more
+pub record IsHostMachine (common : List CommonObject) (c : Tables) (places : List ℕ) (m : View) : Type 0 where
+  pub extends : Extends c m.code
+  pub store : Owned
+  pub party : store.party.0 ≡ 0
+  pub objects : store.objects ≡ host_objects (naming_of 0)
+  pub new : m ≡ begun.as_new m.code store host_things (root_link ∷ []) common places known_first m.asked m.answer m.imported
 
 -- THE WORLD
 
--- what a run is made of, by its modules as they are handed in
-abbrev pub run_parts_of : List CommonObject → List Template → (main : List ℕ) → List SourceModule → RunParts
-run_parts_of common templates main sources = record { common = common; templates = templates; main = main; modules = map loaded_source sources }
+-- what a run is made of, by its packages as they are handed in
+abbrev pub run_parts_of : List CommonObject → List Template → List PackageSource → RunParts
+run_parts_of common templates sources = record { common = common; templates = templates; packages = map parts_of sources }
 
--- all parties stand where a run begins, whatever is outside and however texts are read. The application's own package is in the machine, which has nothing to do
+-- a new machine of all parties over prepared packages
+pub record IsWorldOver (common : List CommonObject) (p : Prepared) (leads : List (List Lead)) (budget : ℕ) (v : WorldView) : Type 0 where
+  pub machine : View
+  pub host : IsHostMachine common p.code p.places.items machine
+  pub new : v ≡ as_new machine p.others.items leads budget
+  pub rests : RestsFirst v
+
+-- all parties stand where a run begins, whatever is outside and however texts are read. Nothing is left to do in the machine
 pub record IsFirstWorld (r : RunParts) (budget : ℕ) (v : WorldView) : Type 0 where
-  pub first : (s : Surroundings) → Reads (root_application r s) → IsFirst (root_application r s) v
-  pub rests : (s : Surroundings) → Reads (root_application r s) → Rests (root_application r s) (begins (root_application r s)) v
-  pub parties : length v.others ≡ 2
-  pub here : v.machine.me ≡ 1
+  pub first : (s : Surroundings) → Reads (run_application r s) → IsFirst (run_application r s) v
+  pub rests : (s : Surroundings) → Reads (run_application r s) → Rests (run_application r s) (begins (run_application r s)) v
+  pub parties : length v.others ≡ suc (length r.packages)
   pub idle : left_of v.machine ≡ nothing_left
-  pub leads : v.leads ≡ first_leads
   pub limit : v.budget ≡ budget

@@ -1,7 +1,7 @@
 -- What holds of the application of a run.
 use Rattle.js_run.specs.Laws.{IsWellMade}
-use Rattle.lava_start.specs.Applications.{RunParts, Surroundings, root_application}
+use Rattle.lava_start.specs.Applications.{AllInRange, RunParts, Surroundings, run_application}
 
 -- what starts name of others is marked, is listed, and has left its owner
 abbrev pub Runs_are_well_made : Type 0
-Runs_are_well_made = (r : RunParts) (s : Surroundings) → IsWellMade (root_application r s)
+Runs_are_well_made = (r : RunParts) (s : Surroundings) → AllInRange r.packages → IsWellMade (run_application r s)

@@ -1,123 +1,131 @@
 // The machine of all parties before anything has happened.
 
-ghost use Rattle.std.specs.Prelude.{◌≡◌, IfOk};
+ghost use Rattle.std.specs.Prelude.{◌≡◌, suc, IfOk, OnOk};
 ghost use Rattle.js_world.specs.First.{RestsFirst, as_new};
-ghost use Rattle.lava_start.specs.Templates.{HaveSources, HaveTemplates};
-ghost use Rattle.lava_start.specs.Firsts.{HostStands, IsFirstWorld, IsMachineOf, IsRootOver, host_known, run_parts_of};
+ghost use Rattle.lava_start.specs.Templates.{HaveTemplates, KeepsTemplates};
+ghost use Rattle.lava_start.specs.Firsts.{AreAppended, AreOthers, IsFirstWorld, IsHostMachine, IsPackageOver, IsPlace, IsWorldOver, run_parts_of};
 
-use crate::global::root_store;
 use crate::host::host_store;
-use crate::marks::host_marks;
-use crate::modules::{SourceModule, add_modules, add_templates};
-use crate::packages::{first_leads, host_first, host_own, root_package};
+use crate::marks::known_marks;
+use crate::modules::{add_modules, add_templates};
+use crate::packages::{PackageSource, all_leads, host_links, host_package, package_own, place_holder};
 use js_code::code::Code;
 use js_machine::machine::Machine;
 use js_machine::own::Own;
-use js_machine::package::{Module, Package};
-use js_store::flat::FlatStore;
-use js_store::foreign::Foreign;
 use js_store::frozen::FrozenStore;
 use js_term::term::Template;
-use js_text::text::Text;
 use js_world::leads::Lead;
 use js_world::world::World;
 use lava_base::list::List;
 use lava_base::memory::OutOfMemory;
 use std::alloc::Global;
 
-/// A code with all templates: those of the common part first, and then those of the modules.
+/// A code with all templates: those of the common part first, and then those of the modules; and the things of each party that is not in the machine.
 #[derive(Drop)]
 struct Prepared {
     code: Code,
     places: Vec<u32>,
-    modules: Vec<Module>,
-}
-
-/// What all parties know at first, and the things of those that are not in the machine.
-#[derive(Drop)]
-struct HostSide {
-    known: Foreign,
     others: Vec<Own>,
 }
 
-/// Puts all templates into one code.
+/// The things of a package, whose templates are appended to a code.
+fn add_package(
+    alloc: Global,
+    code: &mut Code,
+    party: u32,
+    source: &PackageSource,
+) -> Result<Own, OutOfMemory>
+    ensures own { IfOk result (IsPackageOver code.new party source.now) }
+    ensures keeps { KeepsTemplates code.old code.new }
+{
+    let modules = add_modules(alloc, code, source.modules.as_slice())?;
+    package_own(alloc, party, source, modules)
+}
+
+/// The number of the party behind one.
+fn party_behind(party: u32) -> Result<u32, OutOfMemory>
+    ensures { IfOk result (λ next. next ≡ suc party) }
+{
+    match party.checked_add(1) {
+        Some(next) => Ok(next),
+        None => Err(OutOfMemory),
+    }
+}
+
+/// Appends the things of packages, whose parties are numbered from one on.
+fn add_packages(
+    alloc: Global,
+    code: &mut Code,
+    packages: &[PackageSource],
+    others: &mut Vec<Own>,
+) -> Result<(), OutOfMemory>
+    ensures packages { OnOk result (AreAppended others.old.items code.new packages.now others.new.items) }
+    ensures keeps { KeepsTemplates code.old code.new }
+{
+    let mut party = 1;
+    for source in packages {
+        let own = add_package(alloc, code, party, source)?;
+        others.push(own)?;
+        party = party_behind(party)?;
+    }
+    Ok(())
+}
+
+/// The place of the host, whose things are in the machine.
+fn host_place(alloc: Global) -> Result<Vec<Own>, OutOfMemory>
+    ensures { IfOk result (λ p. IsPlace p.items) }
+{
+    let mut others = Vec::new(alloc);
+    others.push(place_holder(alloc)?)?;
+    Ok(others)
+}
+
+/// Puts all templates into one code, and makes the things of all packages.
 fn prepare(
     alloc: Global,
     templates: &[Template],
-    sources: &[SourceModule],
+    packages: &[PackageSource],
 ) -> Result<Prepared, OutOfMemory>
     ensures templates { IfOk result (λ p. HaveTemplates p.code p.places.items templates.now) }
-    ensures sources { IfOk result (λ p. HaveSources p.code p.modules.items sources.now) }
+    ensures packages { IfOk result (λ p. AreOthers p.code packages.now p.others.items) }
 {
     let mut code = Code::new(alloc)?;
     let places = add_templates(alloc, &mut code, templates)?;
-    let modules = add_modules(alloc, &mut code, sources)?;
+    let mut others = host_place(alloc)?;
+    add_packages(alloc, &mut code, packages, &mut others)?;
     Ok(Prepared {
         code,
         places,
-        modules,
+        others,
     })
 }
 
-/// The host, and what all know of its objects.
-fn host_side(alloc: Global) -> Result<HostSide, OutOfMemory>
-    ensures host { IfOk result (λ a. HostStands a.others.items) }
-    ensures known { IfOk result (λ a. a.known ≡ host_known) }
+/// The machine with the things of the host, which may import the application's own package.
+fn host_machine(
+    alloc: Global,
+    common: FrozenStore,
+    code: Code,
+    places: Vec<u32>,
+) -> Result<Machine, OutOfMemory>
+    ensures { IfOk result (IsHostMachine common code places.items) }
 {
     let objects = host_store(alloc)?;
-    let known = host_marks(alloc, &objects)?;
-    let host = host_own(alloc, objects)?;
-    let others = host_first(alloc, host)?;
-    Ok(HostSide { known, others })
-}
-
-/// A machine of the application's own package, which has no link that it may import over.
-fn machine_of(
-    alloc: Global,
-    code: Code,
-    objects: FlatStore,
-    own_package: Package,
-    common: FrozenStore,
-    places: Vec<u32>,
-    known: Foreign,
-) -> Result<Machine, OutOfMemory>
-    ensures { let templates = places.items in
-        IfOk result (IsMachineOf code objects own_package common templates known) }
-{
-    let links = Vec::new(alloc);
+    let known = known_marks(alloc, &objects)?;
+    let own_package = host_package(alloc)?;
+    let allowed = host_links(alloc)?;
     Machine::new(
         alloc,
         code,
         objects,
         own_package,
-        links,
+        allowed,
         common,
         places,
         known,
     )
 }
 
-/// The machine with the things of the application's own package.
-fn root_machine(
-    alloc: Global,
-    common: FrozenStore,
-    prepared: Prepared,
-    main: &Text,
-    known: Foreign,
-) -> Result<Machine, OutOfMemory>
-    ensures { IfOk result (IsRootOver common prepared main.now known) }
-{
-    let Prepared {
-        code,
-        places,
-        modules,
-    } = prepared;
-    let own_package = root_package(alloc, main, modules)?;
-    let objects = root_store(alloc)?;
-    machine_of(alloc, code, objects, own_package, common, places, known)
-}
-
-/// The machine of all parties over that of one.
+/// The machine of all parties over that of the host.
 fn world_of(
     alloc: Global,
     machine: Machine,
@@ -131,22 +139,38 @@ fn world_of(
     World::new(alloc, machine, others, leads, budget)
 }
 
-/// The machine of all parties of a run of an application's own package: the host and that package
-/// stand as a run begins, and nothing has happened.
+/// The machine of all parties over prepared packages.
+fn world_over(
+    alloc: Global,
+    common: FrozenStore,
+    prepared: Prepared,
+    leads: Vec<List<Lead>>,
+    budget: u64,
+) -> Result<World, OutOfMemory>
+    ensures { IfOk result (IsWorldOver common prepared leads.items budget) }
+{
+    let Prepared {
+        code,
+        places,
+        others,
+    } = prepared;
+    let machine = host_machine(alloc, common, code, places)?;
+    world_of(alloc, machine, others, leads, budget)
+}
+
+/// The machine of all parties of a run: the host and the packages of an application, its own
+/// first, stand as a run begins, and nothing has happened.
 pub fn first_world(
     alloc: Global,
     common: FrozenStore,
     templates: &[Template],
-    sources: &[SourceModule],
-    main: &Text,
+    packages: &[PackageSource],
     budget: u64,
 ) -> Result<World, OutOfMemory>
-    ensures { let parts = run_parts_of common templates.now main.now sources.now in
+    ensures { let parts = run_parts_of common templates.now packages.now in
         IfOk result (IsFirstWorld parts budget) }
 {
-    let prepared = prepare(alloc, templates, sources)?;
-    let side = host_side(alloc)?;
-    let leads = first_leads(alloc)?;
-    let machine = root_machine(alloc, common, prepared, main, side.known)?;
-    world_of(alloc, machine, side.others, leads, budget)
+    let prepared = prepare(alloc, templates, packages)?;
+    let leads = all_leads(alloc, packages)?;
+    world_over(alloc, common, prepared, leads, budget)
 }

@@ -25,7 +25,7 @@ use std::alloc::Global;
 const PATHS: u32 = 222;
 
 /// The marks of a global.
-const GLOBAL_MARKS: Marks = Marks {
+pub(crate) const GLOBAL_MARKS: Marks = Marks {
     class: Class::Global,
     callable: false,
     constructor: false,

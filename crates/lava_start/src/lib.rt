@@ -11,10 +11,12 @@
 
 pub mod first;
 pub mod global;
+pub mod grant_laws;
+pub mod grants;
 pub mod host;
 pub mod laws;
 pub mod marks;
 pub mod modules;
 mod objects;
-mod packages;
+pub mod packages;
 mod words;

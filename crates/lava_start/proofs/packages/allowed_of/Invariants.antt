@@ -1,0 +1,6 @@
+use Rattle.std.proofs.Common.{◌≡◌, take}
+use Rattle.lava_start.specs.Firsts.{allowed_names}
+use Rattle.lava_start.proofs.packages.allowed_of.Given as goal
+
+abbrev pub invariant-loop-link : goal.invariant-loop-link
+invariant-loop-link l = l.names.items ≡ allowed_names (take l.link-index l.links)
