@@ -1,4 +1,5 @@
 pub mod Making
+pub mod Grants
 pub mod Templates
 pub mod Applications
 pub mod Laws
