@@ -24,7 +24,7 @@ use Rattle.js_run_laws.proofs.Story.{in_either}
 use Rattle.js_run_laws.proofs.Swap.{own_origin}
 
 -- none of these is another party's
-abbrev AtHome : ℕ → List (Identity Ref MadeSymbol) → Type 0
+abbrev pub AtHome : ℕ → List (Identity Ref MadeSymbol) → Type 0
 AtHome p xs = (a : Identity Ref MadeSymbol) → IsAmong a xs → is_foreign p a ≡ false
 
 -- the same by a test
@@ -81,7 +81,7 @@ module _ (p : ℕ) where
       by true later = both_home p (property_identities x) (ids (with_self (naming_of p) ps)) (λ a k. h a (in_front a (property_identities x) (ids ps) k)) later
       by false later = both_home p (property_identities (self_property (naming_of p))) (ids (x ∷ ps)) self_home h
 
-  default_home : AtHome p (ids (default_properties (naming_of p)))
+  pub default_home : AtHome p (ids (default_properties (naming_of p)))
   default_home = with_self_home (intrinsics_from (naming_of p) 0 common_paths) (intrinsics_home 0 common_paths)
 
 -- the host names none of others

@@ -13,8 +13,9 @@ use Rattle.js_store.specs.Objects.{at_place, fresh, not_extensible, object_at, p
 use Rattle.js_store.specs.declared.slot.Slot.TheVariants as slot
 use Rattle.js_run.specs.Starts.{package_global}
 use Rattle.js_run.specs.declared.intrinsics.TheConstants.{OBJECT_PROTOTYPE}
-use Rattle.lava_start.specs.Grants.{Granted, Supply, builtin_objects, builtin_value, global_supply, granted_global, live_part_objects, member_supply, package_builtin, package_objects, supplied_objects, supplied_properties, with_all_properties, with_keyed, with_supplies, with_supply}
+use Rattle.lava_start.specs.Grants.{Granted, Supply, builtin_objects, part_member, builtin_value, global_supply, granted_global, live_part_objects, member_supply, package_builtin, package_objects, supplied_objects, supplied_properties, with_all_properties, with_keyed, with_part_members, with_supplies, with_supply}
 use Rattle.lava_start.specs.Making.{Thing}
+use Rattle.lava_start.proofs.Made_laws.{at_same, at_twice, length_at}
 
 set_middle : (front : List Thing) (o y : Thing) (back : List Thing) → set (front ++ o ∷ back) (length front) y ≡ front ++ y ∷ back
 set_middle [] o y back = refl
@@ -82,3 +83,37 @@ builtin_made p gs bs a b first next = next ∙ ap (λ t. t ++ builtin_objects bs
 
 pub builtin_given : (p : ℕ) (gs bs : Granted) (a : List Thing) → a ≡ granted_global p gs ∷ supplied_objects (global_supply p) 1 gs → builtin_value p (length a) bs ≡ package_builtin p gs bs
 builtin_given p gs bs a first = ap (λ t. builtin_value p (length t) bs) first
+
+-- A CALL AT THE END
+
+-- a property is written once all else is made
+pub applied : {E : Type 0} (r : Result Unit E) (a b os made : List Thing) (at : ℕ) (k key : Key MadeSymbol) (d e : Descriptor Ref MadeSymbol) → a ≡ os ++ made → k ≡ key → d ≡ e → OnOk r (b ≡ at_place a at (with_keyed k d)) → OnOk r (b ≡ at_place (os ++ made) at (with_keyed key e))
+applied (Ok x) a b os made at k key d e p q s h = h ∙ (λ j. at_place (p j) at (with_keyed (q j) (s j)))
+applied (Err x) a b os made at k key d e p q s h = h
+
+-- LOOPS
+
+-- what stood there still does
+pub inside_still : {X : Type 0} (s : Supply X) (x : X) (os new : List Thing) (at : ℕ) → at < length os → new ≡ with_supply s at x os → at < length new
+inside_still s x os new at lt e =
+    let made = s.objects (length os) x in
+    let n : length new ≡ length os + length made = ap length e ∙ length_at (os ++ made) at (with_keyed (s.key x) (s.property (length os) x)) ∙ length-append os made in
+    omega (arith, n, lt)
+
+-- all members at once
+pub members_at_once : (at : ℕ) (ms : List (List ℕ × ℕ)) (os : List Thing) → at < length os → with_part_members at ms os ≡ at_place os at (with_all_properties (map part_member ms))
+members_at_once at [] os lt = sym (at_same os at)
+members_at_once at (m ∷ ms) os lt =
+    let f = with_all_properties (part_member m ∷ []) in
+    let n : length (at_place os at f) ≡ length os = length_at os at f in
+    members_at_once at ms (at_place os at f) (omega (arith, n, lt)) ∙ at_twice os at f (with_all_properties (map part_member ms)) lt
+
+all_inside : {X : Type 0} (s : Supply X) (xs : List X) (os : List Thing) (at : ℕ) → at < length os → at < length (with_supplies s at xs os)
+all_inside s [] os at lt = lt
+all_inside s (x ∷ xs) os at lt = all_inside s xs (with_supply s at x os) at (inside_still s x os (with_supply s at x os) at lt refl)
+
+pub inside_after : {X : Type 0} (s : Supply X) (xs : List X) (os new : List Thing) (at : ℕ) → at < length os → new ≡ with_supplies s at xs os → at < length new
+inside_after s xs os new at lt e = subst (λ (ns : List Thing). at < length ns) (sym e) (all_inside s xs os at lt)
+
+pub inside_change : (xs new : List Thing) (at : ℕ) (f : Thing → Thing) → at < length xs → new ≡ at_place xs at f → at < length new
+inside_change xs new at f lt e = let n : length new ≡ length xs = ap length e ∙ length_at xs at f in omega (arith, n, lt)

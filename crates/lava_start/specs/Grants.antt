@@ -98,6 +98,11 @@ part_member m = (key_of_name m.0, Data (value.Ref (host_ref m.1)) false true fal
 abbrev pub part_object : List (List ℕ × ℕ) → Thing
 part_object ms = frozen_object (with_properties (map part_member ms) [])
 
+-- the same step by step: the object of this place gets one member after the other
+abbrev pub with_part_members : (at : ℕ) → List (List ℕ × ℕ) → List Thing → List Thing
+with_part_members at [] os = os
+with_part_members at (m ∷ ms) os = with_part_members at ms (at_place os at (with_all_properties (part_member m ∷ [])))
+
 -- GLOBALS OF THE APPLICATION'S OWN PACKAGE
 
 abbrev pub root_global : Ref

@@ -1,10 +1,10 @@
 // What a package is given by its row: its objects before anything has happened.
 
-ghost use Rattle.std.specs.Prelude.{◌≡◌, ◌<◌, ◌++◌, ◌∷◌, [], length, map, true, false, IfOk, OnOk};
+ghost use Rattle.std.specs.Prelude.{◌≡◌, ◌<◌, ◌++◌, ◌∷◌, [], length, IfOk, OnOk};
 ghost use Rattle.js_store.specs.Objects.{at_place};
 ghost use Rattle.js_text.specs.Naming.{naming_of};
 ghost use Rattle.js_run.specs.Starts.{package_global};
-ghost use Rattle.lava_start.specs.Grants.{builtin_grant_objects, builtin_grant_value, builtin_objects, builtin_value, global_supply, grant_objects, grant_property, granted_global, open_reference, package_builtin, package_objects, part_member, part_object, supplied_objects, with_all_properties, with_supplies, with_supply};
+ghost use Rattle.lava_start.specs.Grants.{builtin_grant_objects, builtin_grant_value, builtin_objects, builtin_value, global_supply, grant_objects, grant_property, granted_global, open_reference, package_builtin, package_objects, part_member, part_object, supplied_objects, with_all_properties, with_part_members, with_supplies, with_supply};
 
 use crate::accessors::{put_live, put_live_part};
 use crate::global::bare_store;
@@ -72,8 +72,8 @@ fn put_part_members(
     mut members: &[(Name, u32)],
 ) -> Result<(), OutOfMemory>
     requires { at.0 < length objects.old.objects }
-    ensures objects { let step = with_all_properties (map part_member members.entry.now) in
-        OnOk result (objects.new.objects ≡ at_place objects.old.objects at.0 step) }
+    ensures objects { let after = with_part_members at.0 members.entry.now objects.old.objects in
+        OnOk result (objects.new.objects ≡ after) }
     ensures party { objects.new.party ≡ objects.old.party }
 {
     while let [first, rest @ ..] = members {
