@@ -24,7 +24,7 @@ use Rattle.js_run_laws.proofs.Story.{in_either}
 use Rattle.js_run_laws.proofs.Swap.{own_origin}
 
 -- none of these is another party's
-abbrev AtHome : ℕ → List (Identity Ref MadeSymbol) → Type 0
+abbrev pub AtHome : ℕ → List (Identity Ref MadeSymbol) → Type 0
 AtHome p xs = (a : Identity Ref MadeSymbol) → IsAmong a xs → is_foreign p a ≡ false
 
 -- the same by a test
@@ -44,7 +44,7 @@ both_home : (p : ℕ) (xs ys : List (Identity Ref MadeSymbol)) → AtHome p xs �
 both_home p xs ys hx hy a h = ⊎_elim (hx a) (hy a) (in_either a xs ys h)
 
 -- what is foreign is none of these
-never : (p : ℕ) (xs : List (Identity Ref MadeSymbol)) → AtHome p xs → (a : Identity Ref MadeSymbol) → is_foreign p a ≡ true → IsAmong a xs → ⊥
+pub never : (p : ℕ) (xs : List (Identity Ref MadeSymbol)) → AtHome p xs → (a : Identity Ref MadeSymbol) → is_foreign p a ≡ true → IsAmong a xs → ⊥
 never p xs home a foreign h = let bad : true ≡ false = sym foreign ∙ home a h in cc bad
 
 module _ (p : ℕ) where
@@ -81,19 +81,19 @@ module _ (p : ℕ) where
       by true later = both_home p (property_identities x) (ids (with_self (naming_of p) ps)) (λ a k. h a (in_front a (property_identities x) (ids ps) k)) later
       by false later = both_home p (property_identities (self_property (naming_of p))) (ids (x ∷ ps)) self_home h
 
-  default_home : AtHome p (ids (default_properties (naming_of p)))
+  pub default_home : AtHome p (ids (default_properties (naming_of p)))
   default_home = with_self_home (intrinsics_from (naming_of p) 0 common_paths) (intrinsics_home 0 common_paths)
 
 -- the host names none of others
-host_home : AtHome 0 (party_identities host_party)
+pub host_home : AtHome 0 (party_identities host_party)
 host_home = by_test 0 (party_identities host_party) refl
 
 -- a party that is not made yet names nothing
-blank_home : (a : Identity Ref MadeSymbol) → IsAmong a (party_identities (blank {R = Ref} {S = MadeSymbol})) → ⊥
+pub blank_home : (a : Identity Ref MadeSymbol) → IsAmong a (party_identities (blank {R = Ref} {S = MadeSymbol})) → ⊥
 blank_home a h = h
 
 -- what a list ends with adds nothing
-in_all : {A : Type 0} (a : A) (xs : List A) → IsAmong a (xs ++ []) → IsAmong a xs
+pub in_all : {A : Type 0} (a : A) (xs : List A) → IsAmong a (xs ++ []) → IsAmong a xs
 in_all a xs h = ⊎_elim (λ k. k) (λ k. absurd k) (in_either a xs [] h)
 
 -- what a package names of others is its gift

@@ -50,7 +50,12 @@ last_place p n i xs goal e h =
 abbrev pub bare_global : Thing
 bare_global = fresh (Some (common_ref OBJECT_PROTOTYPE)) global_marks slot.Plain
 
--- all steps make the global of the application's own package
-pub whole : with_endowment (codes "input") 5 (with_endowment (codes "console") 0 (with_endowment (codes "clock") 7 (with_intrinsics 1 bare_global))) ≡ package_global (naming_of 1) root_endowments
+-- all steps make the global of a package that is given nothing
+pub bare : (p : ℕ) → with_intrinsics p bare_global ≡ package_global (naming_of p) []
+unfolding common_paths
+bare p = refl
+
+-- and three more that of the application's own package
+pub whole : with_endowment (codes "input") 5 (with_endowment (codes "console") 0 (with_endowment (codes "clock") 7 (package_global (naming_of 1) []))) ≡ package_global (naming_of 1) root_endowments
 unfolding common_paths
 whole = refl

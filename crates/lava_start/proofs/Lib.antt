@@ -3,5 +3,7 @@ pub mod Made_laws
 pub mod Kept_laws
 pub mod Global_laws
 pub mod Links
+pub mod Supply_laws
+pub mod Names_laws
 pub mod Start_laws
 pub mod Standing

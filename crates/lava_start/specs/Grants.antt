@@ -28,7 +28,7 @@ use Rattle.js_run.specs.Functions.{function_marks, function_property}
 use Rattle.js_run.specs.Hosts.{host_object}
 use Rattle.js_run.specs.Identities.{IsAmong}
 use Rattle.js_run.specs.Laws.{is_foreign}
-use Rattle.js_run.specs.Starts.{host_ref, package_global}
+use Rattle.js_run.specs.Starts.{host_ref, package_global, root_endowments}
 use Rattle.js_run.specs.declared.intrinsics.TheConstants.{FUNCTION_PROTOTYPE}
 use Rattle.lava_start.specs.Making.{Thing}
 
@@ -98,18 +98,20 @@ part_member m = (key_of_name m.0, Data (value.Ref (host_ref m.1)) false true fal
 abbrev pub part_object : List (List ℕ × ℕ) → Thing
 part_object ms = frozen_object (with_properties (map part_member ms) [])
 
+-- the same step by step: the object of this place gets one member after the other
+abbrev pub with_part_members : (at : ℕ) → List (List ℕ × ℕ) → List Thing → List Thing
+with_part_members at [] os = os
+with_part_members at (m ∷ ms) os = with_part_members at ms (at_place os at (with_all_properties (part_member m ∷ [])))
+
 -- GLOBALS OF THE APPLICATION'S OWN PACKAGE
 
 abbrev pub root_global : Ref
 root_global = (naming_of 1).own 0
 
--- a global there, and a member of one
+-- a global there, or a member of one
 -- LavaMoat policy, globals
-abbrev pub target_of_global : (name : List ℕ) → Target Ref MadeSymbol
-target_of_global name = record { global = root_global; name = key_of_name name; member = None }
-
-abbrev pub target_of_member : (name member : List ℕ) → Target Ref MadeSymbol
-target_of_member name member = record { global = root_global; name = key_of_name name; member = Some (key_of_name member) }
+abbrev pub target_of : (name : List ℕ) → (member : Option (Key MadeSymbol)) → Target Ref MadeSymbol
+target_of name member = record { global = root_global; name = key_of_name name; member = member }
 
 -- a live getter or setter, which has no name and no parameters
 -- ECMA-262 CreateBuiltinFunction
@@ -135,6 +137,18 @@ live_functions t true = live_function (held.LiveGetter t) ∷ live_function (hel
 abbrev pub open_reference : Ref → Descriptor Ref MadeSymbol
 open_reference r = Data (value.Ref r) true true true
 
+-- what `require` of a part of the host makes: members alone stand at an object of the package
+-- LavaMoat policy, builtin
+abbrev pub builtin_grant_objects : Grant → List Thing
+builtin_grant_objects (Whole k) = []
+builtin_grant_objects (Part ms) = part_object ms ∷ []
+builtin_grant_objects (Live write) = []
+builtin_grant_objects (LivePart ms) = []
+
+abbrev pub builtin_objects : Granted → List Thing
+builtin_objects [] = []
+builtin_objects (x ∷ xs) = builtin_grant_objects x.1
+
 module _ (p : ℕ) where
   abbrev pub live_setter : (number : ℕ) → (write : Bool) → Option Ref
   live_setter n false = None
@@ -148,7 +162,7 @@ module _ (p : ℕ) where
   -- the members of a global: each an accessor of a frozen object
   abbrev pub member_supply : (name : List ℕ) → Supply (List ℕ × Bool)
   member_supply name = record {
-    objects = λ n m. live_functions (target_of_member name m.0) m.1;
+    objects = λ n m. live_functions (target_of name (Some (key_of_name m.0))) m.1;
     key = λ m. key_of_name m.0;
     property = λ n m. live_accessor n m.1 false;
   }
@@ -163,7 +177,7 @@ module _ (p : ℕ) where
   abbrev pub grant_objects : (number : ℕ) → (name : List ℕ) → Grant → List Thing
   grant_objects n name (Whole k) = []
   grant_objects n name (Part ms) = part_object ms ∷ []
-  grant_objects n name (Live write) = live_functions (target_of_global name) write
+  grant_objects n name (Live write) = live_functions (target_of name None) write
   grant_objects n name (LivePart ms) = live_part_objects n name ms
 
   -- its property at the global of the package
@@ -186,29 +200,23 @@ module _ (p : ℕ) where
   abbrev pub granted_global : Granted → Thing
   granted_global globals = with_all_properties (supplied_properties global_supply 1 globals) (package_global (naming_of p) [])
 
-  -- what `require` of a part of the host makes: members alone stand at an object of the package
+  -- what `require` of a part of the host gives
   -- LavaMoat policy, builtin
-  abbrev pub builtin_objects : Granted → List Thing
-  builtin_objects [] = []
-  builtin_objects ((name, Whole k) ∷ more) = []
-  builtin_objects ((name, Part ms) ∷ more) = part_object ms ∷ []
-  builtin_objects ((name, Live write) ∷ more) = []
-  builtin_objects ((name, LivePart ms) ∷ more) = []
+  abbrev pub builtin_grant_value : (number : ℕ) → Grant → Option (Value Ref MadeSymbol)
+  builtin_grant_value n (Whole k) = Some (value.Ref (host_ref k))
+  builtin_grant_value n (Part ms) = Some (value.Ref ((naming_of p).own n))
+  builtin_grant_value n (Live write) = None
+  builtin_grant_value n (LivePart ms) = None
 
-  -- and what it gives
-  -- LavaMoat policy, builtin
   abbrev pub builtin_value : (number : ℕ) → Granted → Option (Value Ref MadeSymbol)
   builtin_value n [] = None
-  builtin_value n ((name, Whole k) ∷ more) = Some (value.Ref (host_ref k))
-  builtin_value n ((name, Part ms) ∷ more) = Some (value.Ref ((naming_of p).own n))
-  builtin_value n ((name, Live write) ∷ more) = None
-  builtin_value n ((name, LivePart ms) ∷ more) = None
+  builtin_value n (x ∷ xs) = builtin_grant_value n x.1
 
   -- the objects of a package: its global, what its globals make, and what its `require` of a part of the host makes
   abbrev pub package_objects : (globals builtins : Granted) → List Thing
   package_objects globals builtins = granted_global globals ∷ (supplied_objects global_supply 1 globals ++ builtin_objects builtins)
 
-  -- what its `require` of a part of the host gives
+  -- what its `require` of a part of the host gives, whose object stands behind those of the globals
   abbrev pub package_builtin : (globals builtins : Granted) → Option (Value Ref MadeSymbol)
   package_builtin globals builtins = builtin_value (suc (length (supplied_objects global_supply 1 globals))) builtins
 
@@ -305,3 +313,10 @@ pub record IsHostObject (a : Identity Ref MadeSymbol) : Type 0 where
 -- each of these names is an object that the host has from the start, or the global of the application's own package
 abbrev pub Package_names_known : Type 0
 Package_names_known = (globals builtins : Granted) (a : Identity Ref MadeSymbol) → IsAmong a (package_names globals builtins) → IsHostObject a ⊎ (a ≡ Of_object root_global)
+
+-- the application's own package, which is granted the whole host, has its global alone, and its `require` gives the host's object
+pub record Root_is_granted_all : Type 0 where
+  pub objects : package_objects 1 root_globals root_builtins ≡ package_global (naming_of 1) root_endowments ∷ []
+  pub builtin : package_builtin 1 root_globals root_builtins ≡ Some (value.Ref (host_ref 9))
+  pub names : package_names root_globals root_builtins ≡ host_identities (0 ∷ 5 ∷ 7 ∷ 9 ∷ [])
+  pub in_range : InRange root_globals root_builtins

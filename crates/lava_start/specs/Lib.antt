@@ -1,6 +1,6 @@
 pub mod Making
-pub mod Templates
 pub mod Grants
+pub mod Templates
 pub mod Applications
 pub mod Laws
 pub mod Firsts

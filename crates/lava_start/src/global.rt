@@ -192,15 +192,26 @@ fn put_endowment(
     put_property(alloc, objects, at, name, property)
 }
 
+/// The global of a package that is given nothing.
+pub(crate) fn bare_store(alloc: Global, party: PartyId) -> Result<FlatStore, OutOfMemory>
+    ensures objects { let made = package_global (naming_of party.0) [] in
+        IfOk result (λ s. s.objects ≡ made ∷ []) }
+    ensures party { IfOk result (λ s. s.party ≡ party) }
+{
+    let mut objects = FlatStore::empty(alloc, party);
+    let global = put_object(&mut objects, OBJECT_PROTOTYPE, GLOBAL_MARKS)?;
+    put_intrinsics(alloc, &mut objects, global)?;
+    Ok(objects)
+}
+
 /// The global of the application's own package, which is given the whole host.
 pub fn root_store(alloc: Global) -> Result<FlatStore, OutOfMemory>
     ensures objects { IfOk result
         (λ s. s.objects ≡ package_global (naming_of 1) root_endowments ∷ []) }
     ensures party { IfOk result (λ s. s.party.0 ≡ 1) }
 {
-    let mut objects = FlatStore::empty(alloc, PartyId(1));
-    let global = put_object(&mut objects, OBJECT_PROTOTYPE, GLOBAL_MARKS)?;
-    put_intrinsics(alloc, &mut objects, global)?;
+    let mut objects = bare_store(alloc, PartyId(1))?;
+    let global = ObjId(0);
     put_endowment(alloc, &mut objects, global, "clock", 7)?;
     put_endowment(alloc, &mut objects, global, "console", 0)?;
     put_endowment(alloc, &mut objects, global, "input", 5)?;

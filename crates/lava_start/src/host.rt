@@ -20,8 +20,8 @@ use lava_base::marks::{Class, Marks};
 use lava_base::memory::OutOfMemory;
 use std::alloc::Global;
 
-/// The marks of a function of the host.
-const HOST_FUNCTION_MARKS: Marks = Marks {
+/// The marks of a function that is no constructor.
+pub(crate) const FUNCTION_MARKS: Marks = Marks {
     class: Class::Function,
     callable: true,
     constructor: false,
@@ -67,7 +67,7 @@ fn put_function(alloc: Global, objects: &mut FlatStore, name: &str) -> Result<()
         OnOk result (objects.new.objects ≡ objects.old.objects ++ made ∷ []) }
     ensures party { objects.new.party ≡ objects.old.party }
 {
-    let at = put_object(objects, FUNCTION_PROTOTYPE, HOST_FUNCTION_MARKS)?;
+    let at = put_object(objects, FUNCTION_PROTOTYPE, FUNCTION_MARKS)?;
     put_property(alloc, objects, at, "length", fixed(Value::Int(0)))?;
     let name = Value::Text(word_text(alloc, name)?);
     put_property(alloc, objects, at, "name", fixed(name))?;

@@ -4,6 +4,7 @@ ghost use Rattle.std.specs.Prelude.{◌≡◌, ◌<◌, ◌++◌, ◌∷◌, [],
 ghost use Rattle.js_store.specs.Objects.{at_place, fresh};
 ghost use Rattle.js_store.specs.Frozen.{common_ref};
 ghost use Rattle.js_store.specs.declared.slot.Slot.TheVariants as slot;
+ghost use Rattle.js_text.specs.Naming.{naming_of};
 ghost use Rattle.js_run.specs.Starts.{host_ref};
 ghost use Rattle.lava_start.specs.Making.{with_named};
 
@@ -32,6 +33,16 @@ pub(crate) fn host(number: u32) -> Ref
     Ref::Own {
         party: PartyId(0),
         id: ObjId(number),
+    }
+}
+
+/// An object of a store.
+pub(crate) fn own(objects: &FlatStore, id: ObjId) -> Ref
+    ensures { result ≡ (naming_of objects.now.party.0).own id.0 }
+{
+    Ref::Own {
+        party: objects.party(),
+        id,
     }
 }
 
