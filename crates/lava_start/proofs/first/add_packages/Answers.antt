@@ -9,7 +9,7 @@ loop-source-preserved c =
     let now = c.add_package.new.code in
     let s = c.loop-source.invariant in
     record {
-      number = c.in_ok-party_behind.ensures ∙ ap suc s.number ∙ omega arith;
+      number = c.in_ok-party.ensures ∙ ap suc s.number ∙ omega arith;
       packages = package_pushed c.args.others.now.items was now c.args.packages.now c.loop-source.source-index c.loop-source.party c.loop-source.others.items c.push.new.self.items c.source-item.result c.in_ok-own.own s.packages c.in_ok-own.ensures.keeps c.in_ok-own.ensures.own c.in_ok-push.ensures.items s.number c.loop-source-test.true c.source-item.is;
       keeps = kept_on c.args.code.now was now s.keeps c.in_ok-own.ensures.keeps;
     }
