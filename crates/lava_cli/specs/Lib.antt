@@ -1,4 +1,5 @@
 pub mod Adapters
 pub mod Loads
+pub mod Policies
 pub mod RunAnswers
 pub mod Words

@@ -1,5 +1,5 @@
 -- What `lava run DIR` answers: the cause of each answer, and what the call leaves of the outside.
-use Rattle.std.specs.Prelude.{◌≡◌, ℕ, zero, suc, true, List, [], ◌∷◌, Option, Some, None, Result, Ok, Err, codes}
+use Rattle.std.specs.Prelude.{◌≡◌, ℕ, zero, suc, ◌+◌, true, List, Option, Some, None, Result, Ok, Err, codes}
 use Rattle.lava_base.specs.declared.place.Place.{Place}
 use Rattle.js_fault.specs.declared.fault.SyntaxWhat.{SyntaxWhat}
 use Rattle.js_machine.specs.declared.frame.Halt.{Halt}
@@ -14,33 +14,39 @@ use Rattle.lava_lines.specs.Puts as puts
 use Rattle.lava_lines.specs.declared.status.TheConstants as texts
 use Rattle.lava_runner.specs.Reports.{IsRunOf}
 use Rattle.lava_runner.specs.declared.app.Report.{Report}
-use Rattle.lava_streams.specs.Files.{Files}
 use Rattle.lava_streams.specs.Outside.{Stand, Outside, outside}
 use Rattle.lava_tree.specs.TreeAnswers.{TreeAnswers}
 use Rattle.pkg_graph.specs.declared.fault.GraphFault.{GraphFault}
 use Rattle.pkg_graph.specs.declared.fault.GraphFault.TheVariants as graph
+use Rattle.pkg_graph.specs.declared.limits.TheConstants.{FILE}
+use Rattle.pkg_graph.specs.declared.standing.TheConstants.{FILE_LIMIT}
 use Rattle.pkg_load.specs.declared.fault.LoadFault.{LoadFault}
 use Rattle.pkg_load.specs.declared.fault.LoadFault.TheVariants as load
-use Rattle.pkg_load.specs.declared.module.LoadedModule.{LoadedModule}
-use Rattle.pkg_source.specs.declared.code.ModuleCode.{ModuleCode}
+use Rattle.policy_row.specs.Names.{file_name, shown_word, what_name}
+use Rattle.policy_row.specs.declared.fault.PolicyFile.{PolicyFile}
+use Rattle.policy_row.specs.declared.fault.PolicyWhat.{PolicyWhat}
 use Rattle.ses_prelude.specs.Preludes.{IsPreludeFault, prelude}
-use Rattle.lava_cli.specs.Loads.{CountsLoading, IsLoadedFrom, IsLoading, Loaded}
+use Rattle.lava_cli.specs.Loads.{CountsLoading, IsLoading}
 use Rattle.lava_cli.specs.Words.{Asked, Runs, Trees, command_of}
+use Rattle.lava_cli.specs.declared.loading.Loaded.{Loaded}
 use Rattle.lava_cli.specs.declared.loading.LoadingFault.{LoadingFault}
 use Rattle.lava_cli.specs.declared.loading.LoadingFault.TheVariants as loading
 use Rattle.lava_cli.specs.declared.outcome.RunOutcome.{RunOutcome}
 use Rattle.lava_cli.specs.declared.outcome.RunOutcome.TheVariants as outcome
+use Rattle.lava_cli.specs.declared.policies.PoliciesFault.{PoliciesFault}
+use Rattle.lava_cli.specs.declared.policies.PoliciesFault.TheVariants as policies
 use Rattle.lava_cli.specs.declared.run_report.TheConstants as words
 
 -- THE CAUSES
 
--- the run of these modules, or why there is none
-abbrev pub RunsOf : (directory : List ℕ) → List (LoadedModule ModuleCode) → (budget : ℕ) → (before after : HostWorld) → RunOutcome → Type 0
-RunsOf directory ms budget before after (outcome.Ran r) = IsRunOf true directory ms budget before after r
-RunsOf directory ms budget before after (outcome.Prelude place what) = IsPreludeFault prelude place what
-RunsOf directory ms budget before after outcome.OutOfMemory = Unit {0}
-RunsOf directory ms budget before after (outcome.Graph f) = ⊥
-RunsOf directory ms budget before after (outcome.Load f) = ⊥
+-- the run of this application with its policy, or why there is none
+abbrev pub RunsOf : (directory : List ℕ) → Loaded → (budget : ℕ) → (before after : HostWorld) → RunOutcome → Type 0
+RunsOf directory l budget before after (outcome.Ran r) = IsRunOf true directory l.app l.policy budget before after r
+RunsOf directory l budget before after (outcome.Prelude place what) = IsPreludeFault prelude place what
+RunsOf directory l budget before after outcome.OutOfMemory = Unit {0}
+RunsOf directory l budget before after (outcome.Graph f) = ⊥
+RunsOf directory l budget before after (outcome.Policies f) = ⊥
+RunsOf directory l budget before after (outcome.Load f) = ⊥
 
 -- the folder alone was read, and tells what it told
 pub record HasReadFolder (before after : HostWorld) (r : Result Loaded LoadingFault) : Type 0 where
@@ -54,7 +60,7 @@ pub record HasRunIn (directory : List ℕ) (budget : ℕ) (before after : HostWo
   pub mid : HostWorld
   pub loaded : IsLoading before.folder.told directory (Ok app)
   pub read : HasReadFolder before mid (Ok app)
-  pub ran : RunsOf directory app.modules budget mid after o
+  pub ran : RunsOf directory app budget mid after o
 
 -- nothing was loaded
 pub record IsRefusedBy (directory : List ℕ) (before after : HostWorld) (f : LoadingFault) : Type 0 where
@@ -67,6 +73,7 @@ RunComes directory budget before after (outcome.Ran r) = HasRunIn directory budg
 RunComes directory budget before after (outcome.Prelude place what) = HasRunIn directory budget before after (outcome.Prelude place what)
 RunComes directory budget before after outcome.OutOfMemory = HasRunIn directory budget before after outcome.OutOfMemory
 RunComes directory budget before after (outcome.Graph f) = IsRefusedBy directory before after (loading.Graph f)
+RunComes directory budget before after (outcome.Policies f) = IsRefusedBy directory before after (loading.Policies f)
 RunComes directory budget before after (outcome.Load f) = IsRefusedBy directory before after (loading.Load f)
 
 -- WHAT IS TOLD
@@ -94,6 +101,10 @@ syntax_line owner path place w = lines.syntax_line owner path place w
 
 abbrev pub missing_line : (owner request : List ℕ) → List ℕ
 missing_line owner request = lines.missing_line owner request
+
+-- a policy file that is refused, by its row and key as they are shown
+abbrev pub policy_line : PolicyFile → (row key : List ℕ) → PolicyWhat → List ℕ
+policy_line file row key w = lines.policy_line (file_name file) row key (what_name w)
 
 -- a line is written, or there was no memory for it
 abbrev pub PutsLine : (line : List ℕ) → (own : ℕ) → (before after : Stand (List ℕ)) → (status : ℕ) → Type 0
@@ -138,6 +149,12 @@ TellsGraph (graph.TooMany what count) before after status = PutsLine (lines.too_
 TellsGraph graph.Folder before after status = PutsLine (lines.outside_line words.FOLDER.now) texts.OUTSIDE_STATUS before after status
 TellsGraph graph.OutOfMemory before after status = Lacks before after status
 
+abbrev pub TellsPolicies : PoliciesFault → (before after : Stand (List ℕ)) → (status : ℕ) → Type 0
+TellsPolicies (policies.Bad file row key what) before after status = PutsLine (policy_line file (shown_word row) (shown_word key) what) texts.POLICY_STATUS before after status
+TellsPolicies policies.TooLong before after status = PutsLine (lines.too_many_line FILE.now (FILE_LIMIT + 1)) texts.LOADING_STATUS before after status
+TellsPolicies policies.Folder before after status = PutsLine (lines.outside_line words.FOLDER.now) texts.OUTSIDE_STATUS before after status
+TellsPolicies policies.OutOfMemory before after status = Lacks before after status
+
 abbrev pub TellsLoad : LoadFault → (before after : Stand (List ℕ)) → (status : ℕ) → Type 0
 TellsLoad (load.Syntax name path place what) before after status = PutsLine (syntax_line name path place what) texts.LOADING_STATUS before after status
 TellsLoad (load.Missing name request) before after status = PutsLine (missing_line name request) texts.LOADING_STATUS before after status
@@ -149,6 +166,7 @@ TellsLoad load.OutOfMemory before after status = Lacks before after status
 abbrev pub RunReports : RunOutcome → (before after : Stand (List ℕ)) → (status : ℕ) → Type 0
 RunReports (outcome.Ran r) before after status = TellsRun r before after status
 RunReports (outcome.Graph f) before after status = TellsGraph f before after status
+RunReports (outcome.Policies f) before after status = TellsPolicies f before after status
 RunReports (outcome.Load f) before after status = TellsLoad f before after status
 RunReports (outcome.Prelude place what) before after status = PutsLine (syntax_line words.PRELUDE_PACKAGE.now words.PRELUDE_PATH.now place what) texts.LOADING_STATUS before after status
 RunReports outcome.OutOfMemory before after status = Lacks before after status

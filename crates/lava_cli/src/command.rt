@@ -44,10 +44,10 @@ fn run<F: Folder, I: Source, O: Sink, E: Sink, C: Clock>(
 
 /// Does what the words say, and gives the exit status. The words come without the program's own name.
 ///
-/// - `run DIR [--budget N]` loads the application of a directory (`package.json`, `index.js` or its `main`, and what these require) and runs its own package.
+/// - `run DIR [--budget N]` loads the application of a directory (`package.json`, its policy files, `index.js` or its `main`, and what these require) and runs its own package.
 /// - `tree FILE` appends the lines of the core term that a module is lowered to.
 ///
-/// The statuses: 0 done, 1 a thrown value that nothing caught, 2 usage, 3 nothing was loaded, 5 a limit of the language, 6 the budget was used up,
+/// The statuses: 0 done, 1 a thrown value that nothing caught, 2 usage, 3 nothing was loaded, 4 a policy file is refused, 5 a limit of the language, 6 the budget was used up,
 /// 7 a call on an object of the outside failed, 9 want of memory.
 pub fn lava<F: Folder, I: Source, O: Sink, E: Sink, C: Clock>(
     alloc: Global,

@@ -1,5 +1,6 @@
 // How a run of a folder ends.
 
+use crate::policies::PoliciesFault;
 use js_fault::fault::SyntaxWhat;
 use lava_base::place::Place;
 use lava_runner::app::Report;
@@ -13,6 +14,8 @@ pub enum RunOutcome {
     Ran(Report),
     /// The packages of the folder are not read.
     Graph(GraphFault),
+    /// Its policy is not read.
+    Policies(PoliciesFault),
     /// Its modules are not loaded.
     Load(LoadFault),
     /// The prelude is refused: what is wrong, and at which place. It does not come.

@@ -4,7 +4,7 @@ ghost use Rattle.std.specs.Prelude.{◌≡◌};
 ghost use Rattle.lava_host.specs.Hosts.{host_world};
 ghost use Rattle.lava_cli.specs.RunAnswers.{RunComes, RunsOf};
 
-use crate::loading::{LoadingFault, load_application};
+use crate::loading::{Loaded, LoadingFault, load_application};
 use crate::outcome::RunOutcome;
 use lava_runner::app::run_app;
 use lava_runner::common::RunFault;
@@ -12,14 +12,12 @@ use lava_streams::clock::Clock;
 use lava_streams::folder::Folder;
 use lava_streams::sink::Sink;
 use lava_streams::source::Source;
-use pkg_load::load::Application;
-use pkg_source::code::ModuleCode;
 use std::alloc::Global;
 
 /// Runs an application.
 fn run_loaded<F: Folder, I: Source, O: Sink, E: Sink, C: Clock>(
     alloc: Global,
-    app: &Application<ModuleCode>,
+    loaded: &Loaded,
     directory: &str,
     budget: u64,
     folder: &mut F,
@@ -32,10 +30,11 @@ fn run_loaded<F: Folder, I: Source, O: Sink, E: Sink, C: Clock>(
         (O.Sink.stand out.old) (E.Sink.stand err.old) (C.Clock.stand clock.old) in
         let after = host_world (F.Folder.stand folder.new) (I.Source.stand input.new)
         (O.Sink.stand out.new) (E.Sink.stand err.new) (C.Clock.stand clock.new) in
-        RunsOf directory.now app.now.modules budget before after result }
+        RunsOf directory.now loaded.now budget before after result }
 {
+    let Loaded { app, policy } = loaded;
     match run_app(
-        alloc, app, budget, true, directory, folder, input, out, err, clock,
+        alloc, app, policy, budget, true, directory, folder, input, out, err, clock,
     ) {
         Ok(report) => RunOutcome::Ran(report),
         Err(RunFault::Prelude(place, what)) => RunOutcome::Prelude(place, what),
@@ -61,10 +60,11 @@ pub fn run_directory<F: Folder, I: Source, O: Sink, E: Sink, C: Clock>(
         RunComes directory.now budget before after result }
 {
     match load_application(alloc, directory, folder) {
-        Ok(app) => run_loaded(
-            alloc, &app, directory, budget, folder, input, out, err, clock,
+        Ok(loaded) => run_loaded(
+            alloc, &loaded, directory, budget, folder, input, out, err, clock,
         ),
         Err(LoadingFault::Graph(fault)) => RunOutcome::Graph(fault),
+        Err(LoadingFault::Policies(fault)) => RunOutcome::Policies(fault),
         Err(LoadingFault::Load(fault)) => RunOutcome::Load(fault),
     }
 }

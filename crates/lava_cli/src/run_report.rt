@@ -1,9 +1,11 @@
 // What is told of how a run ended, and the exit status.
 
 ghost use Rattle.std.specs.Prelude.{◌≡◌};
+ghost use Rattle.policy_row.specs.Names.{shown_word};
 ghost use Rattle.lava_cli.specs.RunAnswers as spec;
 
 use crate::outcome::RunOutcome;
+use crate::policies::PoliciesFault;
 use js_fault::fault::SyntaxWhat;
 use js_machine::frame::Halt;
 use js_world::ending::Ending;
@@ -13,18 +15,21 @@ use lava_base::name::Name;
 use lava_base::place::Place;
 use lava_host::fault::Which;
 use lava_lines::lines::{
-    ended_line, manifest_line, missing_line, outside_line, syntax_line, too_many_line,
+    ended_line, manifest_line, missing_line, outside_line, policy_line, syntax_line, too_many_line,
     uncaught_line,
 };
 use lava_lines::report::put_made;
 use lava_lines::status::{
     BUDGET_STATUS, DONE_STATUS, HOST_PARTY, LIMIT_STATUS, LOADING_STATUS, MEMORY_STATUS,
-    OUTSIDE_STATUS, ROOT_PACKAGE, UNCAUGHT_STATUS,
+    OUTSIDE_STATUS, POLICY_STATUS, ROOT_PACKAGE, UNCAUGHT_STATUS,
 };
 use lava_runner::app::Report;
 use lava_streams::sink::Sink;
 use pkg_graph::fault::GraphFault;
+use pkg_graph::limits::FILE;
+use pkg_graph::standing::FILE_LIMIT;
 use pkg_load::fault::LoadFault;
+use policy_row::fault::{PolicyFile, PolicyWhat, shown};
 use std::alloc::Global;
 
 /// The package of the common part's functions, in the line where these are refused.
@@ -152,6 +157,61 @@ fn tell_graph<E: Sink>(alloc: Global, fault: GraphFault, err: &mut E) -> u8
     }
 }
 
+/// Tells what is wrong with a policy file, at these words.
+fn tell_words<E: Sink>(
+    alloc: Global,
+    file: PolicyFile,
+    row: &str,
+    key: &str,
+    what: PolicyWhat,
+    err: &mut E,
+) -> u8
+    ensures { let line = spec.policy_line file row.now key.now what in
+        spec.PutsLine line POLICY_STATUS (E.stand err.old) (E.stand err.new) result }
+{
+    put_made(
+        policy_line(alloc, file.name(), row, key, what.name()),
+        POLICY_STATUS,
+        err,
+    )
+}
+
+/// Tells what is wrong with a policy file.
+fn tell_bad<E: Sink>(
+    alloc: Global,
+    file: PolicyFile,
+    row: &Name,
+    key: &Name,
+    what: PolicyWhat,
+    err: &mut E,
+) -> u8
+    ensures { let line = spec.policy_line file (shown_word row.now) (shown_word key.now) what in
+        spec.PutsLine line POLICY_STATUS (E.stand err.old) (E.stand err.new) result }
+{
+    tell_words(alloc, file, shown(row), shown(key), what, err)
+}
+
+/// Tells why the policy of an application is not read.
+fn tell_policies<E: Sink>(alloc: Global, fault: PoliciesFault, err: &mut E) -> u8
+    ensures { spec.TellsPolicies fault (E.stand err.old) (E.stand err.new) result }
+{
+    match fault {
+        PoliciesFault::Bad {
+            file,
+            row,
+            key,
+            what,
+        } => tell_bad(alloc, file, &row, &key, what, err),
+        PoliciesFault::TooLong => put_made(
+            too_many_line(alloc, FILE, u64::from(FILE_LIMIT) + 1),
+            LOADING_STATUS,
+            err,
+        ),
+        PoliciesFault::Folder => put_made(outside_line(alloc, FOLDER), OUTSIDE_STATUS, err),
+        PoliciesFault::OutOfMemory => tell_lack(err),
+    }
+}
+
 /// Tells what is wrong with a source.
 fn tell_syntax<E: Sink>(
     alloc: Global,
@@ -227,6 +287,7 @@ pub fn report_run<E: Sink>(alloc: Global, outcome: RunOutcome, err: &mut E) -> u
     match outcome {
         RunOutcome::Ran(report) => tell_run(alloc, report, err),
         RunOutcome::Graph(fault) => tell_graph(alloc, fault, err),
+        RunOutcome::Policies(fault) => tell_policies(alloc, fault, err),
         RunOutcome::Load(fault) => tell_load(alloc, fault, err),
         RunOutcome::Prelude(place, what) => {
             tell_syntax(alloc, PRELUDE_PACKAGE, PRELUDE_PATH, place, &what, err)

@@ -31,6 +31,11 @@ missing_line owner request = two_words texts.MISSING_START.now owner request
 abbrev pub manifest_line : (dir field : List ℕ) → List ℕ
 manifest_line dir field = two_words texts.MANIFEST_START.now dir field
 
+-- a policy file that is refused: the file, the row and the key as they are shown, and what is wrong
+abbrev pub policy_line : (file row key wrong : List ℕ) → List ℕ
+policy_line file row key wrong =
+    texts.POLICY_START.now ++ (file ++ (32 ∷ (row ++ (32 ∷ (key ++ (32 ∷ (wrong ++ (10 ∷ []))))))))
+
 -- a limit that was passed
 abbrev pub too_many_line : (counted : List ℕ) → (count : ℕ) → List ℕ
 too_many_line counted count = texts.TOO_MANY_START.now ++ (counted ++ (32 ∷ (decimal count ++ (10 ∷ []))))

@@ -6,7 +6,8 @@ ghost use Rattle.lava_lines.specs.Lines as spec;
 
 use crate::status::{
     BAD_TOKEN, EARLY, ENDED_IN, LEFT_OUT, LINE_START, MANIFEST_START, MISSING_START, NOT_UTF8,
-    OUTSIDE_START, SYNTAX_START, TOO_DEEP, TOO_MANY_START, UNCAUGHT_START, UNEXPECTED,
+    OUTSIDE_START, POLICY_START, SYNTAX_START, TOO_DEEP, TOO_MANY_START, UNCAUGHT_START,
+    UNEXPECTED,
 };
 use itoa::Buffer;
 use js_fault::fault::SyntaxWhat;
@@ -108,6 +109,30 @@ pub fn manifest_line(alloc: Global, dir: &str, field: &str) -> Result<List<u8>, 
         IfOk result (λ made. made ≡ line) }
 {
     two_words(alloc, MANIFEST_START, dir, field)
+}
+
+/// The line of a policy file that is refused: the file, the row and the key as they are shown, and what is wrong.
+pub fn policy_line(
+    alloc: Global,
+    file: &str,
+    row: &str,
+    key: &str,
+    what: &str,
+) -> Result<List<u8>, OutOfMemory>
+    ensures { let line = spec.policy_line file.now row.now key.now what.now in
+        IfOk result (λ made. made ≡ line) }
+{
+    let mut line = List::new(alloc);
+    line.extend_from_slice(POLICY_START.as_bytes())?;
+    line.extend_from_slice(file.as_bytes())?;
+    line.push(b' ')?;
+    line.extend_from_slice(row.as_bytes())?;
+    line.push(b' ')?;
+    line.extend_from_slice(key.as_bytes())?;
+    line.push(b' ')?;
+    line.extend_from_slice(what.as_bytes())?;
+    line.push(b'\n')?;
+    Ok(line)
 }
 
 /// The line of a limit: what is counted, and the count that passed it.

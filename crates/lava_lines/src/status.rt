@@ -12,6 +12,9 @@ pub const USAGE_STATUS: u8 = 2;
 /// The exit status where no program could be loaded.
 pub const LOADING_STATUS: u8 = 3;
 
+/// The exit status where a policy file is refused.
+pub const POLICY_STATUS: u8 = 4;
+
 /// The exit status where a run met a limit of the language.
 pub const LIMIT_STATUS: u8 = 5;
 
@@ -35,6 +38,9 @@ pub const UNCAUGHT_START: &str = "lava: uncaught ";
 
 /// How the line of a bad manifest begins; its directory and the field follow.
 pub const MANIFEST_START: &str = "lava: manifest ";
+
+/// How the line of a policy file that is refused begins; the file, the row, the key and what is wrong follow.
+pub const POLICY_START: &str = "lava: policy ";
 
 /// How the line of a limit begins; what is counted and the count follow.
 pub const TOO_MANY_START: &str = "lava: too many ";

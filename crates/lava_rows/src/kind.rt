@@ -13,6 +13,10 @@ pub enum Kind {
     Missing,
     /// `bytes N`: runs a file of this many bytes.
     Bytes,
+    /// `policy MAIN OVERRIDE`: runs a folder with these policy files.
+    Policy,
+    /// `policy_bytes N`: runs a folder with a policy file of this many bytes.
+    PolicyBytes,
     /// `folder N`: the N-th call on the folder fails.
     FolderFails,
     /// `output N`: the N-th call on the output fails.
@@ -41,12 +45,14 @@ pub enum Kind {
     Clock,
 }
 
-static KINDS: [(&str, Kind); 18] = [
+static KINDS: [(&str, Kind); 20] = [
     ("run", Kind::Run),
     ("tree", Kind::Tree),
     ("words", Kind::Words),
     ("missing", Kind::Missing),
     ("bytes", Kind::Bytes),
+    ("policy", Kind::Policy),
+    ("policy_bytes", Kind::PolicyBytes),
     ("folder", Kind::FolderFails),
     ("output", Kind::OutputFails),
     ("errors", Kind::ErrorsFail),

@@ -42,6 +42,8 @@ fn row_of(rt: &HostRuntime, kind: Kind, rest: &str) -> Result<String, Fault> {
         Kind::Words => memory::words(alloc, rest),
         Kind::Missing => memory::missing(alloc),
         Kind::Bytes => memory::bytes(alloc, rest),
+        Kind::Policy => memory::policy(alloc, rest),
+        Kind::PolicyBytes => memory::policy_bytes(alloc, rest),
         Kind::FolderFails => memory::folder_fails(alloc, rest),
         Kind::OutputFails => memory::output_fails(alloc, rest),
         Kind::ErrorsFail => memory::errors_fail(alloc, rest),

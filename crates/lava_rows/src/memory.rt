@@ -15,6 +15,11 @@ use std::alloc::Global;
 // A call that comes in no row.
 const NEVER: u32 = 4_294_967_295;
 
+// The policy files of the application.
+const POLICY: &str = "app/lavamoat/node/policy.json";
+
+const OVERRIDE: &str = "app/lavamoat/node/policy-override.json";
+
 // The program of the rows that have none of their own.
 const PROGRAM: &[u8] = b"console.log('a'); console.log('b');";
 
@@ -51,6 +56,27 @@ pub fn bytes(alloc: Global, count: &str) -> Result<String, Fault> {
     let mut source = vec![in alloc; b' '; spaces]?;
     source.extend_from_slice(call_of)?;
     let folder = folder_with(alloc, "app/index.js", source.as_slice())?;
+    call(alloc, "run app", folder, NEVER, NEVER)
+}
+
+/// `policy MAIN OVERRIDE`, which have no spaces; there is no override where no second one stands.
+pub fn policy(alloc: Global, files: &str) -> Result<String, Fault> {
+    let (main, over) = files.split_once(' ').unwrap_or((files, ""));
+    let mut folder = folder_with(alloc, "app/index.js", PROGRAM)?;
+    folder.add(POLICY, main.as_bytes())?;
+    if !over.is_empty() {
+        folder.add(OVERRIDE, over.as_bytes())?;
+    }
+    call(alloc, "run app", folder, NEVER, NEVER)
+}
+
+/// `policy_bytes N`: an array with spaces in it.
+pub fn policy_bytes(alloc: Global, count: &str) -> Result<String, Fault> {
+    let spaces = (number(count)? as usize).saturating_sub(2);
+    let mut policy = vec![in alloc; b'[']?;
+    policy.extend_from_slice(&vec![in alloc; b' '; spaces]?)?;
+    policy.push(b']')?;
+    let folder = folder_with(alloc, POLICY, policy.as_slice())?;
     call(alloc, "run app", folder, NEVER, NEVER)
 }
 

@@ -30,8 +30,10 @@ use Rattle.lava_host.specs.Printed.{printed_reference, printed_value}
 use Rattle.lava_start.specs.Applications.{RunParts, root_application}
 use Rattle.lava_start.specs.Firsts.{IsFirstWorld}
 use Rattle.lava_start.specs.Laws.{Runs_are_well_made}
+use Rattle.pkg_load.specs.Applications as loads
 use Rattle.pkg_load.specs.declared.module.LoadedModule.{LoadedModule}
 use Rattle.pkg_source.specs.declared.code.ModuleCode.{ModuleCode}
+use Rattle.policy_row.specs.Rows.{Rows}
 use Rattle.lava_runner.specs.Commons.{IsCommonPart}
 use Rattle.lava_runner.specs.Ran.{AreAskedIn, BeginsSo, HasRun, IsAskedIn}
 use Rattle.lava_runner.specs.Reports.{EndsSo, HasReport, HasRunFrom, IsApplicationOf, IsFirstOf, IsReportOf, IsRunOf, IsUncaughtText, parts_of, uncaught_text}
@@ -105,14 +107,14 @@ ends_so law made parts budget n last ran r s app a over =
       uncaught = uncaught_so app (heap.heap app budget n) last ran.ending r.uncaught over.answer s.uncaught ∙ ap (λ e. uncaught_text e (uncaught_of app (heap.heap app budget n))) (sym s.ending);
     }
 
-pub is_run : Journal_is_net → Runs_are_well_made → (emit : Bool) (dir : List ℕ) (ms : List (LoadedModule ModuleCode)) (budget : ℕ) (before after : HostWorld) (r : Report) (c : CommonPart)
-    → IsCommonPart c → HasRunFrom emit dir ms c budget before after r → IsRunOf emit dir ms budget before after r
-is_run law made emit dir ms budget before after r c part run =
+pub is_run : Journal_is_net → Runs_are_well_made → (emit : Bool) (dir : List ℕ) (loaded : loads.Application ModuleCode) (policy : Rows) (budget : ℕ) (before after : HostWorld) (r : Report) (c : CommonPart)
+    → IsCommonPart c → HasRunFrom emit dir loaded.modules c budget before after r → IsRunOf emit dir loaded policy budget before after r
+is_run law made emit dir loaded policy budget before after r c part run =
     let first = run.first in
     let f = run.is in
     let h = run.report in
     let come = h.runs.come in
-    let parts = parts_of c ms in
+    let parts = parts_of c loaded.modules in
     record {
       common = c;
       part = part;

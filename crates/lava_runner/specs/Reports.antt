@@ -9,8 +9,10 @@ use Rattle.js_world.specs.declared.ending.Ending.TheVariants as ending
 use Rattle.lava_host.specs.Hosts.{HostWorld}
 use Rattle.lava_start.specs.Applications.{RunParts, Surroundings, root_application}
 use Rattle.lava_start.specs.Firsts.{IsFirstWorld, run_parts_of}
+use Rattle.pkg_load.specs.Applications as loads
 use Rattle.pkg_load.specs.declared.module.LoadedModule.{LoadedModule}
 use Rattle.pkg_source.specs.declared.code.ModuleCode.{ModuleCode}
+use Rattle.policy_row.specs.Rows.{Rows}
 use Rattle.lava_runner.specs.Commons.{IsCommonPart}
 use Rattle.lava_runner.specs.Modules.{main_path, sources_of}
 use Rattle.lava_runner.specs.Ran.{AreAskedIn, HasRun}
@@ -72,12 +74,12 @@ pub record EndsSo (app : Application) (budget crossings : ℕ) (r : Report) : Ty
   pub uncaught : r.uncaught ≡ uncaught_text r.ending (uncaught_of app (heap app budget crossings))
 
 -- the run of an application's own package: what it asks of the host, each in its turn, is what was done to the outside, and in each application whose outside answers so it ends with this report
-pub record IsRunOf (emit : Bool) (dir : List ℕ) (ms : List (LoadedModule ModuleCode)) (budget : ℕ) (before after : HostWorld) (r : Report) : Type 0 where
+pub record IsRunOf (emit : Bool) (dir : List ℕ) (app : loads.Application ModuleCode) (policy : Rows) (budget : ℕ) (before after : HostWorld) (r : Report) : Type 0 where
   pub common : CommonPart
   pub part : IsCommonPart common
   pub talks : List Talk
   pub outside : AreTalks emit dir talks before after
   pub which : r.which ≡ newest_failed talks
-  pub asked : AreAskedIn (IsApplicationOf (parts_of common ms)) budget talks
+  pub asked : AreAskedIn (IsApplicationOf (parts_of common app.modules)) budget talks
   pub crossings : ℕ
-  pub ends : (app : Application) → IsApplicationOf (parts_of common ms) app → Agrees app talks → EndsSo app budget crossings r
+  pub ends : (a : Application) → IsApplicationOf (parts_of common app.modules) a → Agrees a talks → EndsSo a budget crossings r

@@ -27,6 +27,7 @@ use lava_streams::source::Source;
 use pkg_load::load::Application;
 use pkg_load::module::LoadedModule;
 use pkg_source::code::ModuleCode;
+use policy_row::policy::Policy;
 use std::alloc::Global;
 
 /// The place of the application's own package among the packages.
@@ -143,6 +144,7 @@ fn run_modules<F: Folder, I: Source, O: Sink, E: Sink, C: Clock>(
 pub fn run_app<F: Folder, I: Source, O: Sink, E: Sink, C: Clock>(
     alloc: Global,
     app: &Application<ModuleCode>,
+    policy: &Policy,
     budget: u64,
     emit: bool,
     dir: &str,
@@ -156,7 +158,7 @@ pub fn run_app<F: Folder, I: Source, O: Sink, E: Sink, C: Clock>(
         (O.Sink.stand out.old) (E.Sink.stand err.old) (C.Clock.stand clock.old) in
         let after = host_world (F.Folder.stand folder.new) (I.Source.stand input.new)
         (O.Sink.stand out.new) (E.Sink.stand err.new) (C.Clock.stand clock.new) in
-        IfOk result (IsRunOf emit dir.now app.now.modules budget before after) }
+        IfOk result (IsRunOf emit dir.now app.now policy.now budget before after) }
     ensures cause { MatchResult result (λ r. Unit {0}) HasRunCause }
 {
     journal_is_net();

@@ -1,6 +1,6 @@
 use Rattle.std.proofs.Common.{subst}
 use Rattle.lava_host.specs.Hosts.{host_world}
-use Rattle.lava_runner.specs.Reports.{IsRunOf}
+use Rattle.lava_runner.specs.Reports.{HasRunFrom}
 use Rattle.lava_runner.proofs.Reported.{is_run}
 use Rattle.lava_runner.proofs.app.run_app.Goals as goal
 
@@ -9,5 +9,6 @@ returns-in_ok-report-in-Ok-clause-runs g c =
     let before = host_world (g.F.Folder.stand c.args.folder.now) (g.I.Source.stand c.args.input.now) (g.O.Sink.stand c.args.out.now) (g.E.Sink.stand c.args.err.now) (g.C.Clock.stand c.args.clock.now) in
     let after = host_world (g.F.Folder.stand c.run_modules.new.folder) (g.I.Source.stand c.run_modules.new.input) (g.O.Sink.stand c.run_modules.new.out) (g.E.Sink.stand c.run_modules.new.err) (g.C.Clock.stand c.run_modules.new.clock) in
     let report = c.in_ok-report-in-Ok.report in
-    let ran = is_run c.journal_is_net.ensures c.runs_are_well_made.ensures c.args.emit c.args.dir.now c.modules.result.now c.args.budget before after report c.in-Ok.common c.in-Ok.ensures.part c.in_ok-report-in-Ok.ensures in
-    subst (λ ms. IsRunOf c.args.emit c.args.dir.now ms c.args.budget before after report) c.modules.ensures ran
+    let common = c.in-Ok.common in
+    let ran = subst (λ ms. HasRunFrom c.args.emit c.args.dir.now ms common c.args.budget before after report) c.modules.ensures c.in_ok-report-in-Ok.ensures in
+    is_run c.journal_is_net.ensures c.runs_are_well_made.ensures c.args.emit c.args.dir.now c.args.app.now c.args.policy.now c.args.budget before after report common c.in-Ok.ensures.part ran
