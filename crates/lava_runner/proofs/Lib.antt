@@ -1,2 +1,3 @@
-mod Underway
-mod Reported
+pub mod Underway
+pub mod In_range
+pub mod Reported

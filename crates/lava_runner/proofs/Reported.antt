@@ -1,5 +1,5 @@
 -- The report on a run that is over.
-use Rattle.std.proofs.Common.{◌≡◌, ◌<◌, ℕ, zero, suc, Bool, true, false, List, [], ◌∷◌, get_or, set, length, nat_eq, Option, Some, None, refl, sym, ap, ◌∙◌, subst, arith, Result, Ok, Err, IfOk, ⊎_elim, if◌then◌else◌}
+use Rattle.std.proofs.Common.{◌≡◌, ◌<◌, ℕ, zero, suc, Bool, true, false, List, [], ◌∷◌, get_or, set, length, map, nat_eq, Option, Some, None, refl, sym, ap, ◌∙◌, subst, arith, Result, Ok, Err, IfOk, ⊎_elim, if◌then◌else◌}
 use Rattle.std.proofs.lemmas.Bool.Decides.{eqb_tells}
 use Rattle.std.specs.Option.{option_map}
 use Rattle.lava_base.specs.Ids.{same_ref}
@@ -27,21 +27,25 @@ use Rattle.js_world.specs.declared.ending.Ending.{Ending}
 use Rattle.js_world.specs.declared.ending.Ending.TheVariants as ending
 use Rattle.lava_host.specs.Hosts.{HostWorld}
 use Rattle.lava_host.specs.Printed.{printed_reference, printed_value}
-use Rattle.lava_start.specs.Applications.{RunParts, root_application}
-use Rattle.lava_start.specs.Firsts.{IsFirstWorld}
+use Rattle.lava_start.specs.Applications.{AllInRange, RunParts, run_application}
+use Rattle.lava_start.specs.Firsts.{IsFirstWorld, parts_of, run_parts_of}
 use Rattle.lava_start.specs.Laws.{Runs_are_well_made}
+use Rattle.lava_start.specs.declared.packages.PackageSource.{PackageSource}
+use Rattle.pkg_graph.specs.declared.graph.Package.{Package}
 use Rattle.pkg_load.specs.Applications as loads
 use Rattle.pkg_load.specs.declared.module.LoadedModule.{LoadedModule}
 use Rattle.pkg_source.specs.declared.code.ModuleCode.{ModuleCode}
 use Rattle.policy_row.specs.Rows.{Rows}
 use Rattle.lava_runner.specs.Commons.{IsCommonPart}
+use Rattle.lava_runner.specs.Packages.{parts_from, run_parts}
 use Rattle.lava_runner.specs.Ran.{AreAskedIn, BeginsSo, HasRun, IsAskedIn}
-use Rattle.lava_runner.specs.Reports.{EndsSo, HasReport, HasRunFrom, IsApplicationOf, IsFirstOf, IsReportOf, IsRunOf, IsUncaughtText, parts_of, uncaught_text}
+use Rattle.lava_runner.specs.Reports.{EndsSo, HasReport, HasRunFrom, IsApplicationOf, IsFirstOf, IsReportOf, IsRunOf, IsUncaughtText, uncaught_text}
 use Rattle.lava_runner.specs.Talks.{Agrees, Talk}
 use Rattle.lava_runner.specs.Uncaught.{IsUncaughtIn, Thrown, host_marks, marks_there, shown, thrown_in, uncaught_of}
 use Rattle.lava_runner.specs.declared.app.Report.{Report}
 use Rattle.lava_runner.specs.declared.common.CommonPart.{CommonPart}
 use Rattle.lava_runner.specs.declared.run.Ran.{Ran}
+use Rattle.lava_runner.proofs.In_range.{parts_in_range}
 
 -- THE APPLICATION BEGINS AS THE FIRST WORLD RESTS
 
@@ -91,16 +95,21 @@ uncaught_so app w v (ending.Fault p h) text k u = u
 
 -- THE RUN OF AN APPLICATION
 
-pub ran_from : {E : Type 0} (r : Result Report E) (emit : Bool) (dir : List ℕ) (ms : List (LoadedModule ModuleCode)) (c : CommonPart) (budget : ℕ) (before after : HostWorld) (first : WorldView) → IsFirstOf ms c budget first
-    → IfOk r (HasReport emit dir first before after) → IfOk r (HasRunFrom emit dir ms c budget before after)
-ran_from (Ok r) emit dir ms c budget before after first f h = record { first = first; is = f; report = h }
-ran_from (Err e) emit dir ms c budget before after first f h = tt
+pub ran_from : {E : Type 0} (r : Result Report E) (emit : Bool) (dir : List ℕ) (packages : List Package) (ms : List (LoadedModule ModuleCode)) (policy : Rows) (c : CommonPart) (budget : ℕ) (before after : HostWorld) (first : WorldView)
+    → IsFirstOf packages ms policy c budget first → IfOk r (HasReport emit dir first before after) → IfOk r (HasRunFrom emit dir packages ms policy c budget before after)
+ran_from (Ok r) emit dir packages ms policy c budget before after first f h = record { first = first; is = f; report = h }
+ran_from (Err e) emit dir packages ms policy c budget before after first f h = tt
 
-ends_so : Journal_is_net → Runs_are_well_made → (parts : RunParts) (budget crossings : ℕ) (last : WorldView) (ran : Ran) (r : Report) → IsReportOf last ran r → (app : Application) → IsApplicationOf parts app
+-- what the packages are made of is what they are made of as they are handed in
+pub first_over : {E : Type 0} (r : Result WorldView E) (c : CommonPart) (packages : List Package) (ms : List (LoadedModule ModuleCode)) (policy : Rows) (budget : ℕ) (sources : List PackageSource) → map parts_of sources ≡ parts_from packages ms policy 0 packages
+    → IfOk r (IsFirstWorld (run_parts_of c.objects c.templates sources) budget) → IfOk r (IsFirstOf packages ms policy c budget)
+first_over r c packages ms policy budget sources e h = subst (λ ps. IfOk r (IsFirstWorld (record { common = c.objects; templates = c.templates; packages = ps }) budget)) e h
+
+ends_so : Journal_is_net → Runs_are_well_made → (parts : RunParts) (budget crossings : ℕ) (last : WorldView) (ran : Ran) (r : Report) → AllInRange parts.packages → IsReportOf last ran r → (app : Application) → IsApplicationOf parts app
     → IsOver app (heap.heap app budget crossings) last ran.ending → EndsSo app budget crossings r
-ends_so law made parts budget n last ran r s app a over =
+ends_so law made parts budget n last ran r range s app a over =
     let is : (heap.heap app budget n).control ≡ Over_with (ending_of r.ending) = over.control ∙ ap (λ e. Over_with (ending_of e)) (sym s.ending) in
-    let well = subst IsWellMade (sym a.is) (made parts a.surroundings) in
+    let well = subst IsWellMade (sym a.is) (made parts a.surroundings range) in
     record {
       machine = is;
       network = sym (law app well budget n).ending ∙ ap laws.ending_of is;
@@ -108,13 +117,14 @@ ends_so law made parts budget n last ran r s app a over =
     }
 
 pub is_run : Journal_is_net → Runs_are_well_made → (emit : Bool) (dir : List ℕ) (loaded : loads.Application ModuleCode) (policy : Rows) (budget : ℕ) (before after : HostWorld) (r : Report) (c : CommonPart)
-    → IsCommonPart c → HasRunFrom emit dir loaded.modules c budget before after r → IsRunOf emit dir loaded policy budget before after r
+    → IsCommonPart c → HasRunFrom emit dir loaded.packages loaded.modules policy c budget before after r → IsRunOf emit dir loaded policy budget before after r
 is_run law made emit dir loaded policy budget before after r c part run =
     let first = run.first in
     let f = run.is in
     let h = run.report in
     let come = h.runs.come in
-    let parts = parts_of c loaded.modules in
+    let parts = run_parts c loaded.packages loaded.modules policy in
+    let range = parts_in_range loaded.packages loaded.modules policy 0 loaded.packages in
     record {
       common = c;
       part = part;
@@ -124,6 +134,6 @@ is_run law made emit dir loaded policy budget before after r c part run =
       asked = asked_in parts budget first f come.talks come.asked;
       crossings = suc come.underway.crossings;
       ends = λ app a g.
-          ends_so law made parts budget (suc come.underway.crossings) h.last h.ran r h.report app a
+          ends_so law made parts budget (suc come.underway.crossings) h.last h.ran r range h.report app a
           (subst (λ b. IsOver app (heap.heap app b (suc come.underway.crossings)) h.last h.ran.ending) f.limit (come.underway.after app (begins_so parts budget first f app a) g));
     }

@@ -2,5 +2,6 @@ pub mod Ran
 pub mod Talks
 pub mod Commons
 pub mod Modules
+pub mod Packages
 pub mod Reports
 pub mod Uncaught

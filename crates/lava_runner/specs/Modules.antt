@@ -25,8 +25,3 @@ sources_in owner m = if nat_eq m.owner owner then source_of m ∷ [] else []
 
 abbrev pub sources_of : (owner : ℕ) → List (LoadedModule ModuleCode) → List SourceModule
 sources_of owner ms = flat (sources_in owner) ms
-
--- the path of the main module
-abbrev pub main_path : List (LoadedModule ModuleCode) → List ℕ
-main_path [] = []
-main_path (m ∷ ms) = units_of m.path

@@ -7,33 +7,30 @@ use Rattle.js_world.specs.Worlds.{Reads, WorldView, ending_of}
 use Rattle.js_world.specs.declared.ending.Ending.{Ending}
 use Rattle.js_world.specs.declared.ending.Ending.TheVariants as ending
 use Rattle.lava_host.specs.Hosts.{HostWorld}
-use Rattle.lava_start.specs.Applications.{RunParts, Surroundings, root_application}
-use Rattle.lava_start.specs.Firsts.{IsFirstWorld, run_parts_of}
+use Rattle.lava_start.specs.Applications.{RunParts, Surroundings, run_application}
+use Rattle.lava_start.specs.Firsts.{IsFirstWorld}
+use Rattle.pkg_graph.specs.declared.graph.Package.{Package}
 use Rattle.pkg_load.specs.Applications as loads
 use Rattle.pkg_load.specs.declared.module.LoadedModule.{LoadedModule}
 use Rattle.pkg_source.specs.declared.code.ModuleCode.{ModuleCode}
 use Rattle.policy_row.specs.Rows.{Rows}
 use Rattle.lava_runner.specs.Commons.{IsCommonPart}
-use Rattle.lava_runner.specs.Modules.{main_path, sources_of}
+use Rattle.lava_runner.specs.Packages.{run_parts}
 use Rattle.lava_runner.specs.Ran.{AreAskedIn, HasRun}
 use Rattle.lava_runner.specs.Talks.{Agrees, AreTalks, Talk, newest_failed}
 use Rattle.lava_runner.specs.Uncaught.{IsUncaughtIn, uncaught_of}
 use Rattle.lava_runner.specs.declared.app.Report.{Report}
-use Rattle.lava_runner.specs.declared.app.TheConstants.{OWN_PACKAGE}
 use Rattle.lava_runner.specs.declared.common.CommonPart.{CommonPart}
 use Rattle.lava_runner.specs.declared.run.Ran.{Ran}
 
--- what the run of an application's own package is made of
-abbrev pub parts_of : CommonPart → List (LoadedModule ModuleCode) → RunParts
-parts_of c ms = run_parts_of c.objects c.templates (main_path ms) (sources_of OWN_PACKAGE ms)
+-- the machine of all parties before a run of these packages
+abbrev pub IsFirstOf : List Package → List (LoadedModule ModuleCode) → Rows → CommonPart → (budget : ℕ) → WorldView → Type 0
+IsFirstOf packages ms policy c budget v = IsFirstWorld (run_parts c packages ms policy) budget v
 
-abbrev pub IsFirstOf : List (LoadedModule ModuleCode) → CommonPart → (budget : ℕ) → WorldView → Type 0
-IsFirstOf ms c budget v = IsFirstWorld (parts_of c ms) budget v
-
--- an application of the host and the application's own package, whatever its outside answers and however it reads texts as programs
+-- an application of the host and the packages, whatever its outside answers and however it reads texts as programs
 pub record IsApplicationOf (parts : RunParts) (app : Application) : Type 0 where
   pub surroundings : Surroundings
-  pub is : app ≡ root_application parts surroundings
+  pub is : app ≡ run_application parts surroundings
   pub reads : Reads app
 
 -- what is told of what nothing caught: the thrown value where there is one, and else nothing
@@ -61,10 +58,10 @@ pub record HasReport (emit : Bool) (dir : List ℕ) (first : WorldView) (before 
   pub runs : HasRun emit dir first before last ran after
   pub report : IsReportOf last ran r
 
--- the run of these modules from a first world of theirs
-pub record HasRunFrom (emit : Bool) (dir : List ℕ) (ms : List (LoadedModule ModuleCode)) (c : CommonPart) (budget : ℕ) (before after : HostWorld) (r : Report) : Type 0 where
+-- the run of these packages from a first world of theirs
+pub record HasRunFrom (emit : Bool) (dir : List ℕ) (packages : List Package) (ms : List (LoadedModule ModuleCode)) (policy : Rows) (c : CommonPart) (budget : ℕ) (before after : HostWorld) (r : Report) : Type 0 where
   pub first : WorldView
-  pub is : IsFirstOf ms c budget first
+  pub is : IsFirstOf packages ms policy c budget first
   pub report : HasReport emit dir first before after r
 
 -- so many crossings after its first import the run of an application is over: so the machine of all parties says, and the network
@@ -73,13 +70,13 @@ pub record EndsSo (app : Application) (budget crossings : ℕ) (r : Report) : Ty
   pub network : (net app budget crossings).ending ≡ Some (ending_of r.ending)
   pub uncaught : r.uncaught ≡ uncaught_text r.ending (uncaught_of app (heap app budget crossings))
 
--- the run of an application's own package: what it asks of the host, each in its turn, is what was done to the outside, and in each application whose outside answers so it ends with this report
+-- the run of an application, whose packages have what its merged policy grants them: what it asks of the host, each in its turn, is what was done to the outside, and in each application whose outside answers so it ends with this report
 pub record IsRunOf (emit : Bool) (dir : List ℕ) (app : loads.Application ModuleCode) (policy : Rows) (budget : ℕ) (before after : HostWorld) (r : Report) : Type 0 where
   pub common : CommonPart
   pub part : IsCommonPart common
   pub talks : List Talk
   pub outside : AreTalks emit dir talks before after
   pub which : r.which ≡ newest_failed talks
-  pub asked : AreAskedIn (IsApplicationOf (parts_of common app.modules)) budget talks
+  pub asked : AreAskedIn (IsApplicationOf (run_parts common app.packages app.modules policy)) budget talks
   pub crossings : ℕ
-  pub ends : (a : Application) → IsApplicationOf (parts_of common app.modules) a → Agrees a talks → EndsSo a budget crossings r
+  pub ends : (a : Application) → IsApplicationOf (run_parts common app.packages app.modules policy) a → Agrees a talks → EndsSo a budget crossings r

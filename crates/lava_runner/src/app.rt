@@ -9,7 +9,7 @@ ghost use Rattle.lava_runner.specs.Reports.{HasReport, HasRunFrom, IsFirstOf, Is
 ghost use Rattle.lava_runner.specs.Reports.{IsUncaughtText};
 
 use crate::common::{CommonPart, RunFault, common_part};
-use crate::modules::{main_path, sources_of};
+use crate::packages::packages_of;
 use crate::run::{Ran, run};
 use crate::uncaught::uncaught;
 use js_run_laws::journal_is_net;
@@ -24,14 +24,12 @@ use lava_streams::clock::Clock;
 use lava_streams::folder::Folder;
 use lava_streams::sink::Sink;
 use lava_streams::source::Source;
+use pkg_graph::graph::Package;
 use pkg_load::load::Application;
 use pkg_load::module::LoadedModule;
 use pkg_source::code::ModuleCode;
 use policy_row::policy::Policy;
 use std::alloc::Global;
-
-/// The place of the application's own package among the packages.
-pub const OWN_PACKAGE: usize = 0;
 
 /// How a run ended.
 #[derive(Drop)]
@@ -43,25 +41,25 @@ pub struct Report {
     pub which: Option<Which>,
 }
 
-/// The machine of all parties before an application's own package runs.
+/// The machine of all parties before the packages of an application run.
 fn first_of(
     alloc: Global,
+    packages: &[Package],
     modules: &[LoadedModule<ModuleCode>],
+    policy: &Policy,
     common: CommonPart,
     budget: u64,
 ) -> Result<World, OutOfMemory>
     ensures { let c = common in
-        IfOk result (IsFirstOf modules.now c budget) }
+        IfOk result (IsFirstOf packages.now modules.now policy.now c budget) }
 {
+    let sources = packages_of(alloc, packages, modules, policy)?;
     let CommonPart { objects, templates } = common;
-    let main = main_path(alloc, modules)?;
-    let sources = sources_of(alloc, OWN_PACKAGE, modules)?;
     first_world(
         alloc,
         objects,
         templates.as_slice(),
         sources.as_slice(),
-        &main,
         budget,
     )
 }
@@ -115,10 +113,12 @@ fn run_world<F: Folder, I: Source, O: Sink, E: Sink, C: Clock>(
     report_of(alloc, world, ran)
 }
 
-/// Runs the modules of an application's own package over a common part, and reports on it.
-fn run_modules<F: Folder, I: Source, O: Sink, E: Sink, C: Clock>(
+/// Runs the packages of an application over a common part, and reports on it.
+fn run_packages<F: Folder, I: Source, O: Sink, E: Sink, C: Clock>(
     alloc: Global,
+    packages: &[Package],
     modules: &[LoadedModule<ModuleCode>],
+    policy: &Policy,
     common: CommonPart,
     budget: u64,
     emit: bool,
@@ -133,13 +133,14 @@ fn run_modules<F: Folder, I: Source, O: Sink, E: Sink, C: Clock>(
         (O.Sink.stand out.old) (E.Sink.stand err.old) (C.Clock.stand clock.old) in
         let after = host_world (F.Folder.stand folder.new) (I.Source.stand input.new)
         (O.Sink.stand out.new) (E.Sink.stand err.new) (C.Clock.stand clock.new) in
-        IfOk result (HasRunFrom emit dir.now modules.now common budget before after) }
+        let run = HasRunFrom emit dir.now packages.now modules.now policy.now common budget in
+        IfOk result (run before after) }
 {
-    let mut world = first_of(alloc, modules, common, budget)?;
+    let mut world = first_of(alloc, packages, modules, policy, common, budget)?;
     run_world(alloc, &mut world, emit, dir, folder, input, out, err, clock)
 }
 
-/// Runs the own package of an application: the common part is locked, the main module is imported, and what it asks of the host is done to the outside.
+/// Runs an application: the common part is locked, each package stands with what the merged policy grants it, the main module of the application's own is imported, and what it asks of the host is done to the outside.
 /// Where lines are not emitted, `console` prints nothing. The budget is the number of steps that all parties may take together.
 pub fn run_app<F: Folder, I: Source, O: Sink, E: Sink, C: Clock>(
     alloc: Global,
@@ -165,9 +166,11 @@ pub fn run_app<F: Folder, I: Source, O: Sink, E: Sink, C: Clock>(
     runs_are_well_made();
     match common_part(alloc) {
         Ok(common) => {
-            let report = run_modules(
+            let report = run_packages(
                 alloc,
+                app.packages(),
                 app.modules(),
+                policy,
                 common,
                 budget,
                 emit,

@@ -3,7 +3,7 @@
 ghost use Rattle.std.specs.Prelude.{◌≡◌, ◌++◌, IfOk, OnOk, Some};
 ghost use Rattle.std.specs.Option.{option_map};
 ghost use Rattle.js_text.specs.Utf8.{units_of};
-ghost use Rattle.lava_runner.specs.Modules.{main_path, source_of, sources_in, sources_of, template_of};
+ghost use Rattle.lava_runner.specs.Modules.{source_of, sources_in, sources_of, template_of};
 
 use js_lower::modules::{lower, lower_json};
 use js_term::term::Template;
@@ -16,7 +16,7 @@ use pkg_source::code::ModuleCode;
 use std::alloc::Global;
 
 /// The text of UTF-8. Want of memory is answered too where the bytes are not UTF-8, or are too many.
-fn text_in(alloc: Global, bytes: &[u8]) -> Result<Text, OutOfMemory>
+pub(crate) fn text_in(alloc: Global, bytes: &[u8]) -> Result<Text, OutOfMemory>
     ensures { IfOk result (λ text. text ≡ units_of bytes.now) }
 {
     match from_utf8(alloc, bytes) {
@@ -92,14 +92,4 @@ pub fn sources_of(
     let mut sources = Vec::new(alloc);
     add_sources(alloc, owner, modules, &mut sources)?;
     Ok(sources)
-}
-
-/// The path of the main module, which is the first one that is loaded. Want of memory is answered too where there is none.
-pub fn main_path(alloc: Global, modules: &[LoadedModule<ModuleCode>]) -> Result<Text, OutOfMemory>
-    ensures { IfOk result (λ path. path ≡ main_path modules.now) }
-{
-    match modules {
-        [first, ..] => text_in(alloc, first.path.as_str().as_bytes()),
-        [] => Err(OutOfMemory),
-    }
 }

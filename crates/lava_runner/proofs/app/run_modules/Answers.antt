@@ -1,5 +1,0 @@
-use Rattle.lava_runner.proofs.Reported.{ran_from}
-use Rattle.lava_runner.proofs.app.run_modules.Goals as goal
-
-pub returns : goal.returns
-returns g c = ran_from c.run_world.result c.args.emit c.args.dir.now c.args.modules.now c.args.common c.args.budget _ _ c.in_ok-world.world c.in_ok-world.ensures c.run_world.ensures
