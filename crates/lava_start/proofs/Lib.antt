@@ -5,5 +5,6 @@ pub mod Global_laws
 pub mod Links
 pub mod Supply_laws
 pub mod Names_laws
+pub mod Apart_laws
 pub mod Start_laws
 pub mod Standing

@@ -97,6 +97,7 @@ module _ (p : ℕ) (ns : List (Identity Ref MadeSymbol)) where
     where
       front : Covered (property_identities x)
       front = first_part (property_identities x) (ids ps) hp
+
       by : (b c : Bool) → Covered (ids (written same_made_symbol k d ps)) → Covered (ids (if b then (x.0, d) ∷ ps else (if c then (k, d) ∷ x ∷ ps else x ∷ written same_made_symbol k d ps)))
       by true c rest = both (property_identities (x.0, d)) (ids ps) (both (key_identities x.0) (descriptor_identities d) (first_part (key_identities x.0) (descriptor_identities x.1) front) hd) (last_part (property_identities x) (ids ps) hp)
       by false true rest = both (property_identities (k, d)) (ids (x ∷ ps)) (property_covered k d e hd) hp

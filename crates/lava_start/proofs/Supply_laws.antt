@@ -1,5 +1,5 @@
 -- What the steps of a supply come to.
-use Rattle.std.proofs.Common.{◌≡◌, ℕ, zero, suc, ◌+◌, ◌<◌, List, [], ◌∷◌, ◌++◌, Bool, true, false, length, map, None, Some, Result, Ok, Err, OnOk, refl, sym, ap, ◌∙◌, subst, append_assoc, append-nil, length-append, arith}
+use Rattle.std.proofs.Common.{◌≡◌, ℕ, suc, ◌+◌, ◌<◌, List, [], ◌∷◌, ◌++◌, Bool, length, map, None, Some, Result, Ok, Err, OnOk, refl, sym, ap, ◌∙◌, subst, append_assoc, append-nil, length-append, arith}
 use Rattle.std.proofs.Math.ListN.{set}
 use Rattle.std.proofs.Math.Seq.{get_or-append_seam}
 use Rattle.lava_base.specs.declared.ids.MadeSymbol.{MadeSymbol}
@@ -7,7 +7,6 @@ use Rattle.lava_base.specs.declared.ids.Ref.{Ref}
 use Rattle.js_text.specs.Naming.{naming_of}
 use Rattle.js_text.specs.declared.value.Key.{Key}
 use Rattle.js_desc.specs.declared.descriptor.Descriptor.{Descriptor}
-use Rattle.js_desc.specs.declared.start.Grant.{Grant}
 use Rattle.js_store.specs.Frozen.{common_ref}
 use Rattle.js_store.specs.Objects.{at_place, fresh, not_extensible, object_at, plain_marks}
 use Rattle.js_store.specs.declared.slot.Slot.TheVariants as slot

@@ -1,5 +1,5 @@
 -- What a package is given by its row: its objects before anything has happened, and what of others it may name.
-use Rattle.std.specs.Prelude.{◌≡◌, ℕ, zero, suc, nat_eq, ◌+◌, ◌<◌, ◌||◌, Bool, true, false, pos, List, [], ◌∷◌, ◌++◌, length, map, filter, Option, Some, None, codes, if◌then◌else◌, ◌⊎◌}
+use Rattle.std.specs.Prelude.{◌≡◌, ℕ, zero, suc, nat_eq, ◌+◌, ◌<◌, Bool, true, false, pos, List, [], ◌∷◌, ◌++◌, length, map, filter, Option, Some, None, codes, ◌⊎◌}
 use Rattle.std.specs.List.{list_any}
 use Rattle.lava_base.specs.Ids.{same_made_symbol}
 use Rattle.lava_base.specs.declared.ids.MadeSymbol.{MadeSymbol}
@@ -20,11 +20,13 @@ use Rattle.js_desc.specs.declared.start.Grant.TheVariants.{Whole, Part, Live, Li
 use Rattle.js_store.specs.Frozen.{common_ref}
 use Rattle.js_store.specs.Identities.{object_identities}
 use Rattle.js_store.specs.Objects.{at_place, with_change, written}
+use Rattle.js_store.specs.Order.{IsInOrder}
 use Rattle.js_store.specs.declared.slot.Held.{Held}
 use Rattle.js_store.specs.declared.slot.Held.TheVariants as held
 use Rattle.js_store.specs.declared.slot.Live.{Live as Target}
 use Rattle.js_store.specs.declared.slot.Slot.TheVariants as slot
 use Rattle.js_run.specs.Functions.{function_marks, function_property}
+use Rattle.js_run.specs.Globals.{default_properties}
 use Rattle.js_run.specs.Hosts.{host_object}
 use Rattle.js_run.specs.Identities.{IsAmong}
 use Rattle.js_run.specs.Laws.{is_foreign}
@@ -313,6 +315,15 @@ pub record IsHostObject (a : Identity Ref MadeSymbol) : Type 0 where
 -- each of these names is an object that the host has from the start, or the global of the application's own package
 abbrev pub Package_names_known : Type 0
 Package_names_known = (globals builtins : Granted) (a : Identity Ref MadeSymbol) → IsAmong a (package_names globals builtins) → IsHostObject a ⊎ (a ≡ Of_object root_global)
+
+-- granted names are no names of intrinsics and no array indices, and none comes twice
+abbrev pub AreApart : (p : ℕ) → Granted → Type 0
+AreApart p globals = IsInOrder same_made_symbol (default_properties (naming_of p) ++ supplied_properties (global_supply p) 1 globals)
+
+-- where they are so, the global has the intrinsics and then what is granted
+abbrev pub Granted_names_stand_behind : Type 0
+Granted_names_stand_behind =
+    (p : ℕ) (globals : Granted) → AreApart p globals → granted_global p globals ≡ package_global (naming_of p) (supplied_properties (global_supply p) 1 globals)
 
 -- the application's own package, which is granted the whole host, has its global alone, and its `require` gives the host's object
 pub record Root_is_granted_all : Type 0 where

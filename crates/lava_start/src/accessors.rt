@@ -1,10 +1,8 @@
 // Live accessors: functions that read and write globals of the application's own package.
 
-ghost use Rattle.std.specs.Prelude.{◌≡◌, ◌<◌, ◌++◌, ◌∷◌, [], Some, None, true, false, length, IfOk, OnOk};
+ghost use Rattle.std.specs.Prelude.{◌≡◌, ◌<◌, ◌++◌, ◌∷◌, [], None, true, false, length, IfOk, OnOk};
 ghost use Rattle.js_text.specs.Naming.{naming_of};
-ghost use Rattle.js_text.specs.declared.value.Value.TheVariants as value;
 ghost use Rattle.js_desc.specs.declared.descriptor.Descriptor.TheVariants as descriptor;
-ghost use Rattle.js_store.specs.declared.slot.Held.TheVariants as held;
 ghost use Rattle.lava_start.specs.Grants.{live_accessor, live_function, live_functions, live_part_objects, member_supply, target_of, with_supplies, with_supply};
 
 use crate::host::FUNCTION_MARKS;
@@ -86,8 +84,9 @@ fn put_function(alloc: Global, objects: &mut FlatStore, kept: Held) -> Result<Ob
 
 /// Makes a live getter or setter, and gives it.
 fn put_half(alloc: Global, objects: &mut FlatStore, kept: Held) -> Result<Ref, OutOfMemory>
-    ensures reference { let made = (naming_of objects.old.party.0).own (length objects.old.objects) in
-        IfOk result (λ made_one. made_one ≡ made) }
+    ensures reference { let next = length objects.old.objects in
+        let made = (naming_of objects.old.party.0).own next in
+        IfOk result (λ reference. reference ≡ made) }
     ensures objects { let made = live_function kept in
         OnOk result (objects.new.objects ≡ objects.old.objects ++ made ∷ []) }
     ensures party { objects.new.party ≡ objects.old.party }

@@ -1,6 +1,6 @@
 // What of others a package may name by what it is granted: laws alone.
 
-ghost use Rattle.lava_start.specs.Grants.{Package_names_all, Package_names_known, Root_is_granted_all};
+ghost use Rattle.lava_start.specs.Grants.{Granted_names_stand_behind, Package_names_all, Package_names_known, Root_is_granted_all};
 
 /// What a package names of others is among its names, whatever it is granted.
 #[tactic(none)]
@@ -18,4 +18,10 @@ pub fn package_names_are_known()
 #[tactic(none)]
 pub fn root_is_granted_all()
     ensures { Root_is_granted_all }
+{}
+
+/// Where granted names differ from each other and from those of intrinsics, the global has the intrinsics and then what is granted.
+#[tactic(none)]
+pub fn granted_names_stand_behind()
+    ensures { Granted_names_stand_behind }
 {}

@@ -3,7 +3,6 @@
 ghost use Rattle.std.specs.Prelude.{◌≡◌, ◌<◌, ◌++◌, ◌∷◌, [], length, IfOk, OnOk};
 ghost use Rattle.js_store.specs.Objects.{at_place};
 ghost use Rattle.js_text.specs.Naming.{naming_of};
-ghost use Rattle.js_run.specs.Starts.{package_global};
 ghost use Rattle.lava_start.specs.Grants.{builtin_grant_objects, builtin_grant_value, builtin_objects, builtin_value, global_supply, grant_objects, grant_property, granted_global, open_reference, package_builtin, package_objects, part_member, part_object, supplied_objects, with_all_properties, with_part_members, with_supplies, with_supply};
 
 use crate::accessors::{put_live, put_live_part};
@@ -106,7 +105,8 @@ fn put_part_given(
     objects: &mut FlatStore,
     members: &[(Name, u32)],
 ) -> Result<Ref, OutOfMemory>
-    ensures reference { let made = (naming_of objects.old.party.0).own (length objects.old.objects) in
+    ensures reference { let next = length objects.old.objects in
+        let made = (naming_of objects.old.party.0).own next in
         IfOk result (λ reference. reference ≡ made) }
     ensures objects { let made = part_object members.now in
         OnOk result (objects.new.objects ≡ objects.old.objects ++ made ∷ []) }

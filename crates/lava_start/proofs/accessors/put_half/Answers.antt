@@ -1,4 +1,4 @@
-use Rattle.std.proofs.Common.{◌≡◌, ◌∙◌}
+use Rattle.std.proofs.Common.{◌∙◌}
 use Rattle.js_text.specs.Naming.{naming_of}
 use Rattle.lava_start.proofs.accessors.put_half.Goals as goal
 

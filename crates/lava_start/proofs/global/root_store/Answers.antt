@@ -1,4 +1,4 @@
-use Rattle.std.proofs.Common.{◌≡◌, ◌++◌, ◌∷◌, [], codes, refl, ap, ◌∙◌}
+use Rattle.std.proofs.Common.{◌++◌, ◌∷◌, [], codes, refl, ap, ◌∙◌}
 use Rattle.js_text.specs.Naming.{naming_of}
 use Rattle.js_run.specs.Starts.{package_global}
 use Rattle.lava_start.specs.Making.{Thing, with_endowment}

@@ -1,4 +1,4 @@
-use Rattle.std.proofs.Common.{◌≡◌, ap, ◌∙◌}
+use Rattle.std.proofs.Common.{ap, ◌∙◌}
 use Rattle.lava_base.specs.declared.ids.PartyId.{PartyId}
 use Rattle.lava_start.specs.Grants.{global_supply, with_supplies}
 use Rattle.lava_start.proofs.Supply_laws.{globals_made}
