@@ -82,6 +82,8 @@ impl World {
     {
         let imported = self.import_away(steps)?;
         let party = self.linked_party(&imported.link)?;
+        let from = self.machine.party().0;
+        self.keep_import(from, party, &imported)?;
         let mode = self.hand_import(party, &imported)?;
         Ok(Turn::Runs(mode))
     }

@@ -1,2 +1,4 @@
 mod Underway
 mod Reported
+mod Tracing
+mod Traced_whole
