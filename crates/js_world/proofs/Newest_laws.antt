@@ -133,11 +133,11 @@ in_reply (reply.Throw v) = in_value v
 
 -- THEIR MARKS
 
-party_in : Ref → ℕ
+abbrev party_in : Ref → ℕ
 party_in (reference.Common c) = 0
 party_in (reference.Own p i) = p.0
 
-id_in : Ref → ℕ
+abbrev id_in : Ref → ℕ
 id_in (reference.Common c) = 0
 id_in (reference.Own p i) = i.0
 
@@ -154,11 +154,11 @@ marks_said k s p i (Of_object (reference.Own q j) ∷ xs) e h =
     let m : Marks = (object_at s.objects i.0).marks in
     choose q.0 k (λ b. find_mark r (marks_of_place s x (if b then Own j.0 else Foreign) more) ≡ Some m)
     (λ home.
-        (let same_party : nat_eq q.0 p.0 ≡ true = choose q.0 p.0 (λ b. b ≡ true) (λ z. refl) (λ n. absurd (n (home ∙ sym e))) in
-        ap (λ b. if b && nat_eq j.0 i.0 then Some (object_at s.objects j.0).marks else find_mark r more) same_party
-        ∙ choose j.0 i.0 (λ b. (if b then Some (object_at s.objects j.0).marks else find_mark r more) ≡ Some m)
-        (λ same. ap (λ n. Some (object_at s.objects n).marks) same)
-        (λ other. ⊎_elim (λ a. absurd (other (ap id_in (sym a)))) (λ behind. marks_said k s p i xs e behind) h)))
+    (let same_party : nat_eq q.0 p.0 ≡ true = choose q.0 p.0 (λ b. b ≡ true) (λ z. refl) (λ n. absurd (n (home ∙ sym e))) in
+    ap (λ b. if b && nat_eq j.0 i.0 then Some (object_at s.objects j.0).marks else find_mark r more) same_party
+    ∙ choose j.0 i.0 (λ b. (if b then Some (object_at s.objects j.0).marks else find_mark r more) ≡ Some m)
+    (λ same. ap (λ n. Some (object_at s.objects n).marks) same)
+    (λ other. ⊎_elim (λ a. absurd (other (ap id_in (sym a)))) (λ behind. marks_said k s p i xs e behind) h)))
     (λ away. ⊎_elim (λ a. absurd (away (ap party_in (sym a) ∙ e))) (λ behind. marks_said k s p i xs e behind) h)
 
 -- the sender sees each reference with the marks that the crossing has of it
@@ -169,8 +169,8 @@ seen_so app x journal m s xs me said common own known (reference.Own p i) h =
     let r : Ref = reference.Own p i in
     choose p.0 m.me (λ b. marks_at m r (if b then Own i.0 else Foreign) ≡ (if b then unwrap_or (find_mark r x.sent.marks) plain_marks else table_of app journal r))
     (λ home.
-        (let there : find_mark r x.sent.marks ≡ Some (object_at s.objects i.0).marks = ap (find_mark r) said ∙ marks_said m.me s p i xs home h in
-        ap (λ l. (object_at l i.0).marks) (sym own) ∙ ap (λ o. unwrap_or o plain_marks) (sym there)))
+    (let there : find_mark r x.sent.marks ≡ Some (object_at s.objects i.0).marks = ap (find_mark r) said ∙ marks_said m.me s p i xs home h in
+    ap (λ l. (object_at l i.0).marks) (sym own) ∙ ap (λ o. unwrap_or o plain_marks) (sym there)))
     (λ away. ap (λ l. marks_of same_ref r l) known ∙ ap (λ o. unwrap_or o plain_marks) (found r (foreign_of app journal)))
     ∙ ap (λ n. if nat_eq p.0 n then unwrap_or (find_mark r x.sent.marks) plain_marks else table_of app journal r) (sym me)
 

@@ -63,10 +63,7 @@ fn push_values(references: &mut List<Ref>, values: &List<Value>) -> Result<(), O
     push_slice(references, values.as_slice())
 }
 
-fn push_descriptor(
-    references: &mut List<Ref>,
-    descriptor: &Descriptor,
-) -> Result<(), OutOfMemory>
+fn push_descriptor(references: &mut List<Ref>, descriptor: &Descriptor) -> Result<(), OutOfMemory>
     ensures { OnOk result (references.new
         ≡ references.old ++ descriptor_references descriptor.now) }
 {
@@ -91,10 +88,7 @@ fn push_property(
     }
 }
 
-fn push_partial(
-    references: &mut List<Ref>,
-    partial: &PartialDescriptor,
-) -> Result<(), OutOfMemory>
+fn push_partial(references: &mut List<Ref>, partial: &PartialDescriptor) -> Result<(), OutOfMemory>
     ensures { OnOk result (references.new ≡ references.old ++ partial_references partial.now) }
 {
     push_maybe(references, &partial.value)?;
