@@ -28,15 +28,19 @@ use Rattle.js_machine.specs.declared.stop.Pause.{Pause}
 use Rattle.js_machine.specs.declared.stop.Stop.{Stop}
 use Rattle.js_machine.specs.declared.stop.Stop.TheVariants as stop
 use Rattle.js_world.specs.Crossings.{Follows, GoesOn, HandsOver, HasGiven, IsResumed, IsSent, IsTaken, Rests, RunsHere, newest}
+use Rattle.js_world.specs.Newest.{ask_references, reply_references, traced_ask, traced_import, traced_reply}
 use Rattle.js_world.specs.Shows.{makes_none, shows_ask, shows_ref, with_table}
-use Rattle.js_world.specs.Worlds.{Counts, Crosses, HasOwn, HasAnswered, HasStopped, IsOver, IsTurnOf, KeepsAnswer, Suits, WorldView, aside, charged, ending_of, import_away, leads_to, party_with, sent, steps_of, waits_of}
+use Rattle.js_world.specs.Worlds.{Counts, Crosses, HasNewest, HasOwn, HasAnswered, HasStopped, IsOver, IsTurnOf, KeepsAnswer, Suits, WorldView, aside, charged, ending_of, import_away, leads_to, noted, party_with, sent, steps_of, waits_of}
 use Rattle.js_world.specs.declared.ending.Ending.{Ending}
 use Rattle.js_world.specs.declared.ending.Ending.TheVariants as ending
 use Rattle.js_world.specs.declared.ending.Turn.{Turn}
 use Rattle.js_world.specs.declared.ending.Turn.TheVariants as turn
+use Rattle.js_world.specs.declared.newest.TracedCrossing.{TracedCrossing}
 use Rattle.js_world.specs.declared.waiting.Waiting.{Waiting}
 use Rattle.js_world.proofs.Kept.{left_spent, left_steps, ran, rests_left, written}
+use Rattle.js_world.proofs.Newest_laws.{in_ask, in_reply}
 use Rattle.js_world.proofs.Shown_laws.{ask_shows, reply_shows, shows_all}
+use Rattle.js_world.proofs.Traced_laws.{answered_noted, goes_noted, hands_noted, newest_sent, newest_still}
 
 -- the party in the machine, as the application began it and with the things that it has now
 abbrev pub party_here : Application → WorldView → Party Ref MadeSymbol
@@ -99,8 +103,27 @@ sends r n old new x e none there is = record {
   budget = ap (λ (v : WorldView). v.budget) is;
 }
 
-pub sent_on : (r : Ref) (n : ℕ) (old mid new : WorldView) (x : Ask Ref MadeSymbol) (m : Mode) → IsSent r n old mid x → IsTaken (owner_of r) (Asks r x) mid new m → Follows (stop.Sent r n) old new (turn.Runs m)
-sent_on r n old mid new x m s k = record { follows = λ app w after h. k.takes app after (s.sends app w after h); budget = k.budget ∙ s.budget }
+-- the ask that has left is the newest crossing
+newest_asked : (app : Application) (w after : heap.World) (old mid : WorldView) (r : Ref) (n : ℕ) (x : Ask Ref MadeSymbol) → HasStopped app w old (stop.Sent r n) after → x ≡ old.machine.asked.ask → makes_none old.machine.asked.ask ≡ true → mid ≡ sent r n old
+    → HasNewest app after (noted (traced_ask mid.machine r x) mid)
+newest_asked app w after old mid r n x h e none is =
+    let a : Ask Ref MadeSymbol = old.machine.asked.ask in
+    let o : Request Ref MadeSymbol = Asks r a in
+    let c : Crossing = request_crossing app w.journal old o n in
+    let g : WorldView = request_gone app old o n no_ask in
+    let gone : mid ≡ g = is ∙ ap (λ m. aside (charged old.machine.me n (record old { machine = m }))) (ask_left app old r none) in
+    let so : HasNewest app after (noted (traced_ask g.machine r a) g) =
+    newest_sent app after c w.journal g.machine (party_here app old) (r ∷ ask_references a) g (ap (λ (y : heap.World). y.journal) h.comes) refl refl h.suits.objects refl (ap (with_marks_of c.sent.marks) h.counts.known) (ap (λ l. r ∷ l) (in_ask a none)) in
+    subst (λ (v : WorldView). HasNewest app after (noted (traced_ask v.machine r x) v)) (sym gone) (subst (λ y. HasNewest app after (noted (traced_ask g.machine r y) g)) (sym e) so)
+
+sent_on : (r : Ref) (n : ℕ) (old mid kept new : WorldView) (x : Ask Ref MadeSymbol) (m : Mode) → x ≡ old.machine.asked.ask → makes_none old.machine.asked.ask ≡ true → mid ≡ sent r n old → IsSent r n old mid x
+    → kept ≡ noted (traced_ask mid.machine r x) mid → IsTaken (owner_of r) (Asks r x) kept new m → Follows (stop.Sent r n) old new (turn.Runs m)
+sent_on r n old mid kept new x m e none is s keeps k = record {
+  follows = λ app w after h.
+      k.takes app after (subst (λ v. HandsOver app after v (owner_of r) (Asks r x)) (sym keeps) (hands_noted app after (traced_ask mid.machine r x) mid (owner_of r) (Asks r x) (s.sends app w after h)))
+      (subst (λ v. HasNewest app after v) (sym keeps) (newest_asked app w after old mid r n x h e none is));
+  budget = k.budget ∙ ap (λ (v : WorldView). v.budget) keeps ∙ s.budget;
+}
 
 -- IMPORTS
 
@@ -110,14 +133,32 @@ hands_import app w after v n q h e there =
     let o : Request Ref MadeSymbol = Imports v.machine.imported.link v.machine.imported.path in
     subst (λ i. HandsOver app after (import_away n v) i o) (h.suits.leads v.machine.me v.machine.imported.link q e) (hands_over app w after v o n v.machine.asked h.suits h.others h.counts there h.comes)
 
-pub imports_on : (n q : ℕ) (old mid new : WorldView) (x : Imported) (m : Mode) → x ≡ old.machine.imported → old.machine.me < length old.steps → mid ≡ import_away n old
-    → leads_to mid mid.machine.me x.link ≡ Some q → IsTaken q (Imports x.link x.path) mid new m → Follows (stop.Imports n) old new (turn.Runs m)
-imports_on n q old mid new x m e there is to k =
+-- the import that has left is the newest crossing
+newest_imported : (app : Application) (w after : heap.World) (old mid : WorldView) (n q : ℕ) (x : Imported) → HasStopped app w old (stop.Imports n) after → x ≡ old.machine.imported → mid ≡ import_away n old → leads_to old old.machine.me old.machine.imported.link ≡ Some q
+    → HasNewest app after (noted (traced_import mid.machine.me q x.link x.path) mid)
+newest_imported app w after old mid n q x h e is led =
+    let p = old.machine.me in
+    let i : Imported = old.machine.imported in
+    let o : Request Ref MadeSymbol = Imports i.link i.path in
+    let g : WorldView = import_away n old in
+    let so : HasNewest app after (noted (traced_import p (app.links p i.link) i.link i.path) g) =
+    newest_sent app after (request_crossing app w.journal old o n) w.journal g.machine (party_here app old) [] g (ap (λ (y : heap.World). y.journal) h.comes) refl refl h.suits.objects refl h.counts.known refl in
+    let there : HasNewest app after (noted (traced_import p q i.link i.path) g) = subst (λ t. HasNewest app after (noted (traced_import p t i.link i.path) g)) (h.suits.leads p i.link q led) so in
+    subst (λ (v : WorldView). HasNewest app after (noted (traced_import v.machine.me q x.link x.path) v)) (sym is) (subst (λ (y : Imported). HasNewest app after (noted (traced_import p q y.link y.path) g)) (sym e) there)
+
+pub imports_on : (n q from : ℕ) (old mid kept new : WorldView) (x : Imported) (m : Mode) → x ≡ old.machine.imported → old.machine.me < length old.steps → mid ≡ import_away n old
+    → leads_to mid mid.machine.me x.link ≡ Some q → from ≡ mid.machine.me → kept ≡ noted (traced_import from q x.link x.path) mid → IsTaken q (Imports x.link x.path) kept new m → Follows (stop.Imports n) old new (turn.Runs m)
+imports_on n q from old mid kept new x m e there is to here keeps k =
     let led : leads_to old old.machine.me old.machine.imported.link ≡ Some q = (λ j. leads_to (sym is j) (sym is j).machine.me (sym e j).link) ∙ to in
+    let y : TracedCrossing = traced_import mid.machine.me q x.link x.path in
+    let noted_so : kept ≡ noted y mid = keeps ∙ ap (λ p. noted (traced_import p q x.link x.path) mid) here in
     record {
       follows = λ app w after h.
-          k.takes app after (subst (λ y. HandsOver app after mid q (Imports y.link y.path)) (sym e) (subst (λ y. HandsOver app after y q (Imports old.machine.imported.link old.machine.imported.path)) (sym is) (hands_import app w after old n q h led there)));
-      budget = k.budget ∙ ap (λ (v : WorldView). v.budget) is;
+          (let gone : HandsOver app after mid q (Imports x.link x.path) =
+          subst (λ (i : Imported). HandsOver app after mid q (Imports i.link i.path)) (sym e) (subst (λ v. HandsOver app after v q (Imports old.machine.imported.link old.machine.imported.path)) (sym is) (hands_import app w after old n q h led there)) in
+          k.takes app after (subst (λ v. HandsOver app after v q (Imports x.link x.path)) (sym noted_so) (hands_noted app after y mid q (Imports x.link x.path) gone))
+          (subst (λ v. HasNewest app after v) (sym noted_so) (newest_imported app w after old mid n q x h e is led)));
+      budget = k.budget ∙ ap (λ (v : WorldView). v.budget) keeps ∙ ap (λ (v : WorldView). v.budget) is;
     }
 
 -- REPLIES
@@ -145,13 +186,25 @@ came : (app : Application) (w after : heap.World) (v : WorldView) (r : Reply Ref
 came app w after v r m n bs h e d =
     h.comes ∙ ap (λ y. with_reply app w v y n w.stack) (sym e) ∙ ap (with_reply app w v r n) (h.counts.stack ∙ ap (map (waits_of app v.machine.code)) d)
 
+-- the reply that has left is the newest crossing
+newest_replied : (app : Application) (w after : heap.World) (old mid v : WorldView) (r : Reply Ref MadeSymbol) (n q : ℕ) → Suits app old → Counts app w old → HasGiven r n old mid → after.journal ≡ reply_crossing app old r n q ∷ w.journal
+    → HasNewest app after (noted (traced_reply mid.machine q r) v)
+newest_replied app w after old mid v r n q s c g j =
+    let x : Crossing = reply_crossing app old r n q in
+    let left : View = with_table (known_with app old (reply_identities r)) (record old.machine { values = g.values; answer = g.answer }) in
+    let same : mid.machine ≡ left = ap (λ (u : WorldView). u.machine) (reply_left app r n old mid g) in
+    let so : HasNewest app after (noted (traced_reply left q r) v) =
+    newest_sent app after x w.journal left (party_here app old) (reply_references r) v j refl refl s.objects refl (ap (with_marks_of x.sent.marks) c.known) (in_reply r) in
+    subst (λ m. HasNewest app after (noted (traced_reply m q r) v)) (sym same) so
+
 -- the end of a run
 over_with : (app : Application) (w after : heap.World) (v new : WorldView) (p n : ℕ) (e : Ending) → Counts app w v → p < length v.steps → new.steps ≡ set v.steps p n → new.spent ≡ v.spent + (n - steps_of v p)
-    → ((q : ℕ) → after.steps q ≡ put p n w.steps q) → after.spent ≡ w.spent + (n - w.steps p) → after.control ≡ Over_with (ending_of e) → KeepsAnswer app after new e → IsOver app after new e
-over_with app w after v new p n e c l s t a b d k = record {
+    → ((q : ℕ) → after.steps q ≡ put p n w.steps q) → after.spent ≡ w.spent + (n - w.steps p) → after.control ≡ Over_with (ending_of e) → KeepsAnswer app after new e → HasNewest app after new → IsOver app after new e
+over_with app w after v new p n e c l s t a b d k x = record {
   answer = k;
   steps = λ q g. a q ∙ left_steps app w v p n c l q (subst (λ xs. q < length xs) s g) ∙ ap (λ xs. get_or xs q 0) (sym s);
   spent = b ∙ left_spent app w v p n c l ∙ sym t;
+  newest = x;
   control = d;
 }
 
@@ -189,8 +242,10 @@ answered app w after old mid new r m n h g d there empty is =
     subst (λ y. HasAnswered app y new) (sym (came app w after old r m n [] h d empty)) (subst (λ v. HasAnswered app world v) (sym still) so)
 
 ends_so : (r : Reply Ref MadeSymbol) (m : Mode) (n : ℕ) (old mid new : WorldView) (e : Ending) → HasGiven r n old mid → r ≡ reply_of (completion_of old.machine m) → old.machine.me < length old.steps → newest mid.stack ≡ None
-    → new ≡ record mid { stack = drop 1 mid.stack; last = Some r } → ending_of e ≡ end_of r → Follows (stop.Gave m n) old new (turn.Over e)
+    → new ≡ noted (traced_reply mid.machine 0 r) (record mid { stack = drop 1 mid.stack; last = Some r }) → ending_of e ≡ end_of r → Follows (stop.Gave m n) old new (turn.Over e)
 ends_so r m n old mid new e g d there none is same =
+    let y : TracedCrossing = traced_reply mid.machine 0 r in
+    let low : WorldView = record mid { stack = drop 1 mid.stack; last = Some r } in
     let p = old.machine.me in
     let empty : old.stack ≡ [] = ap (λ (v : WorldView). v.stack) (sym g.given) ∙ nothing mid.stack none in
     record {
@@ -199,14 +254,17 @@ ends_so r m n old mid new e g d there none is same =
           over_with app w after old new p n e h.counts there
           (ap (λ (v : WorldView). v.steps) is ∙ ap (λ (v : WorldView). v.steps) g.given) (ap (λ (v : WorldView). v.spent) is ∙ ap (λ (v : WorldView). v.spent) g.given)
           (λ q. ap (λ (y : heap.World). y.steps q) c) (ap (λ (y : heap.World). y.spent) c) (ap (λ (y : heap.World). y.control) c ∙ ap Over_with (sym same))
-          (keeps app after new e (answered app w after old mid new r m n h g d there empty is)));
+          (keeps app after new e (subst (λ v. HasAnswered app after v) (sym is) (answered_noted app after y low (answered app w after old mid low r m n h g d there empty refl))))
+          (subst (λ v. HasNewest app after v) (sym is) (newest_replied app w after old mid low r n 0 h.suits h.counts g (ap (λ (v : heap.World). v.journal) c))));
       budget = ap (λ (v : WorldView). v.budget) is ∙ ap (λ (v : WorldView). v.budget) g.given;
     }
 
-pub ends_with : (r : Reply Ref MadeSymbol) (m : Mode) (n : ℕ) (old mid low new : WorldView) (t : Turn) → HasGiven r n old mid → r ≡ reply_of (completion_of old.machine m) → old.machine.me < length old.steps → newest mid.stack ≡ None
-    → low ≡ record mid { stack = drop 1 mid.stack } → IsTurnOf t (end_of r) → new ≡ record low { last = Some r } → Follows (stop.Gave m n) old new t
-ends_with r m n old mid low new t g d there none is x kept =
-    subst (Follows (stop.Gave m n) old new) (sym x.is) (ends_so r m n old mid new x.ending g d there none (kept ∙ ap (λ (v : WorldView). record v { last = Some r }) is) x.same)
+pub ends_with : (r : Reply Ref MadeSymbol) (m : Mode) (n : ℕ) (old mid low kept new : WorldView) (t : Turn) → HasGiven r n old mid → r ≡ reply_of (completion_of old.machine m) → old.machine.me < length old.steps → newest mid.stack ≡ None
+    → low ≡ record mid { stack = drop 1 mid.stack } → kept ≡ noted (traced_reply low.machine 0 r) low → IsTurnOf t (end_of r) → new ≡ record kept { last = Some r } → Follows (stop.Gave m n) old new t
+ends_with r m n old mid low kept new t g d there none is keeps x last =
+    let so : new ≡ noted (traced_reply mid.machine 0 r) (record mid { stack = drop 1 mid.stack; last = Some r }) =
+    last ∙ ap (λ (v : WorldView). record v { last = Some r }) keeps ∙ ap (λ (v : WorldView). noted (traced_reply v.machine 0 r) (record v { last = Some r })) is in
+    subst (Follows (stop.Gave m n) old new) (sym x.is) (ends_so r m n old mid new x.ending g d there none so x.same)
 
 first_off : (bs : List Waiting) (b : Waiting) → newest bs ≡ Some b → bs ≡ b ∷ drop 1 bs
 first_off [] b e = cc
@@ -235,25 +293,33 @@ goes_back app w after old mid new r m n b h g d there some is =
     subst (λ y. GoesOn app y new b r) (sym (came app w after old r m n (b ∷ bs) h d full)) (subst (λ v. GoesOn app world v b r) (sym still) so)
 
 pub gives_back : (r : Reply Ref MadeSymbol) (m : Mode) (n : ℕ) (b : Waiting) (old mid low new : WorldView) (t : Mode) → HasGiven r n old mid → r ≡ reply_of (completion_of old.machine m) → old.machine.me < length old.steps → newest mid.stack ≡ Some b
-    → low ≡ record mid { stack = drop 1 mid.stack } → IsResumed b r low new t → Follows (stop.Gave m n) old new (turn.Runs t)
-gives_back r m n b old mid low new t g d there some is k = record {
-  follows = λ app w after h. k.takes app after (goes_back app w after old mid low r m n b h g d there some is);
-  budget = k.budget ∙ ap (λ (v : WorldView). v.budget) is ∙ ap (λ (v : WorldView). v.budget) g.given;
-}
+    → low ≡ record mid { stack = drop 1 mid.stack } → IsResumed b r (noted (traced_reply low.machine b.party r) low) new t → Follows (stop.Gave m n) old new (turn.Runs t)
+gives_back r m n b old mid low new t g d there some is k =
+    let y : TracedCrossing = traced_reply low.machine b.party r in
+    let full : old.stack ≡ b ∷ drop 1 mid.stack = ap (λ (v : WorldView). v.stack) (sym g.given) ∙ first_off mid.stack b some in
+    record {
+      follows = λ app w after h.
+          (let came_so = came app w after old r m n (b ∷ drop 1 mid.stack) h d full in
+          k.takes app after (goes_noted app after y low b r (goes_back app w after old mid low r m n b h g d there some is))
+          (subst (λ x. HasNewest app after (noted (traced_reply x b.party r) low)) (sym (ap (λ (v : WorldView). v.machine) is)) (newest_replied app w after old mid low r n b.party h.suits h.counts g (ap (λ (v : heap.World). v.journal) came_so))));
+      budget = k.budget ∙ ap (λ (v : WorldView). v.budget) is ∙ ap (λ (v : WorldView). v.budget) g.given;
+    }
 
 -- ENDS
 
 pub ends_short : (n : ℕ) (old new : WorldView) → old.machine.me < length old.steps → new ≡ charged old.machine.me n old → Follows (stop.Short n) old new (turn.Over (ending.Budget old.machine.me))
 ends_short n old new there is = record {
   follows = λ app w after h. over_with app w after old new old.machine.me n (ending.Budget old.machine.me) h.counts there (ap (λ (v : WorldView). v.steps) is) (ap (λ (v : WorldView). v.spent) is)
-      (λ q. ap (λ (y : heap.World). y.steps q) h.comes) (ap (λ (y : heap.World). y.spent) h.comes) (ap (λ (y : heap.World). y.control) h.comes) tt;
+      (λ q. ap (λ (y : heap.World). y.steps q) h.comes) (ap (λ (y : heap.World). y.spent) h.comes) (ap (λ (y : heap.World). y.control) h.comes) tt
+      (newest_still app w after old new (ap (λ (y : heap.World). y.journal) h.comes) (ap (λ (v : WorldView). v.tracing) is) (ap (λ (v : WorldView). v.newest) is) h.newest);
   budget = ap (λ (v : WorldView). v.budget) is;
 }
 
 pub ends_stopped : (n : ℕ) (k : Halt) (old new : WorldView) → old.machine.me < length old.steps → new ≡ charged old.machine.me n old → Follows (stop.Stopped k n) old new (turn.Over (ending.Fault old.machine.me k))
 ends_stopped n k old new there is = record {
   follows = λ app w after h. over_with app w after old new old.machine.me n (ending.Fault old.machine.me k) h.counts there (ap (λ (v : WorldView). v.steps) is) (ap (λ (v : WorldView). v.spent) is)
-      (λ q. ap (λ (y : heap.World). y.steps q) h.comes) (ap (λ (y : heap.World). y.spent) h.comes) (ap (λ (y : heap.World). y.control) h.comes) tt;
+      (λ q. ap (λ (y : heap.World). y.steps q) h.comes) (ap (λ (y : heap.World). y.spent) h.comes) (ap (λ (y : heap.World). y.control) h.comes) tt
+      (newest_still app w after old new (ap (λ (y : heap.World). y.journal) h.comes) (ap (λ (v : WorldView). v.tracing) is) (ap (λ (v : WorldView). v.newest) is) h.newest);
   budget = ap (λ (v : WorldView). v.budget) is;
 }
 
@@ -271,9 +337,9 @@ crossed m s t old mid new r f = record {
 
 -- WHAT THE CODE COMES TO
 
-pub sent_so : (m : Mode) (r : Ref) (n : ℕ) (old mid new : WorldView) (x : Ask Ref MadeSymbol) → x ≡ old.machine.asked.ask → makes_none old.machine.asked.ask ≡ true → old.machine.me < length old.steps → mid ≡ sent r n old
-    → IsTaken (owner_of r) (Asks r x) mid new m → Follows (stop.Sent r n) old new (turn.Runs m)
-sent_so m r n old mid new x e none there is h = sent_on r n old mid new x m (sends r n old mid x e none there is) h
+pub sent_so : (m : Mode) (r : Ref) (n : ℕ) (old mid kept new : WorldView) (x : Ask Ref MadeSymbol) → x ≡ old.machine.asked.ask → makes_none old.machine.asked.ask ≡ true → old.machine.me < length old.steps → mid ≡ sent r n old
+    → kept ≡ noted (traced_ask mid.machine r x) mid → IsTaken (owner_of r) (Asks r x) kept new m → Follows (stop.Sent r n) old new (turn.Runs m)
+sent_so m r n old mid kept new x e none there is keeps h = sent_on r n old mid kept new x m e none is (sends r n old mid x e none there is) keeps h
 
 pub crossed_so : {E : Type 0} (k : Result Turn E) (m : Mode) (s : Stop) (old mid new : WorldView) → RunsHere m old mid s → IfOk k (Follows s mid new) → IfOk k (Crosses old m new)
 crossed_so (Ok t) m s old mid new r h = crossed m s t old mid new r h

@@ -1,15 +1,19 @@
 -- A machine that has done nothing yet.
-use Rattle.std.proofs.Common.{◌≡◌, ℕ, zero, suc, ◌+◌, List, [], ◌∷◌, ◌++◌, get_or, length, replicate, refl, sym, ap, ◌∙◌, subst, arith, Result, Ok, Err, IfOk}
+use Rattle.std.proofs.Common.{◌≡◌, ℕ, zero, suc, ◌+◌, List, [], ◌∷◌, ◌++◌, get_or, length, replicate, refl, sym, ap, ◌∙◌, subst, arith, Result, Ok, Err, IfOk, Some, if◌then◌else◌}
 use Rattle.js_machine.specs.Begun.{Own}
 use Rattle.js_machine.specs.Views.{View}
+use Rattle.js_run.specs.Heap.{begins}
 use Rattle.js_run.specs.Journal.{root_link}
 use Rattle.js_run.specs.Runs.{Imports}
 use Rattle.js_machine.specs.declared.asked.Imported.{Imported}
 use Rattle.js_machine.specs.declared.frame.Mode.{Mode}
 use Rattle.js_world.specs.Crossings.{IsTaken}
 use Rattle.js_world.specs.First.{IsBegun, RestsFirst, as_new}
-use Rattle.js_world.specs.Worlds.{WorldView}
+use Rattle.js_world.specs.Newest.{traced_import}
+use Rattle.js_world.specs.Worlds.{WorldView, noted}
 use Rattle.js_world.specs.declared.leads.Lead.{Lead}
+use Rattle.js_world.specs.declared.newest.TracedCrossing.{TracedCrossing}
+use Rattle.js_world.proofs.Traced_laws.{rests_noted}
 
 all_zero : (n q : ℕ) → zero ≡ get_or (replicate n zero) q zero
 all_zero zero q = refl
@@ -35,8 +39,14 @@ rests_first m others leads budget v e =
     subst RestsFirst (sym e) so
 
 -- the host's import is taken
-pub begun_so : {E : Type 0} (k : Result Mode E) (x : Imported) (old new : WorldView) → x ≡ record { link = root_link; path = [] } → IfOk k (IsTaken 1 (Imports x.link x.path) old new) → IfOk k (IsBegun old new)
-begun_so (Ok m) x old new e h =
-    let first = subst (λ y. IsTaken 1 (Imports y.link y.path) old new m) e h in
-    record { begins = λ app r. first.takes app _ (record { rests = r; control = refl }); budget = first.budget }
-begun_so (Err z) x old new e h = tt
+pub begun_so : {E : Type 0} (k : Result Mode E) (x : Imported) (old mid new : WorldView) → x ≡ record { link = root_link; path = [] } → mid ≡ noted (traced_import 0 1 x.link x.path) old → IfOk k (IsTaken 1 (Imports x.link x.path) mid new)
+    → IfOk k (IsBegun old new)
+begun_so (Ok m) x old mid new e is h =
+    let y : TracedCrossing = traced_import 0 1 root_link [] in
+    let kept : mid ≡ noted y old = is ∙ ap (λ (i : Imported). noted (traced_import 0 1 i.link i.path) old) e in
+    let first = subst (λ v. IsTaken 1 (Imports root_link []) v new m) kept (subst (λ (i : Imported). IsTaken 1 (Imports i.link i.path) mid new m) e h) in
+    record {
+      begins = λ app r. first.takes app (begins app) (record { rests = rests_noted app (begins app) y old r; control = refl }) (λ t. ap (λ b. if b then Some y else old.newest) t);
+      budget = first.budget;
+    }
+begun_so (Err z) x old mid new e is h = tt

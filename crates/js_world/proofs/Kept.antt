@@ -107,6 +107,7 @@ ran app w old new m s x r =
       suits = kept_suits app old n k x.suits;
       others = λ q ne. (let apart : p ≡ q → ⊥ = λ e. ne (k.0 ∙ e) in kept_own app w old n q k apart (x.others q apart));
       counts = kept_counts app w old n k x.counts;
+      newest = x.newest;
       comes = ap (cross app old.budget w) x.control
           ∙ (λ j. has_run app p w (run (naming_of p) a.shared a.env (steps j + (old.budget - spent j)) (steps j) (point_of a old.machine m)))
           ∙ ap (has_run app p w) (sym stop)

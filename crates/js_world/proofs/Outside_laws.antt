@@ -16,7 +16,7 @@ use Rattle.js_machine.specs.declared.stop.Stop.{Stop}
 use Rattle.js_machine.specs.declared.stop.Stop.TheVariants as stop
 use Rattle.js_world.specs.Asked_outside.{Answers, GoesOnAfter}
 use Rattle.js_world.specs.Crossings.{Follows}
-use Rattle.js_world.specs.Worlds.{Counts, HasOwn, HasStopped, Suits, WorldView, around}
+use Rattle.js_world.specs.Worlds.{Counts, HasNewest, HasOwn, HasStopped, Suits, WorldView, around}
 use Rattle.js_world.specs.declared.ending.Turn.{Turn}
 use Rattle.js_world.proofs.Kept.{fits_here, kept_counts, kept_own, kept_suits}
 
@@ -25,6 +25,7 @@ pub record Pends (app : Application) (w : heap.World) (v : WorldView) (p : Pause
   pub suits : Suits app v
   pub others : (q : ℕ) → (v.machine.me ≡ q → ⊥) → HasOwn app w v q
   pub counts : Counts app w v
+  pub newest : HasNewest app w v
   pub comes : after ≡ (let a = around app suits.reads w.journal v.machine.me in has_run app v.machine.me w (runs_on (naming_of v.machine.me) a.shared a.env p (point_of a v.machine m)))
 
 has_answer : (app : Application) (w after : heap.World) (v : WorldView) (n : View) (p : Pause) (x : HostAnswer) (m : Mode) → HasStopped app w v (stop.Outside p) after → v.machine.me < length v.others → IsAnswered x v.machine n m
@@ -38,6 +39,7 @@ has_answer app w after v n p x m h there d told =
       suits = kept_suits app v n k h.suits;
       others = λ q ne. (let apart : me ≡ q → ⊥ = λ e. ne (k.0 ∙ e) in kept_own app w v n q k apart (h.others q apart));
       counts = kept_counts app w v n k h.counts;
+      newest = h.newest;
       comes = h.comes
           ∙ ap (λ y. has_run app me w (runs_on (naming_of me) a.shared a.env p y)) (sym point)
           ∙ (λ j. (let b = around app h.suits.reads w.journal (sym k.0 j) in has_run app (sym k.0 j) w (runs_on (naming_of (sym k.0 j)) b.shared b.env p (point_of b n m))));
@@ -54,6 +56,7 @@ has_gone_on app w after v n p m s h there d =
       suits = kept_suits app v n k h.suits;
       others = λ q ne. (let apart : me ≡ q → ⊥ = λ e. ne (k.0 ∙ e) in kept_own app w v n q k apart (h.others q apart));
       counts = kept_counts app w v n k h.counts;
+      newest = h.newest;
       comes = h.comes
           ∙ ap (has_run app me w) (sym stop)
           ∙ (λ j. has_run app (sym k.0 j) w (stop_of (around app h.suits.reads w.journal (sym k.0 j)) n s));

@@ -22,7 +22,7 @@ use Rattle.js_machine.specs.Steps.{Keeps, LeadsTo, point_of}
 use Rattle.js_machine.specs.Views.{Around, View, fitting, nexts_of, party_of}
 use Rattle.js_machine.specs.declared.frame.Mode.{Mode}
 use Rattle.js_world.specs.Crossings.{GoesOn, HandsOver, IsResumed, IsTaken, Replies, Rests}
-use Rattle.js_world.specs.Worlds.{Stands, WorldView, around, exchanged, no_own, own_here, party_with, turned}
+use Rattle.js_world.specs.Worlds.{HasNewest, Stands, WorldView, around, exchanged, no_own, own_here, party_with, turned}
 use Rattle.js_world.specs.declared.waiting.Waiting.{Waiting}
 use Rattle.js_world.proofs.Kept.{at_home, fits_here, kept_counts, kept_own, kept_suits}
 use Rattle.js_world.proofs.Shown_laws.{choose}
@@ -71,6 +71,12 @@ rests_turned app w q v r l g =
       counts = record { steps = r.counts.steps; spent = r.counts.spent; stack = r.counts.stack; known = r.counts.known };
     }
 
+-- what is traced stays
+newest_turned : (app : Application) (w : heap.World) (old low v : WorldView) → low ≡ v → v.tracing ≡ old.tracing → v.newest ≡ old.newest → HasNewest app w old → HasNewest app w low
+newest_turned app w old low v e a b h =
+    let so : HasNewest app w v = λ t. b ∙ h (sym a ∙ t) in
+    subst (λ x. HasNewest app w x) (sym e) so
+
 -- THE MACHINE RUNS
 
 own_self : (app : Application) (w : heap.World) (v : WorldView) → Rests app w v → v.machine.me < length v.others → w.own v.machine.me ≡ party_with (app.own v.machine.me) v.machine.code (own_of v.machine)
@@ -79,9 +85,9 @@ own_self app w v r l =
     r.own me l ∙ ap (party_with (app.own me) v.machine.code) (at_home me me (own_of v.machine) (get_or v.others me no_own) refl)
 
 -- it stands where the world lets the party in it run
-stands_there : (app : Application) (w : heap.World) (v : WorldView) (n : View) (m : Mode) (f : Around → Point Ref MadeSymbol) (r : Rests app w v) → v.machine.me < length v.others → Keeps v.machine n
+stands_there : (app : Application) (w : heap.World) (v : WorldView) (n : View) (m : Mode) (f : Around → Point Ref MadeSymbol) (r : Rests app w v) → HasNewest app w v → v.machine.me < length v.others → Keeps v.machine n
     → ((a : Around) → point_of (fitting v.machine a) n m ≡ f (fitting v.machine a)) → w.control ≡ Runs v.machine.me (f (around app r.suits.reads w.journal v.machine.me)) → Stands app w (record v { machine = n }) m
-stands_there app w v n m f r l k h c =
+stands_there app w v n m f r x l k h c =
     let me = v.machine.me in
     let a = around app r.suits.reads w.journal me in
     let there : point_of a n m ≡ f a = subst (λ (b : Around). point_of b n m ≡ f b) (fits_here app w v r.suits l r.counts.known) (h a) in
@@ -89,6 +95,7 @@ stands_there app w v n m f r l k h c =
       suits = kept_suits app v n k r.suits;
       others = λ q ne. (let apart : me ≡ q → ⊥ = λ e. ne (k.0 ∙ e) in kept_own app w v n q k apart (r.own q));
       counts = kept_counts app w v n k r.counts;
+      newest = x;
       control = c ∙ ap (Runs me) (sym there) ∙ (λ j. Runs (sym k.0 j) (point_of (around app r.suits.reads w.journal (sym k.0 j)) n m));
     }
 
@@ -96,15 +103,15 @@ stands_there app w v n m f r l k h c =
 abbrev pub StandsServing : Request Ref MadeSymbol → (old new : View) → Mode → Type 0
 StandsServing o old new m = (a : Around) → let b = fitting old a in point_of b new m ≡ serves (naming_of old.me) b.shared b.env (party_of b old) o
 
-serves_there : (app : Application) (w : heap.World) (old low : WorldView) (n : View) (q : ℕ) (o : Request Ref MadeSymbol) (m : Mode) → HandsOver app w old q o → old.machine.me < length old.others → q < length old.others → low ≡ turned q old
+serves_there : (app : Application) (w : heap.World) (old low : WorldView) (n : View) (q : ℕ) (o : Request Ref MadeSymbol) (m : Mode) → HandsOver app w old q o → HasNewest app w old → old.machine.me < length old.others → q < length old.others → low ≡ turned q old
     → Keeps low.machine n → StandsServing o low.machine n m → Stands app w (record low { machine = n }) m
-serves_there app w old low n q o m h l g e k s =
+serves_there app w old low n q o m h x l g e k s =
     let rests : Rests app w low = subst (λ v. Rests app w v) (sym e) (rests_turned app w q old h.rests l g) in
     let me : low.machine.me ≡ q = ap (λ (v : WorldView). v.machine.me) e ∙ me_turned q old (h.rests.suits.me q g) l in
     let size : length low.others ≡ length old.others = ap (λ (v : WorldView). length v.others) e ∙ many q old in
     let there : low.machine.me < length low.others = subst (λ i. low.machine.me < i) (sym size) (subst (λ i. i < length old.others) (sym me) g) in
     let runs : ℕ → Party Ref MadeSymbol → Control = λ i p. Runs i (serves (naming_of i) app.shared (env_of app (table_of app w.journal) i) p o) in
-    stands_there app w low n m (λ b. serves (naming_of low.machine.me) b.shared b.env (party_of b low.machine) o) rests there k s
+    stands_there app w low n m (λ b. serves (naming_of low.machine.me) b.shared b.env (party_of b low.machine) o) rests (newest_turned app w old low (turned q old) e refl refl x) there k s
     (h.control ∙ (λ j. runs (sym me j) (w.own (sym me j))) ∙ ap (runs low.machine.me) (own_self app w low rests there))
 
 -- a request is taken by the party that it is for
@@ -112,7 +119,7 @@ pub taken : (old low new : WorldView) (q : ℕ) (o : Request Ref MadeSymbol) (m 
     → new ≡ record low { machine = new.machine } → IsTaken q o old new m
 taken old low new q o m l g e k s is =
     subst (λ v. IsTaken q o old v m) (sym is)
-    (record { takes = λ app w h. serves_there app w old low new.machine q o m h l g e k s; budget = ap (λ (v : WorldView). v.budget) e })
+    (record { takes = λ app w h x. serves_there app w old low new.machine q o m h x l g e k s; budget = ap (λ (v : WorldView). v.budget) e })
 
 -- the machine with a body that it goes on with
 abbrev with_body : Left → WorldView → WorldView
@@ -125,9 +132,9 @@ rests_with app w b v r = record {
   counts = record { steps = r.counts.steps; spent = r.counts.spent; stack = r.counts.stack; known = r.counts.known };
 }
 
-goes_there : (app : Application) (w : heap.World) (old low : WorldView) (n : View) (b : Waiting) (r : Reply Ref MadeSymbol) (m : Mode) → GoesOn app w old b r → old.machine.me < length old.others → b.party < length old.others
+goes_there : (app : Application) (w : heap.World) (old low : WorldView) (n : View) (b : Waiting) (r : Reply Ref MadeSymbol) (m : Mode) → GoesOn app w old b r → HasNewest app w old → old.machine.me < length old.others → b.party < length old.others
     → low ≡ with_body b.left (turned b.party old) → LeadsTo (λ a. Give (Replied r) (party_of a low.machine)) low.machine n m → Stands app w (record low { machine = n }) m
-goes_there app w old low n b r m h l g e s =
+goes_there app w old low n b r m h x l g e s =
     let q = b.party in
     let rests : Rests app w low = subst (λ v. Rests app w v) (sym e) (rests_with app w b.left (turned q old) (rests_turned app w q old h.rests l g)) in
     let me : low.machine.me ≡ q = ap (λ (v : WorldView). v.machine.me) e ∙ me_turned q old (h.rests.suits.me q g) l in
@@ -135,7 +142,7 @@ goes_there app w old low n b r m h l g e s =
     let there : low.machine.me < length low.others = subst (λ k. low.machine.me < k) (sym size) (subst (λ k. k < length old.others) (sym me) g) in
     let goes : (a : Around) → Party Ref MadeSymbol → Point Ref MadeSymbol =
     λ a p. settle (naming_of low.machine.me) a.shared a.env (nexts_of (naming_of low.machine.me) a.shared low.machine.code low.machine.frames low.machine.values low.machine.waits) (Gives (Replied r) p) in
-    stands_there app w low n m (λ a. goes a (party_of a low.machine)) rests there s.keeps s.leads
+    stands_there app w low n m (λ a. goes a (party_of a low.machine)) rests (newest_turned app w old low (with_body b.left (turned q old)) e refl refl x) there s.keeps s.leads
     (h.control
     ∙ (λ j. Runs (sym me j) (settle (naming_of (sym me j)) app.shared (env_of app (table_of app w.journal) (sym me j))
     (nexts_of (naming_of (sym me j)) app.shared (sym e j).machine.code (sym e j).machine.frames (sym e j).machine.values (sym e j).machine.waits) (Gives (Replied r) (w.own (sym me j)))))
@@ -145,7 +152,7 @@ pub resumed : (old mid low : WorldView) (n : View) (b : Waiting) (r : Reply Ref 
     → low ≡ record mid { machine = with_left b.left mid.machine } → LeadsTo (λ a. Give (Replied r) (party_of a low.machine)) low.machine n m → IsResumed b r old (record low { machine = n }) m
 resumed old mid low n b r m l g d e s =
     let whole : low ≡ with_body b.left (turned b.party old) = e ∙ ap (with_body b.left) d in
-    record { takes = λ app w h. goes_there app w old low n b r m h l g whole s; budget = ap (λ (v : WorldView). v.budget) whole }
+    record { takes = λ app w h x. goes_there app w old low n b r m h x l g whole s; budget = ap (λ (v : WorldView). v.budget) whole }
 
 -- WHAT THE CODE COMES TO
 

@@ -20,7 +20,7 @@ use Rattle.js_machine.specs.declared.frame.Mode.{Mode}
 use Rattle.js_machine.specs.declared.stop.Stop.{Stop}
 use Rattle.js_machine.specs.declared.stop.Stop.TheVariants as stop
 use Rattle.js_world.specs.Shows.{shows_reply}
-use Rattle.js_world.specs.Worlds.{After, Counts, HasOwn, HasStopped, Stands, Suits, WorldView, charged, steps_of, waits_of}
+use Rattle.js_world.specs.Worlds.{After, Counts, HasNewest, HasOwn, HasStopped, Stands, Suits, WorldView, charged, steps_of, waits_of}
 use Rattle.js_world.specs.declared.ending.Turn.{Turn}
 use Rattle.js_world.specs.declared.waiting.Waiting.{Waiting}
 
@@ -52,7 +52,7 @@ pub record IsSent (r : Ref) (n : ℕ) (old new : WorldView) (x : Ask Ref MadeSym
 
 -- the receiver runs
 pub record IsTaken (q : ℕ) (o : Request Ref MadeSymbol) (old new : WorldView) (m : Mode) : Type 0 where
-  pub takes : (app : Application) (w : heap.World) → HandsOver app w old q o → Stands app w new m
+  pub takes : (app : Application) (w : heap.World) → HandsOver app w old q o → HasNewest app w old → Stands app w new m
   pub budget : new.budget ≡ old.budget
 
 -- REPLIES
@@ -78,7 +78,7 @@ pub record Replies (b : Left) (r : Reply Ref MadeSymbol) (old new : View) (m : M
 
 -- it goes on
 pub record IsResumed (b : Waiting) (r : Reply Ref MadeSymbol) (old new : WorldView) (m : Mode) : Type 0 where
-  pub takes : (app : Application) (w : heap.World) → GoesOn app w old b r → Stands app w new m
+  pub takes : (app : Application) (w : heap.World) → GoesOn app w old b r → HasNewest app w old → Stands app w new m
   pub budget : new.budget ≡ old.budget
 
 -- A STOP

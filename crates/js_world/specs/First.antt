@@ -1,5 +1,5 @@
 -- How all parties stand before anything has run.
-use Rattle.std.specs.Prelude.{◌≡◌, ◌<◌, ℕ, List, [], None, length, replicate}
+use Rattle.std.specs.Prelude.{◌≡◌, ◌<◌, ℕ, List, [], None, false, length, replicate}
 use Rattle.js_run.specs.Heap.{begins}
 use Rattle.js_run.specs.Journal.{Application, foreign_of}
 use Rattle.js_machine.specs.Begun.{Own}
@@ -11,7 +11,7 @@ use Rattle.js_world.specs.declared.leads.Lead.{Lead}
 
 -- a machine of all parties that has done nothing yet
 abbrev pub as_new : View → List Own → List (List Lead) → (budget : ℕ) → WorldView
-as_new machine others leads budget = record { machine = machine; others = others; leads = leads; steps = replicate (length others) 0; spent = 0; budget = budget; stack = []; last = None }
+as_new machine others leads budget = record { machine = machine; others = others; leads = leads; steps = replicate (length others) 0; spent = 0; budget = budget; stack = []; last = None; tracing = false; newest = None }
 
 -- each party has what the application has of it, and what is known is what the starts name
 pub record IsFirst (app : Application) (v : WorldView) : Type 0 where

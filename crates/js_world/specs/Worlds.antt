@@ -1,5 +1,5 @@
 -- The machine of all parties as contracts see it, and that it stands where js_run's world stands.
-use Rattle.std.specs.Prelude.{◌≡◌, ◌<◌, ◌+◌, ◌-◌, ℕ, List, [], ◌∷◌, Option, Some, None, if◌then◌else◌, get_or, slice_get, set, length, map, nat_eq}
+use Rattle.std.specs.Prelude.{◌≡◌, ◌<◌, ◌+◌, ◌-◌, ℕ, Bool, true, List, [], ◌∷◌, Option, Some, None, if◌then◌else◌, get_or, slice_get, set, length, map, nat_eq}
 use Rattle.lava_base.specs.declared.ids.MadeSymbol.{MadeSymbol}
 use Rattle.lava_base.specs.declared.ids.Ref.{Ref}
 use Rattle.js_text.specs.Naming.{naming_of}
@@ -25,15 +25,17 @@ use Rattle.js_machine.specs.declared.frame.Mode.{Mode}
 use Rattle.js_machine.specs.declared.stop.Stop.{Stop}
 use Rattle.js_machine.specs.declared.stop.Stop.TheVariants as stop
 use Rattle.js_world.specs.Leads.{leads_among}
+use Rattle.js_world.specs.Newest.{newest_crossing}
 use Rattle.js_world.specs.Shows.{shows_ask, shows_ref}
 use Rattle.js_world.specs.declared.ending.Ending.{Ending}
 use Rattle.js_world.specs.declared.ending.Ending.TheVariants as ending
 use Rattle.js_world.specs.declared.ending.Turn.{Turn}
 use Rattle.js_world.specs.declared.ending.Turn.TheVariants as turn
 use Rattle.js_world.specs.declared.leads.Lead.{Lead}
+use Rattle.js_world.specs.declared.newest.TracedCrossing.{TracedCrossing}
 use Rattle.js_world.specs.declared.waiting.Waiting.{Waiting}
 
--- the party that runs has its own things in the machine, and each other one has them in its place of the list. Where the links of each party lead stands in a list, too. What waits stands with the newest first. The answer to the host's import is kept, once there is one
+-- the party that runs has its own things in the machine, and each other one has them in its place of the list. Where the links of each party lead stands in a list, too. What waits stands with the newest first. The answer to the host's import is kept, once there is one, and where crossings are traced the newest of them
 pub record WorldView : Type 0 where
   pub machine : View
   pub others : List Own
@@ -43,6 +45,8 @@ pub record WorldView : Type 0 where
   pub budget : ℕ
   pub stack : List Waiting
   pub last : Option (Reply Ref MadeSymbol)
+  pub tracing : Bool
+  pub newest : Option TracedCrossing
 
 -- THE THINGS OF EACH PARTY
 
@@ -114,6 +118,10 @@ sent r n v = aside (charged v.machine.me n (asked_away r v))
 abbrev pub import_away : ℕ → WorldView → WorldView
 import_away n v = aside (charged v.machine.me n v)
 
+-- where crossings are traced, this is the newest one from now on
+abbrev pub noted : TracedCrossing → WorldView → WorldView
+noted x v = record v { newest = if v.tracing then Some x else v.newest }
+
 -- THAT IT STANDS WHERE THE WORLD STANDS
 
 -- texts are read as the numbers that they stand for, and a part is found where it stands first
@@ -146,11 +154,16 @@ pub record Counts (app : Application) (w : heap.World) (v : WorldView) : Type 0 
   pub stack : w.stack ≡ map (waits_of app v.machine.code) v.stack
   pub known : v.machine.known ≡ foreign_of app w.journal
 
+-- where crossings are traced, the newest one is that of the world's journal
+abbrev pub HasNewest : Application → heap.World → WorldView → Type 0
+HasNewest app w v = v.tracing ≡ true → v.newest ≡ newest_crossing app w.journal
+
 -- a party runs
 pub record Stands (app : Application) (w : heap.World) (v : WorldView) (m : Mode) : Type 0 where
   pub suits : Suits app v
   pub others : (q : ℕ) → (v.machine.me ≡ q → ⊥) → HasOwn app w v q
   pub counts : Counts app w v
+  pub newest : HasNewest app w v
   pub control : w.control ≡ Runs v.machine.me (point_of (around app suits.reads w.journal v.machine.me) v.machine m)
 
 abbrev pub ending_of : Ending → journal.Ending
@@ -193,6 +206,7 @@ pub record IsOver (app : Application) (w : heap.World) (v : WorldView) (e : Endi
   pub answer : KeepsAnswer app w v e
   pub steps : (q : ℕ) → q < length v.steps → w.steps q ≡ steps_of v q
   pub spent : w.spent ≡ v.spent
+  pub newest : HasNewest app w v
   pub control : w.control ≡ Over_with (ending_of e)
 
 -- the party in the machine has stopped in a world, which comes to be another. Where the outside is asked, it comes to that once the party goes on with the answer
@@ -200,6 +214,7 @@ pub record HasStopped (app : Application) (w : heap.World) (v : WorldView) (s : 
   pub suits : Suits app v
   pub others : (q : ℕ) → (v.machine.me ≡ q → ⊥) → HasOwn app w v q
   pub counts : Counts app w v
+  pub newest : HasNewest app w v
   pub comes : after ≡ has_run app v.machine.me w (stop_of (around app suits.reads w.journal v.machine.me) v.machine s)
 
 -- where the machine is after a crossing from one world to another; where the outside is asked, it is on its way

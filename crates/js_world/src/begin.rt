@@ -4,6 +4,7 @@ ghost use Rattle.std.specs.Prelude.{◌≡◌, [], IfOk};
 ghost use Rattle.js_run.specs.Journal.{root_link};
 ghost use Rattle.js_world.specs.First.{IsBegun};
 
+use crate::crossing::HOST;
 use crate::world::World;
 use js_machine::asked::Imported;
 use js_machine::frame::Mode;
@@ -33,6 +34,7 @@ impl World {
         ensures { IfOk result (IsBegun self.old self.new) }
     {
         let imported = first_import(alloc)?;
+        self.keep_import(HOST, ROOT_PARTY, &imported)?;
         self.hand_import(ROOT_PARTY, &imported)
     }
 }

@@ -7,11 +7,13 @@ ghost use Rattle.js_run.specs.Runs.{Asks};
 ghost use Rattle.js_machine.specs.Served.{IsServed};
 ghost use Rattle.js_machine.specs.Views.{completion_of};
 ghost use Rattle.js_machine.specs.declared.stop.Stop.TheVariants as stop;
-ghost use Rattle.js_world.specs.Crossings.{Follows, HasGiven, IsResumed, IsSent, IsTaken, Replies, RunsHere, newest};
+ghost use Rattle.js_world.specs.Crossings.{Follows, HasGiven, IsResumed, IsTaken, Replies, RunsHere, newest};
+ghost use Rattle.js_world.specs.Newest.{traced_reply};
 ghost use Rattle.js_world.specs.Shows.{makes_none};
-ghost use Rattle.js_world.specs.Worlds.{Crosses, IsTurnOf, ending_of, sent};
+ghost use Rattle.js_world.specs.Worlds.{Crosses, IsTurnOf, ending_of, noted, sent};
 
 use crate::ending::{Ending, Turn};
+use crate::newest::owner_of;
 use crate::shows::{show_ask, show_reply};
 use crate::waiting::Waiting;
 use crate::world::World;
@@ -23,15 +25,8 @@ use js_machine::stop::Stop;
 use lava_base::ids::Ref;
 use lava_base::memory::OutOfMemory;
 
-/// The party that an object is of; the common part counts as the host's.
-fn owner_of(object: Ref) -> u32
-    ensures { result ≡ owner_of object }
-{
-    match object {
-        Ref::Common(_) => 0,
-        Ref::Own { party, .. } => party.0,
-    }
-}
+/// The party of the host.
+pub(crate) const HOST: u32 = 0;
 
 /// How a run ends by the reply to the host's import.
 fn end_of(reply: &Reply) -> Ending
@@ -153,8 +148,18 @@ impl World {
         ensures { IfOk result (Follows (stop.Sent target steps) self.old self.new) }
     {
         let ask = self.send_away(target, steps)?;
+        self.keep_ask(target, &ask)?;
         let mode = self.hand_over(target, ask)?;
         Ok(Turn::Runs(mode))
+    }
+
+    /// A reply has left the party in the machine, and a body that waits goes on with it.
+    fn go_back(&mut self, waiting: Waiting, reply: Reply) -> Result<Mode, OutOfMemory>
+        ensures { let x = traced_reply self.old.machine waiting.party reply in
+            IfOk result (IsResumed waiting reply (noted x self.old) self.new) }
+    {
+        self.keep_reply(waiting.party, &reply)?;
+        self.resume(waiting, reply)
     }
 
     /// The host's import is answered, and the answer is kept.
@@ -175,10 +180,13 @@ impl World {
         let reply = self.give_away(mode, steps)?;
         match self.take_waiting() {
             Some(waiting) => {
-                let mode = self.resume(waiting, reply)?;
+                let mode = self.go_back(waiting, reply)?;
                 Ok(Turn::Runs(mode))
             }
-            None => Ok(self.end_with(reply)),
+            None => {
+                self.keep_reply(HOST, &reply)?;
+                Ok(self.end_with(reply))
+            }
         }
     }
 

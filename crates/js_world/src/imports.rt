@@ -76,12 +76,21 @@ impl World {
         self.import(imported)
     }
 
+    /// The number of the party in the machine.
+    fn here(&self) -> u32
+        ensures { result ≡ self.now.machine.me }
+    {
+        self.machine.party().0
+    }
+
     /// The machine's import is sent over a link, and the party runs to which it leads.
     pub(crate) fn send_import(&mut self, steps: u64) -> Result<Turn, OutOfMemory>
         ensures { IfOk result (Follows (stop.Imports steps) self.old self.new) }
     {
         let imported = self.import_away(steps)?;
         let party = self.linked_party(&imported.link)?;
+        let from = self.here();
+        self.keep_import(from, party, &imported)?;
         let mode = self.hand_import(party, &imported)?;
         Ok(Turn::Runs(mode))
     }

@@ -5,6 +5,7 @@ ghost use Rattle.js_world.specs.First.{RestsFirst, as_new};
 ghost use Rattle.js_world.specs.Worlds.{aside, charged, exchanged, turned};
 
 use crate::leads::Lead;
+use crate::newest::TracedCrossing;
 use crate::waiting::Waiting;
 use js_desc::reply::Reply;
 use js_machine::machine::Machine;
@@ -18,6 +19,7 @@ use std::marker::Model;
 /// one has them in its place of a list.
 #[derive(Drop)]
 pub struct World {
+    pub(crate) alloc: Global,
     pub(crate) machine: Machine,
     pub(crate) others: Vec<Own>,
     /// Where the links of each party lead.
@@ -31,6 +33,10 @@ pub struct World {
     pub(crate) stack: Vec<Waiting>,
     /// What the host's import was answered with, once it is.
     pub(crate) last: Option<Reply>,
+    /// Whether the newest crossing is kept.
+    pub(crate) tracing: bool,
+    /// It, once there is one.
+    pub(crate) newest: Option<TracedCrossing>,
 }
 
 impl Model for World {
@@ -48,6 +54,8 @@ impl Model for World {
       budget = w.budget;
       stack = reverse w.stack.items;
       last = w.last;
+      tracing = w.tracing;
+      newest = w.newest;
     } };
 }
 
@@ -84,6 +92,7 @@ impl World {
     {
         let steps = no_steps(alloc, count_of(&others))?;
         Ok(World {
+            alloc,
             machine,
             others,
             leads,
@@ -92,6 +101,8 @@ impl World {
             budget,
             stack: Vec::new(alloc),
             last: None,
+            tracing: false,
+            newest: None,
         })
     }
 

@@ -86,7 +86,7 @@ gone app w after v p h e =
     let leads : OutsideAnswer → Control = λ o. (has_run app me w (runs_on names a.shared a.env p (settles a v.machine v.machine.values (answered names a.env (outside_answers names a.shared (party_of a v.machine) o))))).control in
     ap (λ (x : World). x.control) h.comes ∙ ap leads e ∙ gone_told p.told app me p.steps w
 
-asked_here : (first old : WorldView) (talks : List Talk) (p : Pause) (x : HostAnswer) (failed : Option Which) → IsUnderway first talks old (turn.Asks p) → IsAskedIn (BeginsSo first) first.budget (talk_of old x failed) talks
+pub asked_here : (first old : WorldView) (talks : List Talk) (p : Pause) (x : HostAnswer) (failed : Option Which) → IsUnderway first talks old (turn.Asks p) → IsAskedIn (BeginsSo first) first.budget (talk_of old x failed) talks
 asked_here first old talks p x failed u =
     λ app b g e. (suc u.crossings, gone app (heap app first.budget u.crossings) (heap app first.budget (suc u.crossings)) old p (u.after app b g) e)
 

@@ -1,5 +1,6 @@
 pub mod Ran
 pub mod Talks
+pub mod Traces
 pub mod Commons
 pub mod Modules
 pub mod Packages

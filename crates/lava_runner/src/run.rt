@@ -33,9 +33,9 @@ pub struct Ran {
 
 /// What is next, and the object of the outside that failed, if one did.
 #[derive(Clone, Copy)]
-struct Step {
-    turn: Turn,
-    failed: Option<Which>,
+pub(crate) struct Step {
+    pub turn: Turn,
+    pub failed: Option<Which>,
 }
 
 /// The host's first import is sent, and the machine runs.
@@ -57,7 +57,7 @@ fn go_on(world: &mut World, mode: Mode) -> Result<Turn, OutOfMemory>
 }
 
 /// What the party in the machine is answered that has called the outside. Only the host has an answer.
-fn answer_of_call<F: Folder, I: Source, O: Sink, E: Sink, C: Clock>(
+pub(crate) fn answer_of_call<F: Folder, I: Source, O: Sink, E: Sink, C: Clock>(
     world: &World,
     host: &mut Host,
     alloc: Global,
