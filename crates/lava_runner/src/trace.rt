@@ -95,7 +95,7 @@ impl Tracer {
         ensures { IfOk result (λ t. t ≡ trace_start parties.now) }
     {
         let mut text = List::new(alloc);
-        write_start(parties, &mut text)?;
+        write_start(alloc, parties, &mut text)?;
         Ok(Tracer {
             names: Names::new(alloc),
             count: 0,
@@ -136,17 +136,25 @@ impl Tracer {
         }
     }
 
-    /// The line of the newest crossing is written. Want of memory is answered too where crossings are not traced, and after 18,446,744,073,709,551,615 of them.
-    pub fn write(&mut self, world: &World) -> Result<(), OutOfMemory>
+    /// The line of the newest crossing is written, of a world that traces.
+    fn write_newest(&mut self, world: &World) -> Result<(), OutOfMemory>
+        requires { world.now.tracing ≡ true }
         ensures { OnOk result (HasWritten world.now self.old self.new) }
     {
-        if !world.is_tracing() {
-            return Err(OutOfMemory);
-        }
         match world.newest() {
             Some(newest) => self.write_line(newest),
             None => Err(OutOfMemory),
         }
+    }
+
+    /// The line of the newest crossing is written. Want of memory is answered too where crossings are not traced, and after 18,446,744,073,709,551,615 of them.
+    pub fn write(&mut self, world: &World) -> Result<(), OutOfMemory>
+        ensures { OnOk result (HasWritten world.now self.old self.new) }
+    {
+        if world.is_tracing() {
+            return self.write_newest(world);
+        }
+        Err(OutOfMemory)
     }
 
     /// The line of the crossing by which a turn came is written, if there is one.
