@@ -1,5 +1,5 @@
 -- What the steps along the paths make of a global.
-use Rattle.std.proofs.Common.{◌≡◌, ℕ, zero, suc, ◌+◌, ◌<◌, List, [], ◌∷◌, length, drop, Some, Result, Ok, Err, OnOk, codes, refl, sym, ap, ◌∙◌, add-one, arith}
+use Rattle.std.proofs.Common.{◌≡◌, ℕ, zero, suc, ◌+◌, ◌<◌, List, [], ◌∷◌, length, drop, Some, Result, Ok, Err, OnOk, refl, sym, ap, ◌∙◌, add-one, arith}
 use Rattle.std.specs.Prelude.{slice_get}
 use Rattle.js_text.specs.CommonPaths.{common_paths}
 use Rattle.js_text.specs.Naming.{naming_of}
@@ -7,9 +7,9 @@ use Rattle.js_store.specs.Frozen.{common_ref}
 use Rattle.js_store.specs.Objects.{at_place, fresh}
 use Rattle.js_store.specs.declared.slot.Slot.TheVariants as slot
 use Rattle.js_run.specs.Globals.{global_marks}
-use Rattle.js_run.specs.Starts.{package_global, root_endowments}
+use Rattle.js_run.specs.Starts.{package_global}
 use Rattle.js_run.specs.declared.intrinsics.TheConstants.{OBJECT_PROTOTYPE}
-use Rattle.lava_start.specs.Making.{Thing, with_endowment, with_found, with_intrinsics, with_paths}
+use Rattle.lava_start.specs.Making.{Thing, with_found, with_intrinsics, with_paths}
 use Rattle.lava_start.proofs.Made_laws.{at_same, at_twice}
 
 -- two changes, of which the second may have failed
@@ -54,8 +54,3 @@ bare_global = fresh (Some (common_ref OBJECT_PROTOTYPE)) global_marks slot.Plain
 pub bare : (p : ℕ) → with_intrinsics p bare_global ≡ package_global (naming_of p) []
 unfolding common_paths
 bare p = refl
-
--- and three more that of the application's own package
-pub whole : with_endowment (codes "input") 5 (with_endowment (codes "console") 0 (with_endowment (codes "clock") 7 (package_global (naming_of 1) []))) ≡ package_global (naming_of 1) root_endowments
-unfolding common_paths
-whole = refl

@@ -71,10 +71,6 @@ with_paths p n (path ∷ paths) o = with_paths p (suc n) paths (with_path p n pa
 abbrev pub with_intrinsics : (party : ℕ) → Thing → Thing
 with_intrinsics p o = with_paths p 0 common_paths o
 
--- an object of the host, which a package is given
-abbrev pub with_endowment : List ℕ → ℕ → Thing → Thing
-with_endowment name n o = with_named name (Data (value.Ref (host_ref n)) true true true) o
-
 -- MARKS
 
 -- the marks of the first objects of the host

@@ -6,10 +6,10 @@ ghost use Rattle.js_store.specs.Objects.{at_place};
 ghost use Rattle.js_text.specs.CommonPaths.{common_paths};
 ghost use Rattle.js_text.specs.Naming.{naming_of};
 ghost use Rattle.js_run.specs.Globals as globals;
-ghost use Rattle.js_run.specs.Starts.{package_global, root_endowments};
-ghost use Rattle.lava_start.specs.Making.{hidden_descriptor, with_endowment, with_found, with_global_self, with_intrinsic, with_intrinsics, with_path};
+ghost use Rattle.js_run.specs.Starts.{package_global};
+ghost use Rattle.lava_start.specs.Making.{hidden_descriptor, with_found, with_global_self, with_intrinsic, with_intrinsics, with_path};
 
-use crate::objects::{common, host, put_object, put_property};
+use crate::objects::{common, put_object, put_property};
 use js_desc::descriptor::Descriptor;
 use js_run::intrinsics::OBJECT_PROTOTYPE;
 use js_store::flat::FlatStore;
@@ -170,28 +170,6 @@ fn put_intrinsics(alloc: Global, objects: &mut FlatStore, at: ObjId) -> Result<(
     Ok(())
 }
 
-/// Gives the global an object of the host.
-fn put_endowment(
-    alloc: Global,
-    objects: &mut FlatStore,
-    at: ObjId,
-    name: &str,
-    number: u32,
-) -> Result<(), OutOfMemory>
-    requires { at.0 < length objects.old.objects }
-    ensures objects { let step = with_endowment name.now number in
-        OnOk result (objects.new.objects ≡ at_place objects.old.objects at.0 step) }
-    ensures party { objects.new.party ≡ objects.old.party }
-{
-    let property = Descriptor::Data {
-        value: Value::Ref(host(number)),
-        writable: true,
-        enumerable: true,
-        configurable: true,
-    };
-    put_property(alloc, objects, at, name, property)
-}
-
 /// The global of a package that is given nothing.
 pub(crate) fn bare_store(alloc: Global, party: PartyId) -> Result<FlatStore, OutOfMemory>
     ensures objects { let made = package_global (naming_of party.0) [] in
@@ -201,19 +179,5 @@ pub(crate) fn bare_store(alloc: Global, party: PartyId) -> Result<FlatStore, Out
     let mut objects = FlatStore::empty(alloc, party);
     let global = put_object(&mut objects, OBJECT_PROTOTYPE, GLOBAL_MARKS)?;
     put_intrinsics(alloc, &mut objects, global)?;
-    Ok(objects)
-}
-
-/// The global of the application's own package, which is given the whole host.
-pub fn root_store(alloc: Global) -> Result<FlatStore, OutOfMemory>
-    ensures objects { IfOk result
-        (λ s. s.objects ≡ package_global (naming_of 1) root_endowments ∷ []) }
-    ensures party { IfOk result (λ s. s.party.0 ≡ 1) }
-{
-    let mut objects = bare_store(alloc, PartyId(1))?;
-    let global = ObjId(0);
-    put_endowment(alloc, &mut objects, global, "clock", 7)?;
-    put_endowment(alloc, &mut objects, global, "console", 0)?;
-    put_endowment(alloc, &mut objects, global, "input", 5)?;
     Ok(objects)
 }
