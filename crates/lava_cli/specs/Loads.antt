@@ -16,7 +16,7 @@ use Rattle.pkg_source.specs.Reading.{IsRead}
 use Rattle.pkg_source.specs.declared.code.ModuleCode.{ModuleCode}
 use Rattle.policy_row.specs.Rows.{Rows}
 use Rattle.lava_cli.specs.Policies.{ArePolicies, CountsPolicies}
-use Rattle.lava_cli.specs.declared.loading.Loaded.{Loaded}
+use Rattle.lava_cli.specs.declared.loading.LoadedApplication.{LoadedApplication}
 use Rattle.lava_cli.specs.declared.loading.LoadingFault.{LoadingFault}
 use Rattle.lava_cli.specs.declared.loading.LoadingFault.TheVariants as fault
 
@@ -34,7 +34,7 @@ pub record IsLoadRead (told : Option Files) (directory : List ℕ) (packages : L
   pub says : ForSources told directory packages IsRead (λ w. Answers (Explained IsRead w (IsLoadAnswer w)) r)
 
 -- the modules of these packages are loaded, or why they are not; the policy is this one
-abbrev pub IsLoadingOf : (told : Option Files) → (directory : List ℕ) → List Package → Rows → Result Loaded LoadingFault → Type 0
+abbrev pub IsLoadingOf : (told : Option Files) → (directory : List ℕ) → List Package → Rows → Result LoadedApplication LoadingFault → Type 0
 IsLoadingOf told directory packages policy (Ok l) = (l.policy ≡ policy) × IsLoadRead told directory packages (Ok l.app)
 IsLoadingOf told directory packages policy (Err (fault.Graph f)) = ⊥
 IsLoadingOf told directory packages policy (Err (fault.Policies f)) = ⊥
@@ -46,27 +46,27 @@ pub record IsGoverned (told : Option Files) (directory : List ℕ) (packages : L
   pub load : IsLoadRead told directory packages r
 
 -- the policy of an application with these packages is read, and then their modules are loaded
-abbrev pub IsLoadingIn : (told : Option Files) → (directory : List ℕ) → List Package → Result Loaded LoadingFault → Type 0
+abbrev pub IsLoadingIn : (told : Option Files) → (directory : List ℕ) → List Package → Result LoadedApplication LoadingFault → Type 0
 IsLoadingIn told directory packages (Ok l) = IsGoverned told directory packages l.policy (Ok l.app)
 IsLoadingIn told directory packages (Err (fault.Graph f)) = ⊥
 IsLoadingIn told directory packages (Err (fault.Policies f)) = ArePolicies told directory (Err f)
 IsLoadingIn told directory packages (Err (fault.Load f)) = (policy : Rows) × IsGoverned told directory packages policy (Err f)
 
 -- the application in a directory: its packages are read, and then its policy and its modules
-pub record IsLoadedFrom (told : Option Files) (directory : List ℕ) (r : Result Loaded LoadingFault) : Type 0 where
+pub record IsLoadedFrom (told : Option Files) (directory : List ℕ) (r : Result LoadedApplication LoadingFault) : Type 0 where
   pub packages : List Package
   pub graph : IsGraphRead told directory (Ok packages)
   pub load : IsLoadingIn told directory packages r
 
 -- what loading answers
-abbrev pub IsLoading : (told : Option Files) → (directory : List ℕ) → Result Loaded LoadingFault → Type 0
+abbrev pub IsLoading : (told : Option Files) → (directory : List ℕ) → Result LoadedApplication LoadingFault → Type 0
 IsLoading told directory (Ok l) = IsLoadedFrom told directory (Ok l)
 IsLoading told directory (Err (fault.Graph f)) = IsGraphRead told directory (Err f)
 IsLoading told directory (Err (fault.Policies f)) = IsLoadedFrom told directory (Err (fault.Policies f))
 IsLoading told directory (Err (fault.Load f)) = IsLoadedFrom told directory (Err (fault.Load f))
 
 -- what it does to the folder's count of faults
-abbrev pub CountsLoading : ℕ → ℕ → Result Loaded LoadingFault → Type 0
+abbrev pub CountsLoading : ℕ → ℕ → Result LoadedApplication LoadingFault → Type 0
 CountsLoading old new (Ok l) = new ≡ old
 CountsLoading old new (Err (fault.Graph f)) = CountsFolder {T = List Package} old new (Err f)
 CountsLoading old new (Err (fault.Policies f)) = CountsPolicies {T = Rows} old new (Err f)

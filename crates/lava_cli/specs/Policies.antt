@@ -72,15 +72,15 @@ pub record IsOverridden (told : Option Files) (directory : List ℕ) (policy mer
 
 -- the override over a policy, or why there is none
 -- LavaMoat policy
-abbrev pub IsOver : (told : Option Files) → (directory : List ℕ) → (policy : Rows) → Result Rows PoliciesFault → Type 0
-IsOver told directory policy (Ok merged) = IsOverridden told directory policy merged
-IsOver told directory policy (Err f) = IsPolicyAt told directory Override (Err f)
+abbrev pub IsOverrideOf : (told : Option Files) → (directory : List ℕ) → (policy : Rows) → Result Rows PoliciesFault → Type 0
+IsOverrideOf told directory policy (Ok merged) = IsOverridden told directory policy merged
+IsOverrideOf told directory policy (Err f) = IsPolicyAt told directory Override (Err f)
 
 -- `policy.json` was read, and then the override
 pub record AreBothRead (told : Option Files) (directory : List ℕ) (answer : Result Rows PoliciesFault) : Type 0 where
   pub policy : Rows
   pub main : IsPolicyAt told directory Main (Ok policy)
-  pub over : IsOver told directory policy answer
+  pub over : IsOverrideOf told directory policy answer
 
 -- The policy of the application in a directory: the override over `policy.json`; or the first of these files that is refused.
 -- LavaMoat policy

@@ -28,7 +28,7 @@ use Rattle.policy_row.specs.declared.fault.PolicyWhat.{PolicyWhat}
 use Rattle.ses_prelude.specs.Preludes.{IsPreludeFault, prelude}
 use Rattle.lava_cli.specs.Loads.{CountsLoading, IsLoading}
 use Rattle.lava_cli.specs.Words.{Asked, Runs, Trees, command_of}
-use Rattle.lava_cli.specs.declared.loading.Loaded.{Loaded}
+use Rattle.lava_cli.specs.declared.loading.LoadedApplication.{LoadedApplication}
 use Rattle.lava_cli.specs.declared.loading.LoadingFault.{LoadingFault}
 use Rattle.lava_cli.specs.declared.loading.LoadingFault.TheVariants as loading
 use Rattle.lava_cli.specs.declared.outcome.RunOutcome.{RunOutcome}
@@ -40,7 +40,7 @@ use Rattle.lava_cli.specs.declared.run_report.TheConstants as words
 -- THE CAUSES
 
 -- the run of this application with its policy, or why there is none
-abbrev pub RunsOf : (directory : List ℕ) → Loaded → (budget : ℕ) → (before after : HostWorld) → RunOutcome → Type 0
+abbrev pub RunsOf : (directory : List ℕ) → LoadedApplication → (budget : ℕ) → (before after : HostWorld) → RunOutcome → Type 0
 RunsOf directory l budget before after (outcome.Ran r) = IsRunOf true directory l.app l.policy budget before after r
 RunsOf directory l budget before after (outcome.Prelude place what) = IsPreludeFault prelude place what
 RunsOf directory l budget before after outcome.OutOfMemory = Unit {0}
@@ -49,14 +49,14 @@ RunsOf directory l budget before after (outcome.Policies f) = ⊥
 RunsOf directory l budget before after (outcome.Load f) = ⊥
 
 -- the folder alone was read, and tells what it told
-pub record HasReadFolder (before after : HostWorld) (r : Result Loaded LoadingFault) : Type 0 where
+pub record HasReadFolder (before after : HostWorld) (r : Result LoadedApplication LoadingFault) : Type 0 where
   pub rest : after ≡ record before { folder = after.folder }
   pub told : after.folder.told ≡ before.folder.told
   pub counts : CountsLoading before.folder.count after.folder.count r
 
 -- an application was loaded, and then it ran so
 pub record HasRunIn (directory : List ℕ) (budget : ℕ) (before after : HostWorld) (o : RunOutcome) : Type 0 where
-  pub app : Loaded
+  pub app : LoadedApplication
   pub mid : HostWorld
   pub loaded : IsLoading before.folder.told directory (Ok app)
   pub read : HasReadFolder before mid (Ok app)

@@ -16,7 +16,7 @@ use std::alloc::Global;
 
 /// An application, with its policy.
 #[derive(Drop)]
-pub struct Loaded {
+pub struct LoadedApplication {
     pub app: Application<ModuleCode>,
     /// What the override makes of its policy.
     pub policy: Policy,
@@ -40,7 +40,7 @@ fn load_modules<F: Folder>(
     graph: Graph,
     policy: Policy,
     folder: &mut F,
-) -> Result<Loaded, LoadingFault>
+) -> Result<LoadedApplication, LoadingFault>
     ensures tells { (F.stand folder.new).told ≡ (F.stand folder.old).told }
     ensures counts { CountsLoading (F.stand folder.old).count (F.stand folder.new).count result }
     ensures loads { let told = (F.stand folder.old).told in
@@ -48,7 +48,7 @@ fn load_modules<F: Folder>(
 {
     let reader = SourceReader;
     match load(alloc, directory, graph, &reader, folder) {
-        Ok(app) => Ok(Loaded { app, policy }),
+        Ok(app) => Ok(LoadedApplication { app, policy }),
         Err(fault) => Err(LoadingFault::Load(fault)),
     }
 }
@@ -59,7 +59,7 @@ fn load_packages<F: Folder>(
     directory: &str,
     graph: Graph,
     folder: &mut F,
-) -> Result<Loaded, LoadingFault>
+) -> Result<LoadedApplication, LoadingFault>
     ensures tells { (F.stand folder.new).told ≡ (F.stand folder.old).told }
     ensures counts { CountsLoading (F.stand folder.old).count (F.stand folder.new).count result }
     ensures loads { let told = (F.stand folder.old).told in
@@ -76,7 +76,7 @@ pub fn load_application<F: Folder>(
     alloc: Global,
     directory: &str,
     folder: &mut F,
-) -> Result<Loaded, LoadingFault>
+) -> Result<LoadedApplication, LoadingFault>
     ensures tells { (F.stand folder.new).told ≡ (F.stand folder.old).told }
     ensures counts { CountsLoading (F.stand folder.old).count (F.stand folder.new).count result }
     ensures loads { let told = (F.stand folder.old).told in

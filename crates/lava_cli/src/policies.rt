@@ -2,7 +2,7 @@
 
 ghost use Rattle.std.specs.Prelude.{◌≡◌, IfOk, string_bytes};
 ghost use Rattle.lava_streams.specs.Counts.{Counts};
-ghost use Rattle.lava_cli.specs.Policies.{ArePolicies, CountsPolicies, IsOver, IsPolicyAnswer, IsPolicyAt, IsPolicyFile, is_told, policy_path};
+ghost use Rattle.lava_cli.specs.Policies.{ArePolicies, CountsPolicies, IsOverrideOf, IsPolicyAnswer, IsPolicyAt, IsPolicyFile, is_told, policy_path};
 ghost use Rattle.lava_cli.specs.declared.policies.PoliciesFault.TheVariants as fault;
 
 use lava_base::memory::OutOfMemory;
@@ -141,7 +141,7 @@ fn read_override<F: Folder>(
     ensures tells { (F.stand folder.new).told ≡ (F.stand folder.old).told }
     ensures counts { CountsPolicies (F.stand folder.old).count (F.stand folder.new).count result }
     ensures gives { let told = (F.stand folder.old).told in
-        IsOver told directory.now policy.now result }
+        IsOverrideOf told directory.now policy.now result }
 {
     let over = read_one(alloc, directory, PolicyFile::Override, folder)?;
     Ok(merge(alloc, policy, &over)?)

@@ -4,7 +4,7 @@ ghost use Rattle.std.specs.Prelude.{◌≡◌};
 ghost use Rattle.lava_host.specs.Hosts.{host_world};
 ghost use Rattle.lava_cli.specs.RunAnswers.{RunComes, RunsOf};
 
-use crate::loading::{Loaded, LoadingFault, load_application};
+use crate::loading::{LoadedApplication, LoadingFault, load_application};
 use crate::outcome::RunOutcome;
 use lava_runner::app::run_app;
 use lava_runner::common::RunFault;
@@ -17,7 +17,7 @@ use std::alloc::Global;
 /// Runs an application.
 fn run_loaded<F: Folder, I: Source, O: Sink, E: Sink, C: Clock>(
     alloc: Global,
-    loaded: &Loaded,
+    loaded: &LoadedApplication,
     directory: &str,
     budget: u64,
     folder: &mut F,
@@ -32,7 +32,7 @@ fn run_loaded<F: Folder, I: Source, O: Sink, E: Sink, C: Clock>(
         (O.Sink.stand out.new) (E.Sink.stand err.new) (C.Clock.stand clock.new) in
         RunsOf directory.now loaded.now budget before after result }
 {
-    let Loaded { app, policy } = loaded;
+    let LoadedApplication { app, policy } = loaded;
     match run_app(
         alloc, app, policy, budget, true, directory, folder, input, out, err, clock,
     ) {

@@ -15,9 +15,10 @@ use std::alloc::Global;
 // A call that comes in no row.
 const NEVER: u32 = 4_294_967_295;
 
-// The policy files of the application.
+// The policy file of the application.
 const POLICY: &str = "app/lavamoat/node/policy.json";
 
+// Its override.
 const OVERRIDE: &str = "app/lavamoat/node/policy-override.json";
 
 // The program of the rows that have none of their own.
