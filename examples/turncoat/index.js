@@ -5,4 +5,4 @@ const money = require('money');
 write('balance ' + money.balance(), () => 'what it was given');
 const done = write.done();
 for (let i = 0; i < done.length; i++) console.log(done[i]);
-console.log([1].concat([2]).length, typeof stolen, money.balance());
+console.log([1].push(2), typeof stolen, money.balance());
