@@ -95,7 +95,7 @@ impl Tracer {
         ensures { IfOk result (λ t. t ≡ trace_start parties.now) }
     {
         let mut text = List::new(alloc);
-        write_start(parties, &mut text)?;
+        write_start(alloc, parties, &mut text)?;
         Ok(Tracer {
             names: Names::new(alloc),
             count: 0,
@@ -123,15 +123,22 @@ impl Tracer {
     {
         match self.count.checked_add(1) {
             Some(number) => {
-                self.names.write_crossing(
-                    number,
-                    &newest.crossing,
-                    &newest.marks,
-                    &mut self.text,
-                )?;
+                self.names
+                    .write_crossing(number, &newest.crossing, &newest.marks, &mut self.text)?;
                 self.count = number;
                 Ok(())
             }
+            None => Err(OutOfMemory),
+        }
+    }
+
+    /// The line of the newest crossing is written, of a world that traces.
+    fn write_newest(&mut self, world: &World) -> Result<(), OutOfMemory>
+        requires { world.now.tracing ≡ true }
+        ensures { OnOk result (HasWritten world.now self.old self.new) }
+    {
+        match world.newest() {
+            Some(newest) => self.write_line(newest),
             None => Err(OutOfMemory),
         }
     }
@@ -140,13 +147,10 @@ impl Tracer {
     pub fn write(&mut self, world: &World) -> Result<(), OutOfMemory>
         ensures { OnOk result (HasWritten world.now self.old self.new) }
     {
-        if !world.is_tracing() {
-            return Err(OutOfMemory);
+        if world.is_tracing() {
+            return self.write_newest(world);
         }
-        match world.newest() {
-            Some(newest) => self.write_line(newest),
-            None => Err(OutOfMemory),
-        }
+        Err(OutOfMemory)
     }
 
     /// The line of the crossing by which a turn came is written, if there is one.
