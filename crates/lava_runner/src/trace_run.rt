@@ -78,7 +78,8 @@ fn answer<F: Folder, I: Source, O: Sink, E: Sink, C: Clock>(
         (O.Sink.stand out.old) (E.Sink.stand err.old) (C.Clock.stand clock.old) in
         let after = host_world (F.Folder.stand folder.new) (I.Source.stand input.new)
         (O.Sink.stand out.new) (E.Sink.stand err.new) (C.Clock.stand clock.new) in
-        HasTracedTo parties dir.now first start world.old (turn.Asks pause) earlier tracer.old before →
+        HasTracedTo parties dir.now first start world.old (turn.Asks pause) earlier tracer.old
+        before →
         IfOk result (λ s. HasTracedTo parties dir.now first start world.new s.turn s.failed
         tracer.new after) }
 {
