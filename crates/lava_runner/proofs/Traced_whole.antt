@@ -1,5 +1,6 @@
 -- The trace of a run that is over.
 use Rattle.std.proofs.Common.{◌≡◌, ◌<◌, ℕ, zero, suc, ◌+◌, Bool, true, false, List, [], ◌∷◌, ◌++◌, length, get_or, Option, Some, None, refl, sym, ap, ◌∙◌, subst, arith, Result, Ok, Err, IfOk, OnOk}
+use Rattle.std.specs.Option.{option_map}
 use Rattle.js_desc.specs.declared.ending.Ending as desc
 use Rattle.js_run.specs.Heap.{World, begins, heap}
 use Rattle.js_run.specs.Journal.{Application, Crossing}
@@ -14,6 +15,10 @@ use Rattle.lava_runner.specs.Talks.{Agrees}
 use Rattle.lava_runner.specs.Traces.{HasTraced, HasTracedTo, HasWritten, IsFinished, TraceText, steps_from, trace_of, trace_text, with_crossing}
 use Rattle.lava_runner.specs.declared.run.Ran.{Ran}
 use Rattle.lava_runner.specs.declared.trace_run.Traced.{Traced}
+
+-- what a borrowed answer is
+pub kept_so : {B : Type 0} (f : B → TracedCrossing) (o : Option B) (b : B) (n : Option TracedCrossing) → option_map f o ≡ n → o ≡ Some b → n ≡ Some (f b)
+kept_so f o b n e d = sym e ∙ ap (option_map f) d
 
 -- the newest crossing is written
 pub written_so : {A E : Type 0} (k : Result A E) (v : WorldView) (old new : TraceText) (x : TracedCrossing) → v.tracing ≡ true → v.newest ≡ Some x → OnOk k (new ≡ with_crossing old x) → OnOk k (HasWritten v old new)
@@ -55,7 +60,7 @@ traced_whole parties dir first now before mid after ran trace r h f rest =
           (let w : World = heap app b (suc n) in
           let over : IsOver app w now ran.ending = u.stands app s g in
           let lines : trace ≡ trace_of parties app w.journal = u.lines app s g in
-          let steps : now.steps ≡ steps_from 0 (length now.steps) w.steps = steps_listed 0 w.steps now.steps over.steps in
+          let steps : now.steps ≡ steps_from 0 (length now.steps) w.steps = steps_listed 0 w.steps now.steps (λ q l. (let here : 0 + q ≡ q = omega arith in ap w.steps here ∙ over.steps q l)) in
           λ j. (lines j).text ++ end_text (steps j) f.told);
       count = λ app s g. f.crossings ∙ ap (λ (t : TraceText). t.count) (u.lines app s g) ∙ counted parties app (heap app b (suc n)).journal;
     }

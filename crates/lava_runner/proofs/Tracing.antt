@@ -13,6 +13,7 @@ use Rattle.js_run.specs.Journal as journal
 use Rattle.js_run.specs.Journal.{Application, Crossing, asked_party, crossing, end_of, env_of, first_import, has_room, table_of}
 use Rattle.js_run.specs.Parties.{Party}
 use Rattle.js_run.specs.Runs.{Gave, Point, Request, Sent, Short, Stop, Stopped, run}
+use Rattle.js_machine.specs.Steps.{point_of}
 use Rattle.js_machine.specs.Stops.{stop_of}
 use Rattle.js_machine.specs.declared.frame.Mode.{Mode}
 use Rattle.js_machine.specs.declared.outside.HostAnswer.{HostAnswer}
@@ -71,7 +72,7 @@ cross_grown app budget w p point = run_grown app p w (run (naming_of p) app.shar
 
 runs_grown : (app : Application) (budget : ℕ) (w : World) (v : WorldView) (m : Mode) → Stands app w v m → let y = cross app budget w w.control in Grown y.control w.journal y.journal
 runs_grown app budget w v m s =
-    subst (λ c. Grown (cross app budget w c).control w.journal (cross app budget w c).journal) (sym s.control) (cross_grown app budget w v.machine.me _)
+    subst (λ c. Grown (cross app budget w c).control w.journal (cross app budget w c).journal) (sym s.control) (cross_grown app budget w v.machine.me (point_of (around app s.suits.reads w.journal v.machine.me) v.machine m))
 
 stopped_grown : (app : Application) (w after : World) (v : WorldView) (p : Pause) → HasStopped app w v (stop.Outside p) after → Grown after.control w.journal after.journal
 stopped_grown app w after v p h =

@@ -20,12 +20,12 @@ use Rattle.lava_runner.specs.declared.packages.TheConstants.{OWN_PACKAGE}
 
 -- whether a package may import another one, where there is one
 -- LavaMoat policy, packages
-abbrev pub may_link : Rows → (package : List ℕ) → Option Package → Bool
+abbrev pub may_link : Rows → (name : List ℕ) → Option Package → Bool
 may_link policy name None = false
 may_link policy name (Some p) = may_reach policy name p.name
 
 -- a link of a package: party 0 is the host, and the packages stand behind it
-abbrev pub link_of : List Package → Rows → (package : List ℕ) → Link → PartyLink
+abbrev pub link_of : List Package → Rows → (name : List ℕ) → Link → PartyLink
 link_of packages policy name l = record { name = units_of l.name; party = suc l.target; allowed = may_link policy name (slice_get packages l.target) }
 
 -- THE MAIN MODULE
@@ -49,7 +49,7 @@ main_of owner main ms = units_of (unwrap_or (first_module owner ms (paths_meant 
 
 -- what the package of a place is granted: the application's own, everything
 -- LavaMoat policy
-abbrev pub start_in : Rows → (owner : ℕ) → (package : List ℕ) → Start
+abbrev pub start_in : Rows → (owner : ℕ) → (name : List ℕ) → Start
 start_in policy owner name = start_for (at_name name policy) (nat_eq owner OWN_PACKAGE)
 
 module _ (packages : List Package) (ms : List (LoadedModule ModuleCode)) (policy : Rows) where

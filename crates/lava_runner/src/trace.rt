@@ -123,12 +123,8 @@ impl Tracer {
     {
         match self.count.checked_add(1) {
             Some(number) => {
-                self.names.write_crossing(
-                    number,
-                    &newest.crossing,
-                    &newest.marks,
-                    &mut self.text,
-                )?;
+                self.names
+                    .write_crossing(number, &newest.crossing, &newest.marks, &mut self.text)?;
                 self.count = number;
                 Ok(())
             }

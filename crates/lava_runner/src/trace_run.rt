@@ -78,9 +78,10 @@ fn answer<F: Folder, I: Source, O: Sink, E: Sink, C: Clock>(
         (O.Sink.stand out.old) (E.Sink.stand err.old) (C.Clock.stand clock.old) in
         let after = host_world (F.Folder.stand folder.new) (I.Source.stand input.new)
         (O.Sink.stand out.new) (E.Sink.stand err.new) (C.Clock.stand clock.new) in
-        HasTracedTo parties dir.now first start world.old (turn.Asks pause) earlier tracer.old before →
+        HasTracedTo parties dir.now first start world.old (turn.Asks pause) earlier tracer.old
+        before →
         IfOk result (λ s. HasTracedTo parties dir.now first start world.new s.turn s.failed
-            tracer.new after) }
+        tracer.new after) }
 {
     let answered = answer_of_call(
         world, host, alloc, false, dir, folder, input, out, err, clock,
@@ -112,7 +113,7 @@ fn go_further<F: Folder, I: Source, O: Sink, E: Sink, C: Clock>(
         (O.Sink.stand out.new) (E.Sink.stand err.new) (C.Clock.stand clock.new) in
         HasTracedTo parties dir.now first start world.old step.turn step.failed tracer.old before →
         IfOk result (λ s. HasTracedTo parties dir.now first start world.new s.turn s.failed
-            tracer.new after) }
+        tracer.new after) }
 {
     match step.turn {
         Turn::Over(_) => Ok(step),
@@ -148,7 +149,7 @@ fn run_traced<F: Folder, I: Source, O: Sink, E: Sink, C: Clock>(
         let after = host_world (F.Folder.stand folder.new) (I.Source.stand input.new)
         (O.Sink.stand out.new) (E.Sink.stand err.new) (C.Clock.stand clock.new) in
         IfOk result (λ r. HasTracedTo parties dir.now world.old before world.new
-            (turn.Over r.ending) r.failed tracer.new after) }
+        (turn.Over r.ending) r.failed tracer.new after) }
 {
     let mut host = Host::new(alloc);
     let mut step = Step {
@@ -243,7 +244,15 @@ pub fn trace_run<F: Folder, I: Source, O: Sink, E: Sink, C: Clock>(
 {
     let mut tracer = Tracer::new(alloc, parties)?;
     let ran = run_traced(
-        world, &mut tracer, alloc, dir, folder, input, out, err, clock,
+        world,
+        &mut tracer,
+        alloc,
+        dir,
+        folder,
+        input,
+        out,
+        err,
+        clock,
     )?;
     finish(world, &mut tracer, alloc, ran, out)
 }
