@@ -1,6 +1,6 @@
 -- The packages of an application as the machine runs them.
-use Rattle.std.specs.Prelude.{ℕ, suc, Bool, false, ◌&&◌, ◌||◌, List, [], ◌∷◌, map, nat_eq, slice_get, Option, Some, None, bytes_eq, if◌then◌else◌}
-use Rattle.std.specs.Option.{unwrap_or}
+use Rattle.std.specs.Prelude.{ℕ, suc, Bool, false, ◌&&◌, List, [], ◌∷◌, map, nat_eq, slice_get, Option, Some, None, bytes_eq, if◌then◌else◌}
+use Rattle.std.specs.List.{list_any}
 use Rattle.js_text.specs.Utf8.{units_of}
 use Rattle.js_desc.specs.declared.start.Start.{Start}
 use Rattle.lava_start.specs.Applications.{PackageParts, PartyLink, RunParts}
@@ -30,20 +30,19 @@ link_of packages policy name l = record { name = units_of l.name; party = suc l.
 
 -- THE MAIN MODULE
 
--- whether a package has a module with a path
-abbrev pub is_module : (owner : ℕ) → (path : List ℕ) → List (LoadedModule ModuleCode) → Bool
-is_module owner path [] = false
-is_module owner path (m ∷ ms) = nat_eq m.owner owner && bytes_eq m.path path || is_module owner path ms
+-- a module is a package's, with a path
+abbrev pub is_at : (owner : ℕ) → (path : List ℕ) → LoadedModule ModuleCode → Bool
+is_at owner path m = nat_eq m.owner owner && bytes_eq m.path path
 
--- the first of these paths that a module of the package has
-abbrev pub first_module : (owner : ℕ) → List (LoadedModule ModuleCode) → (paths : List (List ℕ)) → Option (List ℕ)
-first_module owner ms [] = None
-first_module owner ms (path ∷ paths) = if is_module owner path ms then Some path else first_module owner ms paths
+-- the first of these paths that a module of the package has, or else another one
+abbrev pub path_among : (owner : ℕ) → List (LoadedModule ModuleCode) → (paths : List (List ℕ)) → (other : List ℕ) → List ℕ
+path_among owner ms [] other = other
+path_among owner ms (path ∷ paths) other = if list_any (is_at owner path) ms then path else path_among owner ms paths other
 
 -- the path of the main module, of those that its manifest's `main` may mean. Where none of them is reached, no module has the path
 -- own: how a path is resolved
 abbrev pub main_of : (owner : ℕ) → (main : List ℕ) → List (LoadedModule ModuleCode) → List ℕ
-main_of owner main ms = units_of (unwrap_or (first_module owner ms (paths_meant main)) main)
+main_of owner main ms = units_of (path_among owner ms (paths_meant main) main)
 
 -- PACKAGES
 

@@ -1,9 +1,10 @@
 // The packages of an application as the machine runs them.
 
-ghost use Rattle.std.specs.Prelude.{◌≡◌, ◌++◌, ◌∷◌, [], map, suc, nat_eq, IfOk, OnOk};
-ghost use Rattle.std.specs.Option.{option_copied, option_map};
+ghost use Rattle.std.specs.Prelude.{◌≡◌, ◌++◌, ◌∷◌, [], map, suc, IfOk, OnOk};
+ghost use Rattle.std.specs.List.{list_any};
+ghost use Rattle.std.specs.Option.{option_copied};
 ghost use Rattle.lava_start.specs.Firsts.{part_of_link, parts_of};
-ghost use Rattle.lava_runner.specs.Packages.{first_module, is_module, link_of, main_of, may_link, package_parts, parts_from, start_in};
+ghost use Rattle.lava_runner.specs.Packages.{is_at, link_of, main_of, may_link, package_parts, parts_from, path_among, start_in};
 
 use crate::modules::{sources_of, text_in};
 use js_desc::start::Start;
@@ -111,49 +112,52 @@ fn links_of(
     alloc: Global,
     packages: &[Package],
     policy: &Policy,
-    package: &Package,
+    read: &Package,
 ) -> Result<Vec<PackageLink>, OutOfMemory>
-    ensures { let meant = link_of packages.now policy.now package.now.name in
-        IfOk result (λ made. map part_of_link made.items ≡ map meant package.now.links) }
+    ensures { let meant = link_of packages.now policy.now read.now.name in
+        IfOk result (λ made. map part_of_link made.items ≡ map meant read.now.links) }
 {
     let mut made = Vec::new(alloc);
     add_links(
         alloc,
         packages,
         policy,
-        &package.name,
-        package.links.as_slice(),
+        &read.name,
+        read.links.as_slice(),
         &mut made,
     )?;
     Ok(made)
 }
 
-/// Whether a package has a module with a path.
-fn is_module(owner: usize, path: &Name, modules: &[LoadedModule<ModuleCode>]) -> bool
-    ensures { result ≡ is_module owner path.now modules.now }
+/// Whether a module is a package's, with a path.
+fn is_at(owner: usize, path: &Name, module: &LoadedModule<ModuleCode>) -> bool
+    ensures { result ≡ is_at owner path.now «module».now }
 {
-    for module in modules {
-        if module.owner == owner && module.path.as_str() == path.as_str() {
-            return true;
-        }
-    }
-    false
+    module.owner == owner && module.path.as_str() == path.as_str()
 }
 
-/// The first of these paths that a module of a package has.
-fn first_module<'a>(
+/// Whether a package has a module with a path.
+fn is_module(owner: usize, path: &Name, modules: &[LoadedModule<ModuleCode>]) -> bool
+    ensures { result ≡ list_any (is_at owner path.now) modules.now }
+{
+    modules.iter().any(|loaded| is_at(owner, path, loaded))
+}
+
+/// The first of these paths that a module of a package has, or else another one.
+fn path_among<'a>(
     owner: usize,
     modules: &[LoadedModule<ModuleCode>],
     paths: &'a [Name],
-) -> Option<&'a Name>
-    ensures { option_copied result ≡ first_module owner modules.now paths.now }
+    other: &'a Name,
+) -> &'a Name
+    ensures { result.now ≡ path_among owner modules.now paths.now other.now }
 {
     for path in paths {
         if is_module(owner, path, modules) {
-            return Some(path);
+            return path;
         }
     }
-    None
+    other
 }
 
 /// The path of the main module of a package.
@@ -166,10 +170,8 @@ fn main_of(
     ensures { IfOk result (λ path. path ≡ main_of owner main.now modules.now) }
 {
     let paths = paths_meant(alloc, main.as_str())?;
-    match first_module(owner, modules, paths.as_slice()) {
-        Some(path) => text_in(alloc, path.as_str().as_bytes()),
-        None => text_in(alloc, main.as_str().as_bytes()),
-    }
+    let path = path_among(owner, modules, paths.as_slice(), main);
+    text_in(alloc, path.as_str().as_bytes())
 }
 
 /// What the package of a place is granted.
@@ -215,15 +217,15 @@ fn package_source(
     modules: &[LoadedModule<ModuleCode>],
     policy: &Policy,
     owner: usize,
-    package: &Package,
+    read: &Package,
 ) -> Result<PackageSource, OutOfMemory>
-    ensures { let meant = package_parts packages.now modules.now policy.now owner package.now in
+    ensures { let meant = package_parts packages.now modules.now policy.now owner read.now in
         IfOk result (λ made. parts_of made ≡ meant) }
 {
-    let name = text_in(alloc, package.name.as_str().as_bytes())?;
-    let main = main_of(alloc, owner, &package.main, modules)?;
-    let links = links_of(alloc, packages, policy, package)?;
-    let start = start_in(alloc, policy, owner, &package.name)?;
+    let name = text_in(alloc, read.name.as_str().as_bytes())?;
+    let main = main_of(alloc, owner, &read.main, modules)?;
+    let links = links_of(alloc, packages, policy, read)?;
+    let start = start_in(alloc, policy, owner, &read.name)?;
     let sources = sources_of(alloc, owner, modules)?;
     Ok(granted(name, main, sources, links, start))
 }
@@ -235,14 +237,14 @@ fn add_package(
     modules: &[LoadedModule<ModuleCode>],
     policy: &Policy,
     owner: usize,
-    package: &Package,
+    read: &Package,
     made: &mut Vec<PackageSource>,
 ) -> Result<(), OutOfMemory>
-    ensures { let meant = package_parts packages.now modules.now policy.now owner package.now in
+    ensures { let meant = package_parts packages.now modules.now policy.now owner read.now in
         let old = map parts_of made.old.items in
         OnOk result (map parts_of made.new.items ≡ old ++ meant ∷ []) }
 {
-    let source = package_source(alloc, packages, modules, policy, owner, package)?;
+    let source = package_source(alloc, packages, modules, policy, owner, read)?;
     made.push(source)?;
     Ok(())
 }
