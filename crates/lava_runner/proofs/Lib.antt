@@ -1,5 +1,5 @@
 pub mod Underway
 pub mod In_range
-pub mod Reported
 pub mod Tracing
 pub mod Traced_whole
+pub mod Reported

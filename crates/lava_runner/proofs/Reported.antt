@@ -39,12 +39,14 @@ use Rattle.policy_row.specs.Rows.{Rows}
 use Rattle.lava_runner.specs.Commons.{IsCommonPart}
 use Rattle.lava_runner.specs.Packages.{parts_from, run_parts}
 use Rattle.lava_runner.specs.Ran.{AreAskedIn, BeginsSo, HasRun, IsAskedIn}
-use Rattle.lava_runner.specs.Reports.{EndsSo, HasReport, HasRunFrom, IsApplicationOf, IsFirstOf, IsReportOf, IsRunOf, IsUncaughtText, uncaught_text}
-use Rattle.lava_runner.specs.Talks.{Agrees, Talk}
+use Rattle.lava_runner.specs.Reports.{EndsSo, HasReport, HasRunFrom, HasTraceReport, HasTracedFrom, IsApplicationOf, IsEmittedRun, IsFirstOf, IsReportOf, IsTracedRun, IsUncaughtText, party_names, traced_as, uncaught_text}
+use Rattle.lava_runner.specs.Talks.{Agrees, Talk, newest_failed}
+use Rattle.lava_runner.specs.Traces.{HasTraced, PutsText, ending_told, trace_text}
 use Rattle.lava_runner.specs.Uncaught.{IsUncaughtIn, Thrown, host_marks, marks_there, shown, thrown_in, uncaught_of}
 use Rattle.lava_runner.specs.declared.app.Report.{Report}
 use Rattle.lava_runner.specs.declared.common.CommonPart.{CommonPart}
 use Rattle.lava_runner.specs.declared.run.Ran.{Ran}
+use Rattle.lava_runner.specs.declared.trace_run.Traced.{Traced}
 use Rattle.lava_runner.proofs.In_range.{parts_in_range}
 
 -- THE APPLICATION BEGINS AS THE FIRST WORLD RESTS
@@ -116,9 +118,10 @@ ends_so law made parts budget n last ran r range s app a over =
       uncaught = uncaught_so app (heap.heap app budget n) last ran.ending r.uncaught over.answer s.uncaught ∙ ap (λ e. uncaught_text e (uncaught_of app (heap.heap app budget n))) (sym s.ending);
     }
 
-pub is_run : Journal_is_net → Runs_are_well_made → (emit : Bool) (dir : List ℕ) (loaded : loads.Application ModuleCode) (policy : Rows) (budget : ℕ) (before after : HostWorld) (r : Report) (c : CommonPart)
-    → IsCommonPart c → HasRunFrom emit dir loaded.packages loaded.modules policy c budget before after r → IsRunOf emit dir loaded policy budget before after r
-is_run law made emit dir loaded policy budget before after r c part run =
+pub is_run : {E : Type 0} → Journal_is_net → Runs_are_well_made → (k : Result Report E) (dir : List ℕ) (loaded : loads.Application ModuleCode) (policy : Rows) (budget : ℕ) (before after : HostWorld) (c : CommonPart)
+    → IsCommonPart c → IfOk k (HasRunFrom true dir loaded.packages loaded.modules policy c budget before after) → IfOk k (IsEmittedRun dir loaded policy budget before after)
+is_run law made (Err e) dir loaded policy budget before after c part run = run
+is_run law made (Ok r) dir loaded policy budget before after c part run =
     let first = run.first in
     let f = run.is in
     let h = run.report in
@@ -136,4 +139,57 @@ is_run law made emit dir loaded policy budget before after r c part run =
       ends = λ app a g.
           ends_so law made parts budget (suc come.underway.crossings) h.last h.ran r range h.report app a
           (subst (λ b. IsOver app (heap.heap app b (suc come.underway.crossings)) h.last h.ran.ending) f.limit (come.underway.after app (begins_so parts budget first f app a) g));
+    }
+
+-- WITH A TRACE
+
+pub traced_from : {E : Type 0} (k : Result Report E) (dir : List ℕ) (packages : List Package) (ms : List (LoadedModule ModuleCode)) (policy : Rows) (c : CommonPart) (budget : ℕ) (before after : HostWorld) (first : WorldView) (names : List (List ℕ))
+    → IsFirstOf packages ms policy c budget first → names ≡ party_names packages → IfOk k (HasTraceReport names dir first before after) → IfOk k (HasTracedFrom dir packages ms policy c budget before after)
+traced_from (Ok r) dir packages ms policy c budget before after first names f e h = record { first = first; is = f; report = subst (λ ns. HasTraceReport ns dir first before after r) e h }
+traced_from (Err e) dir packages ms policy c budget before after first names f n h = tt
+
+pub trace_report : {E : Type 0} (k : Result Report E) (parties : List (List ℕ)) (dir : List ℕ) (first last : WorldView) (before after : HostWorld) (traced : Traced)
+    → HasTraced parties dir first before last traced after → IfOk k (IsReportOf last (traced_as traced)) → IfOk k (HasTraceReport parties dir first before after)
+trace_report (Ok r) parties dir first last before after traced h s = record { last = last; traced = traced; runs = h; report = s }
+trace_report (Err e) parties dir first last before after traced h s = tt
+
+-- the report says how the run ended
+as_ran : (last : WorldView) (t : Traced) (ran : Ran) (r : Report) → t.ending ≡ ran.ending → IsReportOf last (traced_as t) r → IsReportOf last (record { ending = ran.ending; failed = t.failed }) r
+as_ran last t ran r e s = record { ending = s.ending ∙ e; which = s.which; uncaught = subst (λ x. IsUncaughtText last x r.uncaught) e s.uncaught }
+
+pub is_traced : {E : Type 0} → Journal_is_net → Runs_are_well_made → (k : Result Report E) (dir : List ℕ) (loaded : loads.Application ModuleCode) (policy : Rows) (budget : ℕ) (before after : HostWorld) (c : CommonPart)
+    → IsCommonPart c → IfOk k (HasTracedFrom dir loaded.packages loaded.modules policy c budget before after) → IfOk k (IsTracedRun dir loaded policy budget before after)
+is_traced law made (Err e) dir loaded policy budget before after c part run = run
+is_traced law made (Ok r) dir loaded policy budget before after c part run =
+    let first = run.first in
+    let f = run.is in
+    let h = run.report in
+    let t = h.runs in
+    let come = t.runs.come in
+    let names = party_names loaded.packages in
+    let parts = run_parts c loaded.packages loaded.modules policy in
+    let range = parts_in_range loaded.packages loaded.modules policy 0 loaded.packages in
+    let n = suc come.underway.crossings in
+    let ran : Ran = record { ending = t.ran.ending; failed = h.traced.failed } in
+    let s = as_ran h.last h.traced t.ran r t.ending h.report in
+    record {
+      common = c;
+      part = part;
+      talks = come.talks;
+      mid = t.mid;
+      outside = come.outside;
+      asked = asked_in parts budget first f come.talks come.asked;
+      told = t.told;
+      tells = ap (λ e. ending_told (ending_of e)) s.ending ∙ t.tells;
+      text = t.text;
+      puts = subst (λ w. PutsText t.text (newest_failed come.talks) w t.mid.output after.output) (sym h.report.which) (subst (λ v. PutsText t.text v h.traced.failed t.mid.output after.output) come.newest t.puts);
+      rest = t.rest;
+      crossings = n;
+      ends = λ app a g.
+          record {
+            ends =
+              ends_so law made parts budget n h.last ran r range s app a
+              (subst (λ b. IsOver app (heap.heap app b n) h.last t.ran.ending) f.limit (come.underway.after app (begins_so parts budget first f app a) g));
+            trace = t.is app (begins_so parts budget first f app a) g ∙ ap (λ b. trace_text names app (heap.heap app b n) t.told) f.limit;
+          };
     }

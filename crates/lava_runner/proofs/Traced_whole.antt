@@ -41,8 +41,8 @@ counted parties app [] = refl
 counted parties app (x ∷ js) = let next : length js + 1 ≡ suc (length js) = omega arith in ap (λ n. n + 1) (counted parties app js) ∙ next
 
 pub traced_whole : (parties : List (List ℕ)) (dir : List ℕ) (first now : WorldView) (before mid after : HostWorld) (ran : Ran) (trace : TraceText) (r : Traced) → HasTracedTo parties dir first before now (turn.Over ran.ending) ran.failed trace mid
-    → IsFinished now ran trace mid.output after.output r → after ≡ record mid { output = after.output } → HasTraced parties dir first before now r after
-traced_whole parties dir first now before mid after ran trace r h f rest =
+    → length now.steps ≡ length parties → IsFinished now ran trace mid.output after.output r → after ≡ record mid { output = after.output } → HasTraced parties dir first before now r after
+traced_whole parties dir first now before mid after ran trace r h size f rest =
     let u = h.tracing in
     let n = u.crossings in
     let b = first.budget in
@@ -60,12 +60,12 @@ traced_whole parties dir first now before mid after ran trace r h f rest =
           (let w : World = heap app b (suc n) in
           let over : IsOver app w now ran.ending = u.stands app s g in
           let lines : trace ≡ trace_of parties app w.journal = u.lines app s g in
-          let steps : now.steps ≡ steps_from 0 (length now.steps) w.steps = steps_listed 0 w.steps now.steps (λ q l. (let here : 0 + q ≡ q = omega arith in ap w.steps here ∙ over.steps q l)) in
+          let steps : now.steps ≡ steps_from 0 (length parties) w.steps = steps_listed 0 w.steps now.steps (λ q l. (let here : 0 + q ≡ q = omega arith in ap w.steps here ∙ over.steps q l)) ∙ ap (λ m. steps_from 0 m w.steps) size in
           λ j. (lines j).text ++ end_text (steps j) f.told);
       count = λ app s g. f.crossings ∙ ap (λ (t : TraceText). t.count) (u.lines app s g) ∙ counted parties app (heap app b (suc n)).journal;
     }
 
 pub whole_so : {E : Type 0} (k : Result Traced E) (parties : List (List ℕ)) (dir : List ℕ) (first now : WorldView) (before mid after : HostWorld) (ran : Ran) (trace : TraceText) → HasTracedTo parties dir first before now (turn.Over ran.ending) ran.failed trace mid
-    → IfOk k (IsFinished now ran trace mid.output after.output) → after ≡ record mid { output = after.output } → IfOk k (λ r. HasTraced parties dir first before now r after)
-whole_so (Ok r) parties dir first now before mid after ran trace h f rest = traced_whole parties dir first now before mid after ran trace r h f rest
-whole_so (Err e) parties dir first now before mid after ran trace h f rest = tt
+    → length now.steps ≡ length parties → IfOk k (IsFinished now ran trace mid.output after.output) → after ≡ record mid { output = after.output } → IfOk k (λ r. HasTraced parties dir first before now r after)
+whole_so (Ok r) parties dir first now before mid after ran trace h size f rest = traced_whole parties dir first now before mid after ran trace r h size f rest
+whole_so (Err e) parties dir first now before mid after ran trace h size f rest = tt

@@ -1,5 +1,6 @@
 -- The run of an application, and the report on it.
-use Rattle.std.specs.Prelude.{◌≡◌, ℕ, Bool, List, Option, Some, None}
+use Rattle.std.specs.Prelude.{◌≡◌, ℕ, Bool, true, false, List, ◌∷◌, map, Option, Some, None}
+use Rattle.js_desc.specs.declared.ending.Ending as desc
 use Rattle.js_run.specs.Heap.{Over_with, World, heap}
 use Rattle.js_run.specs.Journal.{Application}
 use Rattle.js_run.specs.Net.{net}
@@ -19,9 +20,14 @@ use Rattle.lava_runner.specs.Packages.{run_parts}
 use Rattle.lava_runner.specs.Ran.{AreAskedIn, HasRun}
 use Rattle.lava_runner.specs.Talks.{Agrees, AreTalks, Talk, newest_failed}
 use Rattle.lava_runner.specs.Uncaught.{IsUncaughtIn, uncaught_of}
+use Rattle.lava_runner.specs.Traces.{HasTraced, PutsText, ending_told, trace_text}
+use Rattle.lava_runner.specs.declared.app.Mode.{Mode}
+use Rattle.lava_runner.specs.declared.app.TheConstants.{HOST_NAME}
+use Rattle.lava_runner.specs.declared.app.Mode.TheVariants as mode
 use Rattle.lava_runner.specs.declared.app.Report.{Report}
 use Rattle.lava_runner.specs.declared.common.CommonPart.{CommonPart}
 use Rattle.lava_runner.specs.declared.run.Ran.{Ran}
+use Rattle.lava_runner.specs.declared.trace_run.Traced.{Traced}
 
 -- the machine of all parties before a run of these packages
 abbrev pub IsFirstOf : List Package → List (LoadedModule ModuleCode) → Rows → CommonPart → (budget : ℕ) → WorldView → Type 0
@@ -71,12 +77,59 @@ pub record EndsSo (app : Application) (budget crossings : ℕ) (r : Report) : Ty
   pub uncaught : r.uncaught ≡ uncaught_text r.ending (uncaught_of app (heap app budget crossings))
 
 -- the run of an application, whose packages have what its merged policy grants them: what it asks of the host, each in its turn, is what was done to the outside, and in each application whose outside answers so it ends with this report
-pub record IsRunOf (emit : Bool) (dir : List ℕ) (app : loads.Application ModuleCode) (policy : Rows) (budget : ℕ) (before after : HostWorld) (r : Report) : Type 0 where
+pub record IsEmittedRun (dir : List ℕ) (app : loads.Application ModuleCode) (policy : Rows) (budget : ℕ) (before after : HostWorld) (r : Report) : Type 0 where
   pub common : CommonPart
   pub part : IsCommonPart common
   pub talks : List Talk
-  pub outside : AreTalks emit dir talks before after
+  pub outside : AreTalks true dir talks before after
   pub which : r.which ≡ newest_failed talks
   pub asked : AreAskedIn (IsApplicationOf (run_parts common app.packages app.modules policy)) budget talks
   pub crossings : ℕ
   pub ends : (a : Application) → IsApplicationOf (run_parts common app.packages app.modules policy) a → Agrees a talks → EndsSo a budget crossings r
+
+-- THE SAME WITH A TRACE
+
+-- the parties by their names: the host, and the packages behind it
+-- own: names in a trace
+abbrev pub party_names : List Package → List (List ℕ)
+party_names packages = HOST_NAME.now ∷ map (λ (p : Package). p.name) packages
+
+abbrev pub traced_as : Traced → Ran
+traced_as t = record { ending = t.ending; failed = t.failed }
+
+pub record HasTraceReport (parties : List (List ℕ)) (dir : List ℕ) (first : WorldView) (before after : HostWorld) (r : Report) : Type 0 where
+  pub last : WorldView
+  pub traced : Traced
+  pub runs : HasTraced parties dir first before last traced after
+  pub report : IsReportOf last (traced_as traced) r
+
+pub record HasTracedFrom (dir : List ℕ) (packages : List Package) (ms : List (LoadedModule ModuleCode)) (policy : Rows) (c : CommonPart) (budget : ℕ) (before after : HostWorld) (r : Report) : Type 0 where
+  pub first : WorldView
+  pub is : IsFirstOf packages ms policy c budget first
+  pub report : HasTraceReport (party_names packages) dir first before after r
+
+-- a run ends with this report, and this is its trace
+pub record TracesSo (parties : List (List ℕ)) (app : Application) (budget crossings : ℕ) (told : desc.Ending) (text : List ℕ) (r : Report) : Type 0 where
+  pub ends : EndsSo app budget crossings r
+  pub trace : text ≡ trace_text parties app (heap app budget crossings) told
+
+-- the run of an application whose trace is put to the output at its end: what it asks of the host was done to the outside, but that its printed lines went nowhere, and in each application whose outside answers so it ends with this report, and this is the trace of its journal
+pub record IsTracedRun (dir : List ℕ) (app : loads.Application ModuleCode) (policy : Rows) (budget : ℕ) (before after : HostWorld) (r : Report) : Type 0 where
+  pub common : CommonPart
+  pub part : IsCommonPart common
+  pub talks : List Talk
+  pub mid : HostWorld
+  pub outside : AreTalks false dir talks before mid
+  pub asked : AreAskedIn (IsApplicationOf (run_parts common app.packages app.modules policy)) budget talks
+  pub told : desc.Ending
+  pub tells : ending_told (ending_of r.ending) ≡ Some told
+  pub text : List ℕ
+  pub puts : PutsText text (newest_failed talks) r.which mid.output after.output
+  pub rest : after ≡ record mid { output = after.output }
+  pub crossings : ℕ
+  pub ends : (a : Application) → IsApplicationOf (run_parts common app.packages app.modules policy) a → Agrees a talks → TracesSo (party_names app.packages) a budget crossings told text r
+
+-- a run in a mode
+abbrev pub IsRunOf : Mode → (dir : List ℕ) → loads.Application ModuleCode → (policy : Rows) → (budget : ℕ) → (before after : HostWorld) → Report → Type 0
+IsRunOf mode.Emit dir app policy budget before after r = IsEmittedRun dir app policy budget before after r
+IsRunOf mode.Trace dir app policy budget before after r = IsTracedRun dir app policy budget before after r

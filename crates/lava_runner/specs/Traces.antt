@@ -76,10 +76,10 @@ abbrev pub steps_from : (first count : ℕ) → (ℕ → ℕ) → List ℕ
 steps_from p zero steps = []
 steps_from p (suc n) steps = steps p ∷ steps_from (suc p) n steps
 
--- the trace of a run that is over: the lines of its journal, the steps of each of so many parties, and how it ended
+-- the trace of a run that is over: the lines of its journal, the steps of each party, and how it ended
 -- own: the trace of a run
-abbrev pub trace_text : (parties : List (List ℕ)) → (count : ℕ) → Application → World → desc.Ending → List ℕ
-trace_text parties count app w e = (trace_of parties app w.journal).text ++ end_text (steps_from 0 count w.steps) e
+abbrev pub trace_text : (parties : List (List ℕ)) → Application → World → desc.Ending → List ℕ
+trace_text parties app w e = (trace_of parties app w.journal).text ++ end_text (steps_from 0 (length parties) w.steps) e
 
 -- ON THE WAY
 
@@ -159,6 +159,6 @@ pub record HasTraced (parties : List (List ℕ)) (dir : List ℕ) (first : World
   pub puts : PutsText text ran.failed r.failed mid.output after.output
   pub rest : after ≡ record mid { output = after.output }
   pub is : (app : Application) → Rests app (begins app) first → Agrees app runs.come.talks
-      → text ≡ trace_text parties (length now.steps) app (heap app first.budget (suc runs.come.underway.crossings)) told
+      → text ≡ trace_text parties app (heap app first.budget (suc runs.come.underway.crossings)) told
   pub count : (app : Application) → Rests app (begins app) first → Agrees app runs.come.talks
       → r.crossings ≡ length (heap app first.budget (suc runs.come.underway.crossings)).journal

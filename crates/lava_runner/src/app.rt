@@ -1,22 +1,24 @@
 // The run of an application.
 
-ghost use Rattle.std.specs.Prelude.{◌≡◌, [], IfOk, MatchResult};
+ghost use Rattle.std.specs.Prelude.{◌≡◌, ◌++◌, [], map, IfOk, OnOk, MatchResult};
 ghost use Rattle.lava_host.specs.Hosts.{host_world};
 ghost use Rattle.lava_start.specs.Firsts.{IsFirstWorld};
 ghost use Rattle.lava_runner.specs.Commons.{HasRunCause, IsCommonPart};
 ghost use Rattle.lava_runner.specs.Ran.{HasRun};
-ghost use Rattle.lava_runner.specs.Reports.{HasReport, HasRunFrom, IsFirstOf, IsReportOf, IsRunOf};
-ghost use Rattle.lava_runner.specs.Reports.{IsUncaughtText};
+ghost use Rattle.lava_runner.specs.Reports.{HasReport, HasRunFrom, HasTraceReport, HasTracedFrom, IsEmittedRun, IsFirstOf, IsReportOf, IsRunOf, IsTracedRun, IsUncaughtText, party_names};
+ghost use Rattle.pkg_graph.specs.declared.graph.Package.{Package};
 
 use crate::common::{CommonPart, RunFault, common_part};
 use crate::packages::packages_of;
 use crate::run::{Ran, run};
+use crate::trace_run::trace_run;
 use crate::uncaught::uncaught;
 use js_run_laws::journal_is_net;
 use js_world::ending::Ending;
 use js_world::world::World;
 use lava_base::list::List;
 use lava_base::memory::OutOfMemory;
+use lava_base::name::Name;
 use lava_host::fault::Which;
 use lava_start::first::first_world;
 use lava_start::laws::runs_are_well_made;
@@ -30,6 +32,18 @@ use pkg_load::module::LoadedModule;
 use pkg_source::code::ModuleCode;
 use policy_row::policy::Policy;
 use std::alloc::Global;
+
+/// The name of the host in a trace.
+pub const HOST_NAME: &str = "$host$";
+
+/// What is put to the output.
+#[derive(Clone, Copy, Debug, PartialEq, Eq)]
+pub enum Mode {
+    /// What `console` prints.
+    Emit,
+    /// The trace of the run, at its end. What `console` prints goes nowhere.
+    Trace,
+}
 
 /// How a run ended.
 #[derive(Drop)]
@@ -140,14 +154,205 @@ fn run_packages<F: Folder, I: Source, O: Sink, E: Sink, C: Clock>(
     run_world(alloc, &mut world, emit, dir, folder, input, out, err, clock)
 }
 
-/// Runs an application: the common part is locked, each package stands with what the merged policy grants it, the main module of the application's own is imported, and what it asks of the host is done to the outside.
-/// Where lines are not emitted, `console` prints nothing. The budget is the number of steps that all parties may take together.
+/// The names of all parties: the host, and the packages behind it.
+fn names_of(alloc: Global, packages: &[Package]) -> Result<List<Name>, OutOfMemory>
+    ensures { IfOk result (λ names. names ≡ party_names packages.now) }
+{
+    let mut names = List::new(alloc);
+    names.push(Name::of(alloc, HOST_NAME)?)?;
+    add_names(packages, &mut names)?;
+    Ok(names)
+}
+
+/// Appends the names of packages.
+fn add_names(mut packages: &[Package], names: &mut List<Name>) -> Result<(), OutOfMemory>
+    ensures { let added = map (λ (p : Package). p.name) packages.entry.now in
+        OnOk result (names.new ≡ names.old ++ added) }
+{
+    while let [first, rest @ ..] = packages {
+        names.push(first.name.copy()?)?;
+        packages = rest;
+    }
+    Ok(())
+}
+
+/// Runs an application from a world in which nothing has happened, with a trace, and reports on it.
+fn trace_world<F: Folder, I: Source, O: Sink, E: Sink, C: Clock>(
+    alloc: Global,
+    world: &mut World,
+    parties: &List<Name>,
+    dir: &str,
+    folder: &mut F,
+    input: &mut I,
+    out: &mut O,
+    err: &mut E,
+    clock: &mut C,
+) -> Result<Report, OutOfMemory>
+    requires { world.now.machine.frames ≡ [] }
+    ensures { let before = host_world (F.Folder.stand folder.old) (I.Source.stand input.old)
+        (O.Sink.stand out.old) (E.Sink.stand err.old) (C.Clock.stand clock.old) in
+        let after = host_world (F.Folder.stand folder.new) (I.Source.stand input.new)
+        (O.Sink.stand out.new) (E.Sink.stand err.new) (C.Clock.stand clock.new) in
+        IfOk result (HasTraceReport parties.now dir.now world.old before after) }
+{
+    let traced = trace_run(
+        world, alloc, parties, dir, folder, input, out, err, clock,
+    )?;
+    let ran = Ran {
+        ending: traced.ending,
+        failed: traced.failed,
+    };
+    report_of(alloc, world, ran)
+}
+
+/// Runs the packages of an application over a common part, with a trace, and reports on it.
+fn trace_packages<F: Folder, I: Source, O: Sink, E: Sink, C: Clock>(
+    alloc: Global,
+    packages: &[Package],
+    modules: &[LoadedModule<ModuleCode>],
+    policy: &Policy,
+    common: CommonPart,
+    budget: u64,
+    dir: &str,
+    folder: &mut F,
+    input: &mut I,
+    out: &mut O,
+    err: &mut E,
+    clock: &mut C,
+) -> Result<Report, OutOfMemory>
+    ensures { let before = host_world (F.Folder.stand folder.old) (I.Source.stand input.old)
+        (O.Sink.stand out.old) (E.Sink.stand err.old) (C.Clock.stand clock.old) in
+        let after = host_world (F.Folder.stand folder.new) (I.Source.stand input.new)
+        (O.Sink.stand out.new) (E.Sink.stand err.new) (C.Clock.stand clock.new) in
+        let run = HasTracedFrom dir.now packages.now modules.now policy.now common budget in
+        IfOk result (run before after) }
+{
+    let names = names_of(alloc, packages)?;
+    let mut world = first_of(alloc, packages, modules, policy, common, budget)?;
+    trace_world(
+        alloc, &mut world, &names, dir, folder, input, out, err, clock,
+    )
+}
+
+/// Runs an application over a common part, and prints what it prints.
+fn run_emitted<F: Folder, I: Source, O: Sink, E: Sink, C: Clock>(
+    alloc: Global,
+    app: &Application<ModuleCode>,
+    policy: &Policy,
+    common: CommonPart,
+    budget: u64,
+    dir: &str,
+    folder: &mut F,
+    input: &mut I,
+    out: &mut O,
+    err: &mut E,
+    clock: &mut C,
+) -> Result<Report, OutOfMemory>
+    requires { IsCommonPart common }
+    ensures { let before = host_world (F.Folder.stand folder.old) (I.Source.stand input.old)
+        (O.Sink.stand out.old) (E.Sink.stand err.old) (C.Clock.stand clock.old) in
+        let after = host_world (F.Folder.stand folder.new) (I.Source.stand input.new)
+        (O.Sink.stand out.new) (E.Sink.stand err.new) (C.Clock.stand clock.new) in
+        IfOk result (IsEmittedRun dir.now app.now policy.now budget before after) }
+{
+    journal_is_net();
+    runs_are_well_made();
+    run_packages(
+        alloc,
+        app.packages(),
+        app.modules(),
+        policy,
+        common,
+        budget,
+        true,
+        dir,
+        folder,
+        input,
+        out,
+        err,
+        clock,
+    )
+}
+
+/// Runs an application over a common part, and puts its trace to the output.
+fn run_with_trace<F: Folder, I: Source, O: Sink, E: Sink, C: Clock>(
+    alloc: Global,
+    app: &Application<ModuleCode>,
+    policy: &Policy,
+    common: CommonPart,
+    budget: u64,
+    dir: &str,
+    folder: &mut F,
+    input: &mut I,
+    out: &mut O,
+    err: &mut E,
+    clock: &mut C,
+) -> Result<Report, OutOfMemory>
+    requires { IsCommonPart common }
+    ensures { let before = host_world (F.Folder.stand folder.old) (I.Source.stand input.old)
+        (O.Sink.stand out.old) (E.Sink.stand err.old) (C.Clock.stand clock.old) in
+        let after = host_world (F.Folder.stand folder.new) (I.Source.stand input.new)
+        (O.Sink.stand out.new) (E.Sink.stand err.new) (C.Clock.stand clock.new) in
+        IfOk result (IsTracedRun dir.now app.now policy.now budget before after) }
+{
+    journal_is_net();
+    runs_are_well_made();
+    trace_packages(
+        alloc,
+        app.packages(),
+        app.modules(),
+        policy,
+        common,
+        budget,
+        dir,
+        folder,
+        input,
+        out,
+        err,
+        clock,
+    )
+}
+
+/// Runs an application over a common part in a mode.
+fn run_over<F: Folder, I: Source, O: Sink, E: Sink, C: Clock>(
+    alloc: Global,
+    app: &Application<ModuleCode>,
+    policy: &Policy,
+    common: CommonPart,
+    budget: u64,
+    mode: Mode,
+    dir: &str,
+    folder: &mut F,
+    input: &mut I,
+    out: &mut O,
+    err: &mut E,
+    clock: &mut C,
+) -> Result<Report, OutOfMemory>
+    requires { IsCommonPart common }
+    ensures { let before = host_world (F.Folder.stand folder.old) (I.Source.stand input.old)
+        (O.Sink.stand out.old) (E.Sink.stand err.old) (C.Clock.stand clock.old) in
+        let after = host_world (F.Folder.stand folder.new) (I.Source.stand input.new)
+        (O.Sink.stand out.new) (E.Sink.stand err.new) (C.Clock.stand clock.new) in
+        IfOk result (IsRunOf mode dir.now app.now policy.now budget before after) }
+{
+    match mode {
+        Mode::Emit => run_emitted(
+            alloc, app, policy, common, budget, dir, folder, input, out, err, clock,
+        ),
+        Mode::Trace => run_with_trace(
+            alloc, app, policy, common, budget, dir, folder, input, out, err, clock,
+        ),
+    }
+}
+
+/// Runs an application: the common part is locked, each package stands with what the merged policy grants it, the main module of the application's own is imported, and what it asks of the host is done to the outside. By the mode the output gets what `console` prints, or the trace of the run at its end.
+/// The budget is the number of steps that all parties may take together.
 pub fn run_app<F: Folder, I: Source, O: Sink, E: Sink, C: Clock>(
     alloc: Global,
     app: &Application<ModuleCode>,
     policy: &Policy,
     budget: u64,
-    emit: bool,
+    mode: Mode,
     dir: &str,
     folder: &mut F,
     input: &mut I,
@@ -159,27 +364,13 @@ pub fn run_app<F: Folder, I: Source, O: Sink, E: Sink, C: Clock>(
         (O.Sink.stand out.old) (E.Sink.stand err.old) (C.Clock.stand clock.old) in
         let after = host_world (F.Folder.stand folder.new) (I.Source.stand input.new)
         (O.Sink.stand out.new) (E.Sink.stand err.new) (C.Clock.stand clock.new) in
-        IfOk result (IsRunOf emit dir.now app.now policy.now budget before after) }
+        IfOk result (IsRunOf mode dir.now app.now policy.now budget before after) }
     ensures cause { MatchResult result (λ r. Unit {0}) HasRunCause }
 {
-    journal_is_net();
-    runs_are_well_made();
     match common_part(alloc) {
         Ok(common) => {
-            let report = run_packages(
-                alloc,
-                app.packages(),
-                app.modules(),
-                policy,
-                common,
-                budget,
-                emit,
-                dir,
-                folder,
-                input,
-                out,
-                err,
-                clock,
+            let report = run_over(
+                alloc, app, policy, common, budget, mode, dir, folder, input, out, err, clock,
             )?;
             Ok(report)
         }

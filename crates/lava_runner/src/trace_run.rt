@@ -1,6 +1,6 @@
 // A run that is traced: the line of each crossing is written as it happens, and the whole is put to the output at the end.
 
-ghost use Rattle.std.specs.Prelude.{◌≡◌, ℕ, [], List, Option, IfOk, Some};
+ghost use Rattle.std.specs.Prelude.{◌≡◌, ℕ, [], List, Option, length, IfOk, OnOk, Some};
 ghost use Rattle.lava_host.specs.Hosts.{host_world, HostWorld};
 ghost use Rattle.lava_host.specs.declared.fault.Which.{Which};
 ghost use Rattle.js_world.specs.Worlds.{WorldView, ending_of};
@@ -223,8 +223,18 @@ fn finish<O: Sink>(
     })
 }
 
+/// So many parties have steps. Want of memory is answered where there are others.
+fn as_many(world: &World, count: usize) -> Result<(), OutOfMemory>
+    ensures { OnOk result (length world.now.steps ≡ count) }
+{
+    if world.steps().len() != count {
+        return Err(OutOfMemory);
+    }
+    Ok(())
+}
+
 /// Runs all parties from the host's first import to the end, and puts the trace of that to the output, in one piece at the end. What `console` prints goes nowhere.
-pub fn trace_run<F: Folder, I: Source, O: Sink, E: Sink, C: Clock>(
+pub(crate) fn trace_run<F: Folder, I: Source, O: Sink, E: Sink, C: Clock>(
     world: &mut World,
     alloc: Global,
     parties: &List<Name>,
@@ -254,5 +264,6 @@ pub fn trace_run<F: Folder, I: Source, O: Sink, E: Sink, C: Clock>(
         err,
         clock,
     )?;
+    as_many(world, parties.len())?;
     finish(world, &mut tracer, alloc, ran, out)
 }
