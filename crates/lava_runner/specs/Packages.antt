@@ -1,6 +1,7 @@
 -- The packages of an application as the machine runs them.
-use Rattle.std.specs.Prelude.{ℕ, suc, Bool, false, ◌&&◌, List, [], ◌∷◌, map, nat_eq, slice_get, Option, Some, None, bytes_eq, if◌then◌else◌}
+use Rattle.std.specs.Prelude.{ℕ, suc, Bool, false, ◌&&◌, List, [], ◌∷◌, map, find, nat_eq, slice_get, Option, Some, None, bytes_eq}
 use Rattle.std.specs.List.{list_any}
+use Rattle.std.specs.Option.{unwrap_or}
 use Rattle.js_text.specs.Utf8.{units_of}
 use Rattle.js_desc.specs.declared.start.Start.{Start}
 use Rattle.lava_start.specs.Applications.{PackageParts, PartyLink, RunParts}
@@ -36,8 +37,7 @@ is_at owner path m = nat_eq m.owner owner && bytes_eq m.path path
 
 -- the first of these paths that a module of the package has, or else another one
 abbrev pub path_among : (owner : ℕ) → List (LoadedModule ModuleCode) → (paths : List (List ℕ)) → (other : List ℕ) → List ℕ
-path_among owner ms [] other = other
-path_among owner ms (path ∷ paths) other = if list_any (is_at owner path) ms then path else path_among owner ms paths other
+path_among owner ms paths other = unwrap_or (find (λ path. list_any (is_at owner path) ms) paths) other
 
 -- the path of the main module, of those that its manifest's `main` may mean. Where none of them is reached, no module has the path
 -- own: how a path is resolved

@@ -152,12 +152,10 @@ fn path_among<'a>(
 ) -> &'a Name
     ensures { result.now ≡ path_among owner modules.now paths.now other.now }
 {
-    for path in paths {
-        if is_module(owner, path, modules) {
-            return path;
-        }
+    match paths.iter().find(|path| is_module(owner, path, modules)) {
+        Some(path) => path,
+        None => other,
     }
-    other
 }
 
 /// The path of the main module of a package.
