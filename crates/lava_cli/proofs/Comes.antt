@@ -4,6 +4,7 @@ use Rattle.lava_streams.specs.Files.{Files}
 use Rattle.pkg_graph.specs.declared.graph.Package.{Package}
 use Rattle.policy_row.specs.Rows.{Rows}
 use Rattle.lava_host.specs.Hosts.{HostWorld}
+use Rattle.lava_runner.specs.declared.app.Mode.{Mode}
 use Rattle.lava_cli.specs.Loads.{CountsLoading, IsGraphRead, IsLoadRead, IsLoading, IsLoadingIn, IsLoadingOf}
 use Rattle.lava_cli.specs.Policies.{ArePolicies}
 use Rattle.lava_cli.specs.RunAnswers.{HasReadFolder, RunComes, RunsOf}
@@ -31,11 +32,11 @@ pub counted_so : (old mid new : ℕ) (r : Result LoadedApplication LoadingFault)
 counted_so old mid new r e c = subst (λ n. CountsLoading n new r) e c
 
 -- it was loaded, and then it ran
-pub ran_so : (directory : List ℕ) (budget : ℕ) (before mid after : HostWorld) (app : LoadedApplication) (o : RunOutcome) → IsLoading before.folder.told directory (Ok app) → HasReadFolder before mid (Ok app)
-    → RunsOf directory app budget mid after o → RunComes directory budget before after o
-ran_so directory budget before mid after app (outcome.Ran r) l f ran = record { app = app; mid = mid; loaded = l; read = f; ran = ran }
-ran_so directory budget before mid after app (outcome.Prelude place what) l f ran = record { app = app; mid = mid; loaded = l; read = f; ran = ran }
-ran_so directory budget before mid after app outcome.OutOfMemory l f ran = record { app = app; mid = mid; loaded = l; read = f; ran = ran }
-ran_so directory budget before mid after app (outcome.Graph f) l g ran = absurd ran
-ran_so directory budget before mid after app (outcome.Policies f) l g ran = absurd ran
-ran_so directory budget before mid after app (outcome.Load f) l g ran = absurd ran
+pub ran_so : (mode : Mode) (directory : List ℕ) (budget : ℕ) (before mid after : HostWorld) (app : LoadedApplication) (o : RunOutcome) → IsLoading before.folder.told directory (Ok app) → HasReadFolder before mid (Ok app)
+    → RunsOf mode directory app budget mid after o → RunComes mode directory budget before after o
+ran_so mode directory budget before mid after app (outcome.Ran r) l f ran = record { app = app; mid = mid; loaded = l; read = f; ran = ran }
+ran_so mode directory budget before mid after app (outcome.Prelude place what) l f ran = record { app = app; mid = mid; loaded = l; read = f; ran = ran }
+ran_so mode directory budget before mid after app outcome.OutOfMemory l f ran = record { app = app; mid = mid; loaded = l; read = f; ran = ran }
+ran_so mode directory budget before mid after app (outcome.Graph f) l g ran = absurd ran
+ran_so mode directory budget before mid after app (outcome.Policies f) l g ran = absurd ran
+ran_so mode directory budget before mid after app (outcome.Load f) l g ran = absurd ran

@@ -1,5 +1,5 @@
--- What `lava run DIR` answers: the cause of each answer, and what the call leaves of the outside.
-use Rattle.std.specs.Prelude.{◌≡◌, ℕ, zero, suc, ◌+◌, true, List, Option, Some, None, Result, Ok, Err, codes}
+-- What `lava run DIR` and `lava trace DIR` answer: the cause of each answer, and what the call leaves of the outside.
+use Rattle.std.specs.Prelude.{◌≡◌, ℕ, zero, suc, ◌+◌, List, Option, Some, None, Result, Ok, Err, codes}
 use Rattle.lava_base.specs.declared.place.Place.{Place}
 use Rattle.js_fault.specs.declared.fault.SyntaxWhat.{SyntaxWhat}
 use Rattle.js_machine.specs.declared.frame.Halt.{Halt}
@@ -13,6 +13,7 @@ use Rattle.lava_lines.specs.Lines as lines
 use Rattle.lava_lines.specs.Puts as puts
 use Rattle.lava_lines.specs.declared.status.TheConstants as texts
 use Rattle.lava_runner.specs.Reports.{IsRunOf}
+use Rattle.lava_runner.specs.declared.app.Mode.{Mode}
 use Rattle.lava_runner.specs.declared.app.Report.{Report}
 use Rattle.lava_streams.specs.Outside.{Stand, Outside, outside}
 use Rattle.lava_tree.specs.TreeAnswers.{TreeAnswers}
@@ -39,14 +40,14 @@ use Rattle.lava_cli.specs.declared.run_report.TheConstants as words
 
 -- THE CAUSES
 
--- the run of this application with its policy, or why there is none
-abbrev pub RunsOf : (directory : List ℕ) → LoadedApplication → (budget : ℕ) → (before after : HostWorld) → RunOutcome → Type 0
-RunsOf directory l budget before after (outcome.Ran r) = IsRunOf true directory l.app l.policy budget before after r
-RunsOf directory l budget before after (outcome.Prelude place what) = IsPreludeFault prelude place what
-RunsOf directory l budget before after outcome.OutOfMemory = Unit {0}
-RunsOf directory l budget before after (outcome.Graph f) = ⊥
-RunsOf directory l budget before after (outcome.Policies f) = ⊥
-RunsOf directory l budget before after (outcome.Load f) = ⊥
+-- the run of this application with its policy in a mode, or why there is none
+abbrev pub RunsOf : (mode : Mode) → (directory : List ℕ) → LoadedApplication → (budget : ℕ) → (before after : HostWorld) → RunOutcome → Type 0
+RunsOf mode directory l budget before after (outcome.Ran r) = IsRunOf mode directory l.app l.policy budget before after r
+RunsOf mode directory l budget before after (outcome.Prelude place what) = IsPreludeFault prelude place what
+RunsOf mode directory l budget before after outcome.OutOfMemory = Unit {0}
+RunsOf mode directory l budget before after (outcome.Graph f) = ⊥
+RunsOf mode directory l budget before after (outcome.Policies f) = ⊥
+RunsOf mode directory l budget before after (outcome.Load f) = ⊥
 
 -- the folder alone was read, and tells what it told
 pub record HasReadFolder (before after : HostWorld) (r : Result LoadedApplication LoadingFault) : Type 0 where
@@ -55,12 +56,12 @@ pub record HasReadFolder (before after : HostWorld) (r : Result LoadedApplicatio
   pub counts : CountsLoading before.folder.count after.folder.count r
 
 -- an application was loaded, and then it ran so
-pub record HasRunIn (directory : List ℕ) (budget : ℕ) (before after : HostWorld) (o : RunOutcome) : Type 0 where
+pub record HasRunIn (mode : Mode) (directory : List ℕ) (budget : ℕ) (before after : HostWorld) (o : RunOutcome) : Type 0 where
   pub app : LoadedApplication
   pub mid : HostWorld
   pub loaded : IsLoading before.folder.told directory (Ok app)
   pub read : HasReadFolder before mid (Ok app)
-  pub ran : RunsOf directory app budget mid after o
+  pub ran : RunsOf mode directory app budget mid after o
 
 -- nothing was loaded
 pub record IsRefusedBy (directory : List ℕ) (before after : HostWorld) (f : LoadingFault) : Type 0 where
@@ -68,13 +69,13 @@ pub record IsRefusedBy (directory : List ℕ) (before after : HostWorld) (f : Lo
   pub read : HasReadFolder before after (Err f)
 
 -- the cause of each outcome, with what it leaves of the outside
-abbrev pub RunComes : (directory : List ℕ) → (budget : ℕ) → (before after : HostWorld) → RunOutcome → Type 0
-RunComes directory budget before after (outcome.Ran r) = HasRunIn directory budget before after (outcome.Ran r)
-RunComes directory budget before after (outcome.Prelude place what) = HasRunIn directory budget before after (outcome.Prelude place what)
-RunComes directory budget before after outcome.OutOfMemory = HasRunIn directory budget before after outcome.OutOfMemory
-RunComes directory budget before after (outcome.Graph f) = IsRefusedBy directory before after (loading.Graph f)
-RunComes directory budget before after (outcome.Policies f) = IsRefusedBy directory before after (loading.Policies f)
-RunComes directory budget before after (outcome.Load f) = IsRefusedBy directory before after (loading.Load f)
+abbrev pub RunComes : (mode : Mode) → (directory : List ℕ) → (budget : ℕ) → (before after : HostWorld) → RunOutcome → Type 0
+RunComes mode directory budget before after (outcome.Ran r) = HasRunIn mode directory budget before after (outcome.Ran r)
+RunComes mode directory budget before after (outcome.Prelude place what) = HasRunIn mode directory budget before after (outcome.Prelude place what)
+RunComes mode directory budget before after outcome.OutOfMemory = HasRunIn mode directory budget before after outcome.OutOfMemory
+RunComes mode directory budget before after (outcome.Graph f) = IsRefusedBy directory before after (loading.Graph f)
+RunComes mode directory budget before after (outcome.Policies f) = IsRefusedBy directory before after (loading.Policies f)
+RunComes mode directory budget before after (outcome.Load f) = IsRefusedBy directory before after (loading.Load f)
 
 -- WHAT IS TOLD
 
@@ -118,30 +119,36 @@ abbrev pub TellsUncaught : Option (List ℕ) → (before after : Stand (List ℕ
 TellsUncaught (Some text) before after status = PutsLine (lines.uncaught_line text) texts.UNCAUGHT_STATUS before after status
 TellsUncaught None before after status = Lacks before after status
 
--- a run that the outside ended has the object that failed
-abbrev pub TellsOutside : Option Which → (before after : Stand (List ℕ)) → (status : ℕ) → Type 0
-TellsOutside (Some w) before after status = PutsLine (lines.outside_line (which_word w)) texts.OUTSIDE_STATUS before after status
-TellsOutside None before after status = Lacks before after status
+-- an object of the outside that failed
+abbrev pub TellsOutside : Which → (before after : Stand (List ℕ)) → (status : ℕ) → Type 0
+TellsOutside w before after status = PutsLine (lines.outside_line (which_word w)) texts.OUTSIDE_STATUS before after status
 
 abbrev pub TellsEnded : (party : ℕ) → (word : List ℕ) → (own : ℕ) → (before after : Stand (List ℕ)) → (status : ℕ) → Type 0
 TellsEnded p word own before after status = PutsLine (lines.ended_line word (party_word p)) own before after status
 
-abbrev pub TellsHalt : (party : ℕ) → Halt → Option Which → (before after : Stand (List ℕ)) → (status : ℕ) → Type 0
-TellsHalt p halt.Outside w before after status = TellsOutside w before after status
-TellsHalt p halt.Number w before after status = TellsEnded p (halt_word halt.Number) texts.LIMIT_STATUS before after status
-TellsHalt p halt.Text w before after status = TellsEnded p (halt_word halt.Text) texts.LIMIT_STATUS before after status
-TellsHalt p halt.Depth w before after status = TellsEnded p (halt_word halt.Depth) texts.LIMIT_STATUS before after status
-TellsHalt p halt.Meter w before after status = TellsEnded p (halt_word halt.Meter) texts.LIMIT_STATUS before after status
+-- a run that the outside ended has an object that failed, so that want of memory is told of one that has none
+abbrev pub TellsHalt : (party : ℕ) → Halt → (before after : Stand (List ℕ)) → (status : ℕ) → Type 0
+TellsHalt p halt.Outside before after status = Lacks before after status
+TellsHalt p halt.Number before after status = TellsEnded p (halt_word halt.Number) texts.LIMIT_STATUS before after status
+TellsHalt p halt.Text before after status = TellsEnded p (halt_word halt.Text) texts.LIMIT_STATUS before after status
+TellsHalt p halt.Depth before after status = TellsEnded p (halt_word halt.Depth) texts.LIMIT_STATUS before after status
+TellsHalt p halt.Meter before after status = TellsEnded p (halt_word halt.Meter) texts.LIMIT_STATUS before after status
 
-abbrev pub TellsEnding : Ending → Report → (before after : Stand (List ℕ)) → (status : ℕ) → Type 0
-TellsEnding ending.Done r before after status = (status ≡ texts.DONE_STATUS) × (after ≡ before)
-TellsEnding ending.Uncaught r before after status = TellsUncaught r.uncaught before after status
-TellsEnding (ending.Budget p) r before after status = TellsEnded p (codes "Budget") texts.BUDGET_STATUS before after status
-TellsEnding (ending.Fault p h) r before after status = TellsHalt p h r.which before after status
+-- how a run ended of which no call on the outside failed: nothing where it was done
+abbrev pub TellsEnding : Ending → (uncaught : Option (List ℕ)) → (before after : Stand (List ℕ)) → (status : ℕ) → Type 0
+TellsEnding ending.Done text before after status = (status ≡ texts.DONE_STATUS) × (after ≡ before)
+TellsEnding ending.Uncaught text before after status = TellsUncaught text before after status
+TellsEnding (ending.Budget p) text before after status = TellsEnded p (codes "Budget") texts.BUDGET_STATUS before after status
+TellsEnding (ending.Fault p h) text before after status = TellsHalt p h before after status
 
--- what is told of a run: nothing of one that was done
+-- a call on the outside that failed is told before all else
+abbrev pub TellsReport : Option Which → Report → (before after : Stand (List ℕ)) → (status : ℕ) → Type 0
+TellsReport (Some w) r before after status = TellsOutside w before after status
+TellsReport None r before after status = TellsEnding r.ending r.uncaught before after status
+
+-- what is told of a run
 abbrev pub TellsRun : Report → (before after : Stand (List ℕ)) → (status : ℕ) → Type 0
-TellsRun r before after status = TellsEnding r.ending r before after status
+TellsRun r before after status = TellsReport r.which r before after status
 
 abbrev pub TellsGraph : GraphFault → (before after : Stand (List ℕ)) → (status : ℕ) → Type 0
 TellsGraph (graph.Manifest dir field) before after status = PutsLine (lines.manifest_line dir field) texts.LOADING_STATUS before after status
@@ -173,11 +180,11 @@ RunReports outcome.OutOfMemory before after status = Lacks before after status
 
 -- THE ANSWERS
 
--- `run DIR`: some outcome has its cause, and then it is told on the errors alone
-pub record RunAnswers (directory : List ℕ) (budget : ℕ) (before after : HostWorld) (status : ℕ) : Type 0 where
+-- `run DIR`, or in the other mode `trace DIR`: some outcome has its cause, and then it is told on the errors alone
+pub record RunAnswers (mode : Mode) (directory : List ℕ) (budget : ℕ) (before after : HostWorld) (status : ℕ) : Type 0 where
   pub outcome : RunOutcome
   pub mid : HostWorld
-  pub comes : RunComes directory budget before mid outcome
+  pub comes : RunComes mode directory budget before mid outcome
   pub told : RunReports outcome mid.errors after.errors status
   pub rest : after ≡ record mid { errors = after.errors }
 
@@ -198,7 +205,7 @@ pub record UsageAnswers (before after : HostWorld) (status : ℕ) : Type 0 where
 
 abbrev pub AnswersTo : Option Asked → (before after : HostWorld) → (status : ℕ) → Type 0
 AnswersTo None before after status = UsageAnswers before after status
-AnswersTo (Some (Runs directory budget)) before after status = RunAnswers directory budget before after status
+AnswersTo (Some (Runs mode directory budget)) before after status = RunAnswers mode directory budget before after status
 AnswersTo (Some (Trees file)) before after status = TreeAnswersIn file before after status
 
 -- the answer to words

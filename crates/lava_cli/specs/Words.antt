@@ -2,14 +2,16 @@
 use Rattle.std.specs.Prelude.{ℕ, ◌+◌, ◌-◌, ◌*◌, Bool, true, false, ◌&&◌, ◌||◌, not, nat_le, nat_eq, min, List, [], ◌∷◌, length, Option, Some, None, if◌then◌else◌}
 use Rattle.std.specs.Option.{option_map}
 use Rattle.js_text.specs.Texts.{same_units}
+use Rattle.lava_runner.specs.declared.app.Mode.{Mode}
+use Rattle.lava_runner.specs.declared.app.Mode.TheVariants as mode
 use Rattle.lava_cli.specs.declared.words.Command as command
 use Rattle.lava_cli.specs.declared.words.Command.TheVariants as commands
 use Rattle.lava_cli.specs.declared.words.SplitWords.{SplitWords}
-use Rattle.lava_cli.specs.declared.words.TheConstants.{RUN, TREE, BUDGET, DEFAULT_BUDGET, MAX_BUDGET, MAX_DIGITS}
+use Rattle.lava_cli.specs.declared.words.TheConstants.{RUN, TRACE, TREE, BUDGET, DEFAULT_BUDGET, MAX_BUDGET, MAX_DIGITS}
 
--- run the application of a directory with a budget, or print the term of a file
+-- run the application of a directory with a budget, with what it prints or its trace on the output, or print the term of a file
 pub data Asked : Type 0 where
-  Runs : (directory : List ℕ) → (budget : ℕ) → Asked
+  Runs : (mode : Mode) → (directory : List ℕ) → (budget : ℕ) → Asked
   Trees : (file : List ℕ) → Asked
 
 -- two words, and what the option beside them says
@@ -22,7 +24,7 @@ abbrev pub split_by : (command argument : List ℕ) → (budget : Option (List �
 split_by command argument budget = record { command = command; argument = argument; budget = budget }
 
 abbrev pub told_command : command.Command → Asked
-told_command (commands.Run d n) = Runs d.now n
+told_command (commands.Run m d n) = Runs m d.now n
 told_command (commands.Tree f) = Trees f.now
 
 abbrev pub told_split : SplitWords → Split
@@ -73,7 +75,11 @@ is_option (b ∷ []) = false
 is_option (b ∷ c ∷ cs) = nat_eq b 45
 
 abbrev pub command_named : (word argument : List ℕ) → (budget : ℕ) → Option Asked
-command_named w a n = if is_option a then None else (if same_units w RUN.now then Some (Runs a n) else (if same_units w TREE.now then Some (Trees a) else None))
+command_named w a n =
+    if is_option a then None
+    else (if same_units w RUN.now then Some (Runs mode.Emit a n)
+    else (if same_units w TRACE.now then Some (Runs mode.Trace a n)
+    else (if same_units w TREE.now then Some (Trees a) else None)))
 
 abbrev pub with_budget : Split → Option ℕ → Option Asked
 with_budget s None = None

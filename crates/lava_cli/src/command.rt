@@ -12,6 +12,7 @@ use crate::run_report::report_run;
 use crate::words::{Command, command_of};
 use lava_lines::report::put_line;
 use lava_lines::status::{MEMORY_LINE, MEMORY_STATUS, USAGE_LINE, USAGE_STATUS};
+use lava_runner::app::Mode;
 use lava_streams::clock::Clock;
 use lava_streams::folder::Folder;
 use lava_streams::sink::Sink;
@@ -21,9 +22,10 @@ use std::alloc::Global;
 use std::io;
 use std::io::ErrorKind;
 
-/// Runs the application of a directory, and tells how that ended.
+/// Runs the application of a directory in a mode, and tells how that ended.
 fn run<F: Folder, I: Source, O: Sink, E: Sink, C: Clock>(
     alloc: Global,
+    mode: Mode,
     directory: &str,
     budget: u64,
     folder: &mut F,
@@ -36,15 +38,18 @@ fn run<F: Folder, I: Source, O: Sink, E: Sink, C: Clock>(
         (O.Sink.stand out.old) (E.Sink.stand err.old) (C.Clock.stand clock.old) in
         let after = host_world (F.Folder.stand folder.new) (I.Source.stand input.new)
         (O.Sink.stand out.new) (E.Sink.stand err.new) (C.Clock.stand clock.new) in
-        RunAnswers directory.now budget before after result }
+        RunAnswers mode directory.now budget before after result }
 {
-    let outcome = run_directory(alloc, directory, budget, folder, input, out, err, clock);
+    let outcome = run_directory(
+        alloc, mode, directory, budget, folder, input, out, err, clock,
+    );
     report_run(alloc, outcome, err)
 }
 
 /// Does what the words say, and gives the exit status. The words come without the program's own name.
 ///
 /// - `run DIR [--budget N]` loads the application of a directory (`package.json`, its policy files, `index.js` or its `main`, and what these require) and runs its own package.
+/// - `trace DIR [--budget N]` does the same, and appends the trace of the run in place of what it prints.
 /// - `tree FILE` appends the lines of the core term that a module is lowered to.
 ///
 /// The statuses: 0 done, 1 a thrown value that nothing caught, 2 usage, 3 nothing was loaded, 4 a policy file is refused, 5 a limit of the language, 6 the budget was used up,
@@ -65,8 +70,14 @@ pub fn lava<F: Folder, I: Source, O: Sink, E: Sink, C: Clock>(
         CommandAnswers (map string_bytes words.now) before after result }
 {
     match command_of(words) {
-        Some(Command::Run { directory, budget }) => run(
-            alloc, directory, budget, folder, input, out, err, clock,
+        Some(
+            Command::Run {
+                mode,
+                directory,
+                budget,
+            },
+        ) => run(
+            alloc, mode, directory, budget, folder, input, out, err, clock,
         ),
         Some(Command::Tree { file }) => tree(alloc, file, folder, out, err),
         None => put_line(USAGE_LINE.as_bytes(), USAGE_STATUS, err),

@@ -1,4 +1,4 @@
-// The command `lava run DIR`.
+// The commands `lava run DIR` and `lava trace DIR`.
 
 ghost use Rattle.std.specs.Prelude.{◌≡◌};
 ghost use Rattle.lava_host.specs.Hosts.{host_world};
@@ -6,7 +6,7 @@ ghost use Rattle.lava_cli.specs.RunAnswers.{RunComes, RunsOf};
 
 use crate::loading::{LoadedApplication, LoadingFault, load_application};
 use crate::outcome::RunOutcome;
-use lava_runner::app::run_app;
+use lava_runner::app::{Mode, run_app};
 use lava_runner::common::RunFault;
 use lava_streams::clock::Clock;
 use lava_streams::folder::Folder;
@@ -14,10 +14,11 @@ use lava_streams::sink::Sink;
 use lava_streams::source::Source;
 use std::alloc::Global;
 
-/// Runs an application.
+/// Runs an application in a mode.
 fn run_loaded<F: Folder, I: Source, O: Sink, E: Sink, C: Clock>(
     alloc: Global,
     loaded: &LoadedApplication,
+    mode: Mode,
     directory: &str,
     budget: u64,
     folder: &mut F,
@@ -30,11 +31,11 @@ fn run_loaded<F: Folder, I: Source, O: Sink, E: Sink, C: Clock>(
         (O.Sink.stand out.old) (E.Sink.stand err.old) (C.Clock.stand clock.old) in
         let after = host_world (F.Folder.stand folder.new) (I.Source.stand input.new)
         (O.Sink.stand out.new) (E.Sink.stand err.new) (C.Clock.stand clock.new) in
-        RunsOf directory.now loaded.now budget before after result }
+        RunsOf mode directory.now loaded.now budget before after result }
 {
     let LoadedApplication { app, policy } = loaded;
     match run_app(
-        alloc, app, policy, budget, true, directory, folder, input, out, err, clock,
+        alloc, app, policy, budget, mode, directory, folder, input, out, err, clock,
     ) {
         Ok(report) => RunOutcome::Ran(report),
         Err(RunFault::Prelude(place, what)) => RunOutcome::Prelude(place, what),
@@ -42,9 +43,10 @@ fn run_loaded<F: Folder, I: Source, O: Sink, E: Sink, C: Clock>(
     }
 }
 
-/// Loads the application of a directory, and runs its own package.
+/// Loads the application of a directory, and runs its own package in a mode.
 pub fn run_directory<F: Folder, I: Source, O: Sink, E: Sink, C: Clock>(
     alloc: Global,
+    mode: Mode,
     directory: &str,
     budget: u64,
     folder: &mut F,
@@ -57,11 +59,11 @@ pub fn run_directory<F: Folder, I: Source, O: Sink, E: Sink, C: Clock>(
         (O.Sink.stand out.old) (E.Sink.stand err.old) (C.Clock.stand clock.old) in
         let after = host_world (F.Folder.stand folder.new) (I.Source.stand input.new)
         (O.Sink.stand out.new) (E.Sink.stand err.new) (C.Clock.stand clock.new) in
-        RunComes directory.now budget before after result }
+        RunComes mode directory.now budget before after result }
 {
     match load_application(alloc, directory, folder) {
         Ok(loaded) => run_loaded(
-            alloc, &loaded, directory, budget, folder, input, out, err, clock,
+            alloc, &loaded, mode, directory, budget, folder, input, out, err, clock,
         ),
         Err(LoadingFault::Graph(fault)) => RunOutcome::Graph(fault),
         Err(LoadingFault::Policies(fault)) => RunOutcome::Policies(fault),

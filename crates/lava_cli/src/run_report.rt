@@ -92,27 +92,18 @@ fn tell_uncaught<E: Sink>(alloc: Global, value: Option<List<u8>>, err: &mut E) -
 }
 
 /// Tells the object of the outside that failed.
-fn tell_outside<E: Sink>(alloc: Global, which: Option<Which>, err: &mut E) -> u8
+fn tell_outside<E: Sink>(alloc: Global, which: Which, err: &mut E) -> u8
     ensures { spec.TellsOutside which (E.stand err.old) (E.stand err.new) result }
 {
-    match which {
-        Some(which) => put_made(outside_line(alloc, which_word(which)), OUTSIDE_STATUS, err),
-        None => tell_lack(err),
-    }
+    put_made(outside_line(alloc, which_word(which)), OUTSIDE_STATUS, err)
 }
 
 /// Tells how a run ended within a package.
-fn tell_halt<E: Sink>(
-    alloc: Global,
-    party: u32,
-    halt: Halt,
-    which: Option<Which>,
-    err: &mut E,
-) -> u8
-    ensures { spec.TellsHalt party halt which (E.stand err.old) (E.stand err.new) result }
+fn tell_halt<E: Sink>(alloc: Global, party: u32, halt: Halt, err: &mut E) -> u8
+    ensures { spec.TellsHalt party halt (E.stand err.old) (E.stand err.new) result }
 {
     match halt {
-        Halt::Outside => tell_outside(alloc, which, err),
+        Halt::Outside => tell_lack(err),
         _ => put_made(
             ended_line(alloc, halt_word(halt), party_word(party)),
             LIMIT_STATUS,
@@ -121,19 +112,34 @@ fn tell_halt<E: Sink>(
     }
 }
 
-/// Tells how a run ended: nothing of one that was done.
-fn tell_run<E: Sink>(alloc: Global, report: Report, err: &mut E) -> u8
-    ensures { spec.TellsRun report (E.stand err.old) (E.stand err.new) result }
+/// Tells how a run ended of which no call on the outside failed: nothing where it was done.
+fn tell_ending<E: Sink>(
+    alloc: Global,
+    ending: Ending,
+    uncaught: Option<List<u8>>,
+    err: &mut E,
+) -> u8
+    ensures { spec.TellsEnding ending uncaught (E.stand err.old) (E.stand err.new) result }
 {
-    match report.ending {
+    match ending {
         Ending::Done => DONE_STATUS,
-        Ending::Uncaught => tell_uncaught(alloc, report.uncaught, err),
+        Ending::Uncaught => tell_uncaught(alloc, uncaught, err),
         Ending::Budget(party) => put_made(
             ended_line(alloc, "Budget", party_word(party)),
             BUDGET_STATUS,
             err,
         ),
-        Ending::Fault(party, halt) => tell_halt(alloc, party, halt, report.which, err),
+        Ending::Fault(party, halt) => tell_halt(alloc, party, halt, err),
+    }
+}
+
+/// Tells which call on the outside failed in a run, or else how the run ended. (Where a run is traced, its trace is put to the output when it is over.)
+fn tell_run<E: Sink>(alloc: Global, report: Report, err: &mut E) -> u8
+    ensures { spec.TellsRun report (E.stand err.old) (E.stand err.new) result }
+{
+    match report.which {
+        Some(which) => tell_outside(alloc, which, err),
+        None => tell_ending(alloc, report.ending, report.uncaught, err),
     }
 }
 

@@ -4,8 +4,13 @@ ghost use Rattle.std.specs.Prelude.{◌≡◌, map, string_bytes, Some};
 ghost use Rattle.std.specs.Option.{option_map};
 ghost use Rattle.lava_cli.specs.Words.{budget_in, budget_or, command_in, command_named, command_of, digits_after, digit_value, is_digit, split_by, split_words, told_command, told_split};
 
+use lava_runner::app::Mode;
+
 /// The word of the command that runs a folder.
 pub const RUN: &str = "run";
+
+/// The word of the command that runs a folder, and prints the trace of that.
+pub const TRACE: &str = "trace";
 
 /// The word of the command that prints a module's term.
 pub const TREE: &str = "tree";
@@ -25,10 +30,16 @@ pub const MAX_DIGITS: usize = 10;
 /// What the words ask for.
 #[derive(Clone, Copy)]
 pub enum Command<'a> {
-    /// Run the application of a directory with a budget.
-    Run { directory: &'a str, budget: u64 },
+    /// Run the application of a directory with a budget: what it prints is printed, or the trace of its run.
+    Run {
+        mode: Mode,
+        directory: &'a str,
+        budget: u64,
+    },
     /// Print the term of a file.
-    Tree { file: &'a str },
+    Tree {
+        file: &'a str,
+    },
 }
 
 /// The words without the option, and what it says.
@@ -141,6 +152,14 @@ fn command_named<'a>(command: &'a str, argument: &'a str, budget: u64) -> Option
     }
     if command == RUN {
         return Some(Command::Run {
+            mode: Mode::Emit,
+            directory: argument,
+            budget,
+        });
+    }
+    if command == TRACE {
+        return Some(Command::Run {
+            mode: Mode::Trace,
             directory: argument,
             budget,
         });

@@ -5,6 +5,8 @@
 pub enum Kind {
     /// `run SOURCE`: runs this file, over objects in memory.
     Run,
+    /// `trace SOURCE`: prints the trace of a run of this file, over objects in memory.
+    Trace,
     /// `tree SOURCE`: prints the term of this file, over objects in memory.
     Tree,
     /// `words WORDS`: calls the program with these words.
@@ -45,8 +47,9 @@ pub enum Kind {
     Clock,
 }
 
-static KINDS: [(&str, Kind); 20] = [
+static KINDS: [(&str, Kind); 21] = [
     ("run", Kind::Run),
+    ("trace", Kind::Trace),
     ("tree", Kind::Tree),
     ("words", Kind::Words),
     ("missing", Kind::Missing),

@@ -38,6 +38,7 @@ fn row_of(rt: &HostRuntime, kind: Kind, rest: &str) -> Result<String, Fault> {
     let alloc = rt.alloc();
     match kind {
         Kind::Run => memory::run(alloc, rest),
+        Kind::Trace => memory::trace(alloc, rest),
         Kind::Tree => memory::tree(alloc, rest),
         Kind::Words => memory::words(alloc, rest),
         Kind::Missing => memory::missing(alloc),

@@ -31,6 +31,13 @@ pub fn run(alloc: Global, source: &str) -> Result<String, Fault> {
     call(alloc, "run app", folder, NEVER, NEVER)
 }
 
+/// `trace SOURCE`.
+pub fn trace(alloc: Global, source: &str) -> Result<String, Fault> {
+    let source = meant(alloc, source)?;
+    let folder = folder_with(alloc, "app/index.js", source.as_bytes())?;
+    call(alloc, "trace app", folder, NEVER, NEVER)
+}
+
 /// `tree SOURCE`.
 pub fn tree(alloc: Global, source: &str) -> Result<String, Fault> {
     let source = meant(alloc, source)?;
