@@ -7,6 +7,8 @@ pub enum Kind {
     Run,
     /// `trace SOURCE`: prints the trace of a run of this file, over objects in memory.
     Trace,
+    /// `app COMMAND FILES`: runs an application of several files, each `PATH=TEXT`, with a tab between two.
+    App,
     /// `tree SOURCE`: prints the term of this file, over objects in memory.
     Tree,
     /// `words WORDS`: calls the program with these words.
@@ -47,9 +49,10 @@ pub enum Kind {
     Clock,
 }
 
-static KINDS: [(&str, Kind); 21] = [
+static KINDS: [(&str, Kind); 22] = [
     ("run", Kind::Run),
     ("trace", Kind::Trace),
+    ("app", Kind::App),
     ("tree", Kind::Tree),
     ("words", Kind::Words),
     ("missing", Kind::Missing),

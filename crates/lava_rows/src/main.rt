@@ -39,6 +39,7 @@ fn row_of(rt: &HostRuntime, kind: Kind, rest: &str) -> Result<String, Fault> {
     match kind {
         Kind::Run => memory::run(alloc, rest),
         Kind::Trace => memory::trace(alloc, rest),
+        Kind::App => memory::app(alloc, rest),
         Kind::Tree => memory::tree(alloc, rest),
         Kind::Words => memory::words(alloc, rest),
         Kind::Missing => memory::missing(alloc),

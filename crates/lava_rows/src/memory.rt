@@ -38,6 +38,14 @@ pub fn trace(alloc: Global, source: &str) -> Result<String, Fault> {
     call(alloc, "trace app", folder, NEVER, NEVER)
 }
 
+/// `app COMMAND FILES`.
+pub fn app(alloc: Global, rest: &str) -> Result<String, Fault> {
+    let (command, files) = rest.split_once(' ').unwrap_or((rest, ""));
+    let folder = folder_of(alloc, files)?;
+    let words = format!(in alloc; "{command} app")?;
+    call(alloc, words.as_str(), folder, NEVER, NEVER)
+}
+
 /// `tree SOURCE`.
 pub fn tree(alloc: Global, source: &str) -> Result<String, Fault> {
     let source = meant(alloc, source)?;
@@ -112,6 +120,24 @@ fn folder_with(alloc: Global, path: &str, bytes: &[u8]) -> Result<MemoryFolder, 
     let mut folder = MemoryFolder::new(alloc);
     folder.add(path, bytes)?;
     Ok(folder)
+}
+
+// A folder with these files.
+fn folder_of(alloc: Global, files: &str) -> Result<MemoryFolder, Fault> {
+    let mut folder = MemoryFolder::new(alloc);
+    for file in files.split('\t') {
+        add_file(alloc, &mut folder, file)?;
+    }
+    Ok(folder)
+}
+
+// Adds a file, `PATH=TEXT`.
+fn add_file(alloc: Global, folder: &mut MemoryFolder, file: &str) -> Result<(), Fault> {
+    let (path, text) = file.split_once('=').unwrap_or((file, ""));
+    let path = format!(in alloc; "app/{path}")?;
+    let text = meant(alloc, text)?;
+    folder.add(path.as_str(), text.as_bytes())?;
+    Ok(())
 }
 
 // A sink of which the n-th call fails.
