@@ -188,8 +188,8 @@ is_traced law made (Ok r) dir loaded policy budget before after c part run =
       ends = λ app a g.
           record {
             ends =
-              ends_so law made parts budget n h.last ran r range s app a
-              (subst (λ b. IsOver app (heap.heap app b n) h.last t.ran.ending) f.limit (come.underway.after app (begins_so parts budget first f app a) g));
+                ends_so law made parts budget n h.last ran r range s app a
+                (subst (λ b. IsOver app (heap.heap app b n) h.last t.ran.ending) f.limit (come.underway.after app (begins_so parts budget first f app a) g));
             trace = t.is app (begins_so parts budget first f app a) g ∙ ap (λ b. trace_text names app (heap.heap app b n) t.told) f.limit;
           };
     }

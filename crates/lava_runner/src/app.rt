@@ -195,9 +195,7 @@ fn trace_world<F: Folder, I: Source, O: Sink, E: Sink, C: Clock>(
         (O.Sink.stand out.new) (E.Sink.stand err.new) (C.Clock.stand clock.new) in
         IfOk result (HasTraceReport parties.now dir.now world.old before after) }
 {
-    let traced = trace_run(
-        world, alloc, parties, dir, folder, input, out, err, clock,
-    )?;
+    let traced = trace_run(world, alloc, parties, dir, folder, input, out, err, clock)?;
     let ran = Ran {
         ending: traced.ending,
         failed: traced.failed,

@@ -173,12 +173,7 @@ fn main_of(
 }
 
 /// What the package of a place is granted.
-fn start_in(
-    alloc: Global,
-    policy: &Policy,
-    owner: usize,
-    name: &Name,
-) -> Result<Start, OutOfMemory>
+fn start_in(alloc: Global, policy: &Policy, owner: usize, name: &Name) -> Result<Start, OutOfMemory>
     ensures { IfOk result (λ start. start ≡ start_in policy.now owner name.now) }
 {
     start_of(alloc, policy.row(name), owner == OWN_PACKAGE)
@@ -192,11 +187,19 @@ fn granted(
     links: Vec<PackageLink>,
     start: Start,
 ) -> PackageSource
-    ensures { result ≡ record { name = name; main = main; modules = modules; links = links;
-        globals = start.globals; builtins = start.builtins } }
+    ensures { result ≡ record {
+      name = name;
+      main = main;
+      modules = modules;
+      links = links;
+      globals = start.globals;
+      builtins = start.builtins;
+    } }
 {
     let Start {
-        globals, builtins, ..
+        globals,
+        builtins,
+        ..
     } = start;
     PackageSource {
         name,
@@ -290,6 +293,14 @@ pub fn packages_of(
         IfOk result (λ made. map parts_of made.items ≡ all) }
 {
     let mut made = Vec::new(alloc);
-    add_packages(alloc, packages, modules, policy, OWN_PACKAGE, packages, &mut made)?;
+    add_packages(
+        alloc,
+        packages,
+        modules,
+        policy,
+        OWN_PACKAGE,
+        packages,
+        &mut made,
+    )?;
     Ok(made)
 }

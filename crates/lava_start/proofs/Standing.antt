@@ -1,5 +1,5 @@
 -- That the machine of all parties stands where a run begins.
-use Rattle.std.proofs.Common.{◌≡◌, ℕ, zero, suc, ◌<◌, ◌+◌, Bool, true, false, List, [], ◌∷◌, ◌++◌, length, map, get_or, nat_eq, slice_get, take, Some, None, Option, cond, unwrap_or, Result, Ok, Err, IfOk,  if◌then◌else◌, refl, sym, ap, ◌∙◌, subst, arith}
+use Rattle.std.proofs.Common.{◌≡◌, ℕ, zero, suc, ◌<◌, ◌+◌, Bool, true, false, List, [], ◌∷◌, ◌++◌, length, map, get_or, nat_eq, slice_get, take, Some, None, Option, cond, unwrap_or, Result, Ok, Err, IfOk, if◌then◌else◌, refl, sym, ap, ◌∙◌, subst, arith}
 use Rattle.std.proofs.lemmas.List.{append_assoc, length-take-le, take_more}
 use Rattle.lava_base.specs.declared.ids.Ref.{Ref}
 use Rattle.lava_base.specs.declared.marks.Marks.{Marks}
@@ -117,7 +117,7 @@ module _ (common : List CommonObject) (templates : List Template) (xs : List Pac
   stands (suc q) lt =
       let e : own_here world (suc q) ≡ get_or owns q no_own = elsewhere m.me (suc q) (own_of m) (get_or owns q no_own) (λ z. absurd (let bad : suc q ≡ 0 = sym z ∙ here in omega (arith, bad))) in
       let so : StandsAs (start_at (all_starts (map parts_of xs)) (suc q)) (suc q) m.code (get_or owns q no_own) =
-        subst (λ n. StandsAs (get_or (package_starts 1 (map parts_of xs)) q no_start) n m.code (get_or owns q no_own)) (omega arith) (packages_stand p.code m.code 1 xs owns keeps over q (omega (arith, lt)))
+      subst (λ n. StandsAs (get_or (package_starts 1 (map parts_of xs)) q no_start) n m.code (get_or owns q no_own)) (omega arith) (packages_stand p.code m.code 1 xs owns keeps over q (omega (arith, lt)))
       in
       subst (λ (o : Own). StandsAs (start_at (all_starts (map parts_of xs)) (suc q)) (suc q) m.code o) (sym e) so
 
@@ -217,4 +217,3 @@ machine_made (Ok m) c s own_package allowed common places known party objects th
       new = new ∙ (λ j. begun.as_new m.code s (things j) (links j) common places (marks j) m.asked m.answer m.imported);
     }
 machine_made (Err e) c s own_package allowed common places known party objects things links marks extends new = new
-

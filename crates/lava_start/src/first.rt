@@ -8,7 +8,9 @@ ghost use Rattle.lava_start.specs.Firsts.{AreAppended, AreOthers, IsFirstWorld, 
 use crate::host::host_store;
 use crate::marks::known_marks;
 use crate::modules::{add_modules, add_templates};
-use crate::packages::{PackageSource, all_leads, host_links, host_package, package_own, place_holder};
+use crate::packages::{
+    PackageSource, all_leads, host_links, host_package, package_own, place_holder,
+};
 use js_code::code::Code;
 use js_machine::machine::Machine;
 use js_machine::own::Own;
