@@ -36,10 +36,10 @@ members_left parts whole (m ∷ ms) r = by (deciding (at_name m.0 parts) whole) 
     by false h = h
 
 all_members : (o : HostObject) → MembersInRange (host_members o)
-all_members Console = (omega arith, omega arith, omega arith, omega arith, tt)
+all_members Console = (omega arith, (omega arith, (omega arith, (omega arith, tt))))
 all_members Input = (omega arith, tt)
 all_members Clock = (omega arith, tt)
-all_members Fs = (omega arith, omega arith, tt)
+all_members Fs = (omega arith, (omega arith, tt))
 
 all_numbers : (o : HostObject) → host_number o < host_count
 all_numbers Console = omega arith
@@ -86,7 +86,7 @@ listed_in_range (Some g) r = (r, tt)
 
 -- what a row grants
 start_in_range : (row : Option Row) (trusted : Bool) → InRange (start_for row trusted).globals (start_for row trusted).builtins
-start_in_range row true = ((omega arith, omega arith, omega arith, tt), (omega arith, tt))
+start_in_range row true = ((omega arith, (omega arith, (omega arith, tt))), (omega arith, tt))
 start_in_range None false = (tt, tt)
 start_in_range (Some row) false =
     let whole = at_name (host_name Fs) (firsts row.builtin) in

@@ -21,6 +21,7 @@ use Rattle.js_machine.specs.Begun as begun
 use Rattle.js_machine.specs.Begun.{own_of}
 use Rattle.js_machine.specs.Looks.{marks_at, marks_in}
 use Rattle.js_machine.specs.Views.{View}
+use Rattle.js_term.specs.declared.term.Template.{Template}
 use Rattle.js_world.specs.Crossings.{Rests}
 use Rattle.js_world.specs.Worlds.{HasAnswered, IsOver, KeepsAnswer, Reads, WorldView, ending_of, last_reply, no_own, own_here, turned}
 use Rattle.js_world.specs.declared.ending.Ending.{Ending}
@@ -103,9 +104,13 @@ ran_from (Ok r) emit dir packages ms policy c budget before after first f h = re
 ran_from (Err e) emit dir packages ms policy c budget before after first f h = tt
 
 -- what the packages are made of is what they are made of as they are handed in
-pub first_over : {E : Type 0} (r : Result WorldView E) (c : CommonPart) (packages : List Package) (ms : List (LoadedModule ModuleCode)) (policy : Rows) (budget : ℕ) (sources : List PackageSource) → map parts_of sources ≡ parts_from packages ms policy 0 packages
-    → IfOk r (IsFirstWorld (run_parts_of c.objects c.templates sources) budget) → IfOk r (IsFirstOf packages ms policy c budget)
-first_over r c packages ms policy budget sources e h = subst (λ ps. IfOk r (IsFirstWorld (record { common = c.objects; templates = c.templates; packages = ps }) budget)) e h
+pub first_over : {E : Type 0} (r : Result WorldView E) (c : CommonPart) (packages : List Package) (ms : List (LoadedModule ModuleCode)) (policy : Rows) (budget : ℕ) (sources : List PackageSource) (templates : List Template) (slice : List PackageSource) → map parts_of sources ≡ parts_from packages ms policy 0 packages
+    → templates ≡ c.templates → slice ≡ sources → IfOk r (IsFirstWorld (run_parts_of c.objects templates slice) budget) → IfOk r (IsFirstOf packages ms policy c budget)
+first_over r c packages ms policy budget sources templates slice e t s h =
+    let made : IfOk r (IsFirstWorld (run_parts_of c.objects c.templates sources) budget) =
+    subst (λ xs. IfOk r (IsFirstWorld (run_parts_of c.objects c.templates xs) budget)) s (subst (λ ts. IfOk r (IsFirstWorld (run_parts_of c.objects ts slice) budget)) t h)
+    in
+    subst (λ ps. IfOk r (IsFirstWorld (record { common = c.objects; templates = c.templates; packages = ps }) budget)) e made
 
 ends_so : Journal_is_net → Runs_are_well_made → (parts : RunParts) (budget crossings : ℕ) (last : WorldView) (ran : Ran) (r : Report) → AllInRange parts.packages → IsReportOf last ran r → (app : Application) → IsApplicationOf parts app
     → IsOver app (heap.heap app budget crossings) last ran.ending → EndsSo app budget crossings r

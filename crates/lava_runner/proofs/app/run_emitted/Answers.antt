@@ -1,4 +1,4 @@
-use Rattle.std.proofs.Common.{IfOk, subst}
+use Rattle.std.proofs.Common.{IfOk, true, subst}
 use Rattle.lava_host.specs.Hosts.{host_world}
 use Rattle.lava_runner.specs.Reports.{HasRunFrom}
 use Rattle.lava_runner.proofs.Reported.{is_run}
