@@ -1,9 +1,10 @@
--- What a policy grants of the host are objects that the host has.
-use Rattle.std.proofs.Common.{◌≡◌, ℕ, suc, ◌<◌, ◌==◌, Bool, true, false, List, [], ◌∷◌, length, nat_eq, Option, Some, None, refl, arith, cond, if◌then◌else◌}
+-- What packages are made of, and that what a policy grants of the host are objects that the host has.
+use Rattle.std.proofs.Common.{◌≡◌, ℕ, suc, ◌<◌, ◌+◌, ◌==◌, Bool, true, false, List, [], ◌∷◌, ◌++◌, length, get_or, take, nat_eq, Option, Some, None, refl, sym, ap, ◌∙◌, arith, if◌then◌else◌}
+use Rattle.std.proofs.lemmas.List.{append_assoc, length-take-le, take_more}
 use Rattle.std.specs.List.{cons_option, filter_map}
 use Rattle.js_desc.specs.declared.start.Grant.{Grant}
 use Rattle.js_desc.specs.declared.start.Grant.TheVariants.{Live, LivePart, Part, Whole}
-use Rattle.lava_start.specs.Applications.{AllInRange}
+use Rattle.lava_start.specs.Applications.{AllInRange, PackageParts}
 use Rattle.lava_start.specs.Grants.{AreInRange, InRange, IsInRange, MembersInRange, host_count}
 use Rattle.pkg_graph.specs.declared.graph.Package.{Package}
 use Rattle.pkg_load.specs.declared.module.LoadedModule.{LoadedModule}
@@ -16,7 +17,7 @@ use Rattle.policy_globals.specs.Keys.{firsts, seconds}
 use Rattle.policy_globals.specs.Starts.{builtin_grant, builtin_list, builtins_of, deciding, globals_of, grant_for, grant_of, granted_members, host_grant, live_grant, live_part, member_if_granted, member_if_live, named_grant, start_for, whole_or_part, with_name}
 use Rattle.policy_globals.specs.declared.host.HostObject.{HostObject}
 use Rattle.policy_globals.specs.declared.host.HostObject.TheVariants.{Console, Input, Clock, Fs}
-use Rattle.lava_runner.specs.Packages.{parts_from}
+use Rattle.lava_runner.specs.Packages.{package_parts, parts_from}
 use Rattle.lava_runner.specs.declared.packages.TheConstants.{OWN_PACKAGE}
 
 abbrev OptionInRange : Option Grant → Type 0
@@ -96,3 +97,21 @@ start_in_range (Some row) false =
 pub parts_in_range : (packages : List Package) (ms : List (LoadedModule ModuleCode)) (policy : Rows) (owner : ℕ) (left : List Package) → AllInRange (parts_from packages ms policy owner left)
 parts_in_range packages ms policy owner [] = tt
 parts_in_range packages ms policy owner (p ∷ left) = (start_in_range (at_name p.name policy) (nat_eq owner OWN_PACKAGE), parts_in_range packages ms policy (suc owner) left)
+
+-- ONE PACKAGE MORE
+
+module _ (packages : List Package) (ms : List (LoadedModule ModuleCode)) (policy : Rows) where
+  parts_more : (owner n : ℕ) (xs : List Package) (x : Package) → n ≡ owner + length xs → parts_from packages ms policy owner (xs ++ x ∷ []) ≡ parts_from packages ms policy owner xs ++ package_parts packages ms policy n x ∷ []
+  parts_more owner n [] x e = let same : n ≡ owner = e ∙ omega arith in ap (λ k. package_parts packages ms policy k x ∷ []) (sym same)
+  parts_more owner n (y ∷ xs) x e = ap (λ ps. package_parts packages ms policy owner y ∷ ps) (parts_more (suc owner) n xs x (e ∙ omega arith))
+
+  pub parts_pushed : (old now after : List PackageParts) (all : List Package) (i n : ℕ) (x : Package) → now ≡ old ++ parts_from packages ms policy 0 (take i all) → after ≡ now ++ package_parts packages ms policy n x ∷ [] → n ≡ i → i < length all → x ≡ get_or all i x
+      → after ≡ old ++ parts_from packages ms policy 0 (take (i + 1) all)
+  parts_pushed old now after all i n x is pushed place within item =
+      let size : length (take i all) ≡ i = length-take-le i all (omega (arith, within)) in
+      let front : take i all ++ x ∷ [] ≡ take (i + 1) all = ap (λ y. take i all ++ y ∷ []) item ∙ sym (take_more all i x within) in
+      let at : n ≡ 0 + length (take i all) = place ∙ sym size ∙ omega arith in
+      pushed
+      ∙ ap (λ ps. ps ++ package_parts packages ms policy n x ∷ []) is
+      ∙ append_assoc old (parts_from packages ms policy 0 (take i all)) (package_parts packages ms policy n x ∷ [])
+      ∙ ap (λ ps. old ++ ps) (sym (parts_more 0 n (take i all) x at) ∙ ap (parts_from packages ms policy 0) front)

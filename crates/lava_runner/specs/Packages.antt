@@ -35,14 +35,14 @@ link_of packages policy name l = record { name = units_of l.name; party = suc l.
 abbrev pub is_at : (owner : ℕ) → (path : List ℕ) → LoadedModule ModuleCode → Bool
 is_at owner path m = nat_eq m.owner owner && bytes_eq m.path path
 
--- the first of these paths that a module of the package has, or else another one
-abbrev pub path_among : (owner : ℕ) → List (LoadedModule ModuleCode) → (paths : List (List ℕ)) → (other : List ℕ) → List ℕ
-path_among owner ms paths other = unwrap_or (find (λ path. list_any (is_at owner path) ms) paths) other
+-- the first of these paths that a module of the package has
+abbrev pub path_among : (owner : ℕ) → List (LoadedModule ModuleCode) → (paths : List (List ℕ)) → Option (List ℕ)
+path_among owner ms paths = find (λ path. list_any (is_at owner path) ms) paths
 
 -- the path of the main module, of those that its manifest's `main` may mean. Where none of them is reached, no module has the path
 -- own: how a path is resolved
 abbrev pub main_of : (owner : ℕ) → (main : List ℕ) → List (LoadedModule ModuleCode) → List ℕ
-main_of owner main ms = units_of (path_among owner ms (paths_meant main) main)
+main_of owner main ms = units_of (unwrap_or (path_among owner ms (paths_meant main)) main)
 
 -- PACKAGES
 

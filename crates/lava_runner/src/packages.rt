@@ -143,19 +143,16 @@ fn is_module(owner: usize, path: &Name, modules: &[LoadedModule<ModuleCode>]) ->
     modules.iter().any(|loaded| is_at(owner, path, loaded))
 }
 
-/// The first of these paths that a module of a package has, or else another one.
+/// The first of these paths that a module of a package has.
 fn path_among<'a>(
     owner: usize,
     modules: &[LoadedModule<ModuleCode>],
     paths: &'a [Name],
-    other: &'a Name,
-) -> &'a Name
-    ensures { result.now ≡ path_among owner modules.now paths.now other.now }
+) -> Option<&'a Name>
+    ensures { let found = path_among owner modules.now paths.now in
+        option_copied result ≡ found }
 {
-    match paths.iter().find(|path| is_module(owner, path, modules)) {
-        Some(path) => path,
-        None => other,
-    }
+    paths.iter().find(|path| is_module(owner, path, modules))
 }
 
 /// The path of the main module of a package.
@@ -168,8 +165,10 @@ fn main_of(
     ensures { IfOk result (λ path. path ≡ main_of owner main.now modules.now) }
 {
     let paths = paths_meant(alloc, main.as_str())?;
-    let path = path_among(owner, modules, paths.as_slice(), main);
-    text_in(alloc, path.as_str().as_bytes())
+    match path_among(owner, modules, paths.as_slice()) {
+        Some(path) => text_in(alloc, path.as_str().as_bytes()),
+        None => text_in(alloc, main.as_str().as_bytes()),
+    }
 }
 
 /// What the package of a place is granted.
@@ -260,24 +259,22 @@ fn place_behind(place: usize) -> Result<usize, OutOfMemory>
     }
 }
 
-/// Appends packages, which stand from a place on.
+/// Appends all packages of an application.
 fn add_packages(
     alloc: Global,
     packages: &[Package],
     modules: &[LoadedModule<ModuleCode>],
     policy: &Policy,
-    mut owner: usize,
-    mut left: &[Package],
     made: &mut Vec<PackageSource>,
 ) -> Result<(), OutOfMemory>
-    ensures { let all = parts_from packages.now modules.now policy.now in
+    ensures { let all = parts_from packages.now modules.now policy.now 0 packages.now in
         let old = map parts_of made.old.items in
-        OnOk result (map parts_of made.new.items ≡ old ++ all owner left.entry.now) }
+        OnOk result (map parts_of made.new.items ≡ old ++ all) }
 {
-    while let [first, rest @ ..] = left {
-        add_package(alloc, packages, modules, policy, owner, first, made)?;
+    let mut owner = OWN_PACKAGE;
+    for read in packages {
+        add_package(alloc, packages, modules, policy, owner, read, made)?;
         owner = place_behind(owner)?;
-        left = rest;
     }
     Ok(())
 }
@@ -293,14 +290,6 @@ pub fn packages_of(
         IfOk result (λ made. map parts_of made.items ≡ all) }
 {
     let mut made = Vec::new(alloc);
-    add_packages(
-        alloc,
-        packages,
-        modules,
-        policy,
-        OWN_PACKAGE,
-        packages,
-        &mut made,
-    )?;
+    add_packages(alloc, packages, modules, policy, &mut made)?;
     Ok(made)
 }
