@@ -25,7 +25,7 @@ PROGRAMS = {
     'strings': 'let s = ""; for (let i = 0; i < 100000; i++) { s += "ab"; } console.log(s.length);',
     'throws': 'let n = 0; for (let i = 0; i < 50000; i++) { try { throw i; } catch (e) { n += e % 2; } } console.log(n);',
 }
-CONSOLE = 'if (typeof console === "undefined") { var console = { log: function (x) { print(x); } }; }\n'
+CONSOLE = 'if (typeof console === "undefined") { this.console = { log: function (x) { print(x); } }; }\n'
 
 
 def seconds(words, cwd):

@@ -1,13 +1,15 @@
 -- An application is loaded, and then it runs.
-use Rattle.std.proofs.Common.{◌≡◌, ℕ, List, Option, Result, Ok, Err, subst}
+use Rattle.std.proofs.Common.{◌≡◌, ℕ, List, Option, Result, Ok, Err, sym, ◌∙◌, subst}
 use Rattle.lava_streams.specs.Files.{Files}
 use Rattle.pkg_graph.specs.declared.graph.Package.{Package}
 use Rattle.policy_row.specs.Rows.{Rows}
 use Rattle.lava_host.specs.Hosts.{HostWorld}
+use Rattle.lava_runner.specs.Reports.{IsRunOf}
 use Rattle.lava_runner.specs.declared.app.Mode.{Mode}
+use Rattle.lava_runner.specs.declared.app.Report.{Report}
 use Rattle.lava_cli.specs.Loads.{CountsLoading, IsGraphRead, IsLoadRead, IsLoading, IsLoadingIn, IsLoadingOf}
 use Rattle.lava_cli.specs.Policies.{ArePolicies}
-use Rattle.lava_cli.specs.RunAnswers.{HasReadFolder, RunComes, RunsOf}
+use Rattle.lava_cli.specs.RunAnswers.{EndsAs, HasReadFolder, RunComes, RunsOf, ended_in}
 use Rattle.lava_cli.specs.declared.loading.LoadedApplication.{LoadedApplication}
 use Rattle.lava_cli.specs.declared.loading.LoadingFault.{LoadingFault}
 use Rattle.lava_cli.specs.declared.loading.LoadingFault.TheVariants as fault
@@ -40,3 +42,14 @@ ran_so mode directory budget before mid after app outcome.OutOfMemory l f ran = 
 ran_so mode directory budget before mid after app (outcome.Graph f) l g ran = absurd ran
 ran_so mode directory budget before mid after app (outcome.Policies f) l g ran = absurd ran
 ran_so mode directory budget before mid after app (outcome.Load f) l g ran = absurd ran
+
+-- it ran, and ended in the party of this name
+pub ended_so : (mode : Mode) (directory : List ℕ) (l : LoadedApplication) (budget : ℕ) (before after : HostWorld) (r : Report) (packages : List Package) (o : RunOutcome) → packages ≡ l.app.packages → IsRunOf mode directory l.app l.policy budget before after r → EndsAs packages r o
+    → RunsOf mode directory l budget before after o
+ended_so mode directory l budget before after r packages (outcome.Ran e) same run ends =
+    (subst (λ x. IsRunOf mode directory l.app l.policy budget before after x) (sym ends.0) run, ends.1 ∙ (λ j. ended_in (same j) (sym ends.0 j).ending))
+ended_so mode directory l budget before after r packages outcome.OutOfMemory same run ends = tt
+ended_so mode directory l budget before after r packages (outcome.Prelude place what) same run ends = absurd ends
+ended_so mode directory l budget before after r packages (outcome.Graph f) same run ends = absurd ends
+ended_so mode directory l budget before after r packages (outcome.Policies f) same run ends = absurd ends
+ended_so mode directory l budget before after r packages (outcome.Load f) same run ends = absurd ends

@@ -1,5 +1,5 @@
 -- What `lava run DIR` and `lava trace DIR` answer: the cause of each answer, and what the call leaves of the outside.
-use Rattle.std.specs.Prelude.{◌≡◌, ℕ, zero, suc, ◌+◌, List, Option, Some, None, Result, Ok, Err, codes}
+use Rattle.std.specs.Prelude.{◌≡◌, ℕ, ◌+◌, ◌-◌, List, Option, Some, None, Result, Ok, Err, codes, nat_eq, slice_get, if◌then◌else◌}
 use Rattle.lava_base.specs.declared.place.Place.{Place}
 use Rattle.js_fault.specs.declared.fault.SyntaxWhat.{SyntaxWhat}
 use Rattle.js_machine.specs.declared.frame.Halt.{Halt}
@@ -19,6 +19,7 @@ use Rattle.lava_streams.specs.Outside.{Stand, Outside, outside}
 use Rattle.lava_tree.specs.TreeAnswers.{TreeAnswers}
 use Rattle.pkg_graph.specs.declared.fault.GraphFault.{GraphFault}
 use Rattle.pkg_graph.specs.declared.fault.GraphFault.TheVariants as graph
+use Rattle.pkg_graph.specs.declared.graph.Package.{Package}
 use Rattle.pkg_graph.specs.declared.limits.TheConstants.{FILE}
 use Rattle.pkg_graph.specs.declared.standing.TheConstants.{FILE_LIMIT}
 use Rattle.pkg_load.specs.declared.fault.LoadFault.{LoadFault}
@@ -32,17 +33,44 @@ use Rattle.lava_cli.specs.Words.{Asked, Runs, Trees, command_of}
 use Rattle.lava_cli.specs.declared.loading.LoadedApplication.{LoadedApplication}
 use Rattle.lava_cli.specs.declared.loading.LoadingFault.{LoadingFault}
 use Rattle.lava_cli.specs.declared.loading.LoadingFault.TheVariants as loading
+use Rattle.lava_cli.specs.declared.outcome.Ended.{Ended}
 use Rattle.lava_cli.specs.declared.outcome.RunOutcome.{RunOutcome}
 use Rattle.lava_cli.specs.declared.outcome.RunOutcome.TheVariants as outcome
 use Rattle.lava_cli.specs.declared.policies.PoliciesFault.{PoliciesFault}
 use Rattle.lava_cli.specs.declared.policies.PoliciesFault.TheVariants as policies
 use Rattle.lava_cli.specs.declared.run_report.TheConstants as words
 
+-- WHERE A RUN ENDED
+
+abbrev pub name_of : Option Package → List ℕ
+name_of None = texts.ROOT_PACKAGE.now
+name_of (Some p) = p.name
+
+-- the name of a party: the host's, or that of its package
+-- own: names of parties
+abbrev pub party_name : List Package → (party : ℕ) → List ℕ
+party_name packages p = if nat_eq p 0 then texts.HOST_PARTY.now else name_of (slice_get packages (p - 1))
+
+-- the name of the party in which a run ended; one that was answered ended in the host
+abbrev pub ended_in : List Package → Ending → List ℕ
+ended_in packages ending.Done = texts.HOST_PARTY.now
+ended_in packages ending.Uncaught = texts.HOST_PARTY.now
+ended_in packages (ending.Budget p) = party_name packages p
+ended_in packages (ending.Fault p h) = party_name packages p
+
+abbrev pub EndsAs : List Package → Report → RunOutcome → Type 0
+EndsAs packages r (outcome.Ran e) = (e.report ≡ r) × (e.name ≡ ended_in packages r.ending)
+EndsAs packages r outcome.OutOfMemory = Unit {0}
+EndsAs packages r (outcome.Prelude place what) = ⊥
+EndsAs packages r (outcome.Graph f) = ⊥
+EndsAs packages r (outcome.Policies f) = ⊥
+EndsAs packages r (outcome.Load f) = ⊥
+
 -- THE CAUSES
 
 -- the run of this application with its policy in a mode, or why there is none
 abbrev pub RunsOf : (mode : Mode) → (directory : List ℕ) → LoadedApplication → (budget : ℕ) → (before after : HostWorld) → RunOutcome → Type 0
-RunsOf mode directory l budget before after (outcome.Ran r) = IsRunOf mode directory l.app l.policy budget before after r
+RunsOf mode directory l budget before after (outcome.Ran e) = IsRunOf mode directory l.app l.policy budget before after e.report × (e.name ≡ ended_in l.app.packages e.report.ending)
 RunsOf mode directory l budget before after (outcome.Prelude place what) = IsPreludeFault prelude place what
 RunsOf mode directory l budget before after outcome.OutOfMemory = Unit {0}
 RunsOf mode directory l budget before after (outcome.Graph f) = ⊥
@@ -93,10 +121,6 @@ halt_word halt.Depth = codes "Depth"
 halt_word halt.Meter = codes "Meter"
 halt_word halt.Outside = codes "Outside"
 
-abbrev pub party_word : ℕ → List ℕ
-party_word zero = texts.HOST_PARTY.now
-party_word (suc p) = texts.ROOT_PACKAGE.now
-
 abbrev pub syntax_line : (owner path : List ℕ) → Place → SyntaxWhat → List ℕ
 syntax_line owner path place w = lines.syntax_line owner path place w
 
@@ -123,32 +147,32 @@ TellsUncaught None before after status = Lacks before after status
 abbrev pub TellsOutside : Which → (before after : Stand (List ℕ)) → (status : ℕ) → Type 0
 TellsOutside w before after status = PutsLine (lines.outside_line (which_word w)) texts.OUTSIDE_STATUS before after status
 
-abbrev pub TellsEnded : (party : ℕ) → (word : List ℕ) → (own : ℕ) → (before after : Stand (List ℕ)) → (status : ℕ) → Type 0
-TellsEnded p word own before after status = PutsLine (lines.ended_line word (party_word p)) own before after status
+abbrev pub TellsEnded : (name : List ℕ) → (word : List ℕ) → (own : ℕ) → (before after : Stand (List ℕ)) → (status : ℕ) → Type 0
+TellsEnded name word own before after status = PutsLine (lines.ended_line word name) own before after status
 
 -- a run that the outside ended has an object that failed, so that want of memory is told of one that has none
-abbrev pub TellsHalt : (party : ℕ) → Halt → (before after : Stand (List ℕ)) → (status : ℕ) → Type 0
-TellsHalt p halt.Outside before after status = Lacks before after status
-TellsHalt p halt.Number before after status = TellsEnded p (halt_word halt.Number) texts.LIMIT_STATUS before after status
-TellsHalt p halt.Text before after status = TellsEnded p (halt_word halt.Text) texts.LIMIT_STATUS before after status
-TellsHalt p halt.Depth before after status = TellsEnded p (halt_word halt.Depth) texts.LIMIT_STATUS before after status
-TellsHalt p halt.Meter before after status = TellsEnded p (halt_word halt.Meter) texts.LIMIT_STATUS before after status
+abbrev pub TellsHalt : (name : List ℕ) → Halt → (before after : Stand (List ℕ)) → (status : ℕ) → Type 0
+TellsHalt name halt.Outside before after status = Lacks before after status
+TellsHalt name halt.Number before after status = TellsEnded name (halt_word halt.Number) texts.LIMIT_STATUS before after status
+TellsHalt name halt.Text before after status = TellsEnded name (halt_word halt.Text) texts.LIMIT_STATUS before after status
+TellsHalt name halt.Depth before after status = TellsEnded name (halt_word halt.Depth) texts.LIMIT_STATUS before after status
+TellsHalt name halt.Meter before after status = TellsEnded name (halt_word halt.Meter) texts.LIMIT_STATUS before after status
 
 -- how a run ended of which no call on the outside failed: nothing where it was done
-abbrev pub TellsEnding : Ending → (uncaught : Option (List ℕ)) → (before after : Stand (List ℕ)) → (status : ℕ) → Type 0
-TellsEnding ending.Done text before after status = (status ≡ texts.DONE_STATUS) × (after ≡ before)
-TellsEnding ending.Uncaught text before after status = TellsUncaught text before after status
-TellsEnding (ending.Budget p) text before after status = TellsEnded p (codes "Budget") texts.BUDGET_STATUS before after status
-TellsEnding (ending.Fault p h) text before after status = TellsHalt p h before after status
+abbrev pub TellsEnding : (name : List ℕ) → Ending → (uncaught : Option (List ℕ)) → (before after : Stand (List ℕ)) → (status : ℕ) → Type 0
+TellsEnding name ending.Done text before after status = (status ≡ texts.DONE_STATUS) × (after ≡ before)
+TellsEnding name ending.Uncaught text before after status = TellsUncaught text before after status
+TellsEnding name (ending.Budget p) text before after status = TellsEnded name (codes "Budget") texts.BUDGET_STATUS before after status
+TellsEnding name (ending.Fault p h) text before after status = TellsHalt name h before after status
 
 -- a call on the outside that failed is told before all else
-abbrev pub TellsReport : Option Which → Report → (before after : Stand (List ℕ)) → (status : ℕ) → Type 0
-TellsReport (Some w) r before after status = TellsOutside w before after status
-TellsReport None r before after status = TellsEnding r.ending r.uncaught before after status
+abbrev pub TellsReport : Option Which → Ended → (before after : Stand (List ℕ)) → (status : ℕ) → Type 0
+TellsReport (Some w) e before after status = TellsOutside w before after status
+TellsReport None e before after status = TellsEnding e.name e.report.ending e.report.uncaught before after status
 
 -- what is told of a run
-abbrev pub TellsRun : Report → (before after : Stand (List ℕ)) → (status : ℕ) → Type 0
-TellsRun r before after status = TellsReport r.which r before after status
+abbrev pub TellsRun : Ended → (before after : Stand (List ℕ)) → (status : ℕ) → Type 0
+TellsRun e before after status = TellsReport e.report.which e before after status
 
 abbrev pub TellsGraph : GraphFault → (before after : Stand (List ℕ)) → (status : ℕ) → Type 0
 TellsGraph (graph.Manifest dir field) before after status = PutsLine (lines.manifest_line dir field) texts.LOADING_STATUS before after status

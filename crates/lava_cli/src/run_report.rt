@@ -4,7 +4,7 @@ ghost use Rattle.std.specs.Prelude.{◌≡◌};
 ghost use Rattle.policy_row.specs.Names.{shown_word};
 ghost use Rattle.lava_cli.specs.RunAnswers as spec;
 
-use crate::outcome::RunOutcome;
+use crate::outcome::{Ended, RunOutcome};
 use crate::policies::PoliciesFault;
 use js_fault::fault::SyntaxWhat;
 use js_machine::frame::Halt;
@@ -20,10 +20,9 @@ use lava_lines::lines::{
 };
 use lava_lines::report::put_made;
 use lava_lines::status::{
-    BUDGET_STATUS, DONE_STATUS, HOST_PARTY, LIMIT_STATUS, LOADING_STATUS, MEMORY_STATUS,
-    OUTSIDE_STATUS, POLICY_STATUS, ROOT_PACKAGE, UNCAUGHT_STATUS,
+    BUDGET_STATUS, DONE_STATUS, LIMIT_STATUS, LOADING_STATUS, MEMORY_STATUS, OUTSIDE_STATUS,
+    POLICY_STATUS, UNCAUGHT_STATUS,
 };
-use lava_runner::app::Report;
 use lava_streams::sink::Sink;
 use pkg_graph::fault::GraphFault;
 use pkg_graph::limits::FILE;
@@ -67,13 +66,6 @@ fn halt_word(halt: Halt) -> &'static str
     }
 }
 
-/// A party as it is told.
-fn party_word(party: u32) -> &'static str
-    ensures { result.now ≡ spec.party_word party }
-{
-    if party == 0 { HOST_PARTY } else { ROOT_PACKAGE }
-}
-
 /// Tells want of memory.
 fn tell_lack<E: Sink>(err: &mut E) -> u8
     ensures { spec.Lacks (E.stand err.old) (E.stand err.new) result }
@@ -98,48 +90,57 @@ fn tell_outside<E: Sink>(alloc: Global, which: Which, err: &mut E) -> u8
     put_made(outside_line(alloc, which_word(which)), OUTSIDE_STATUS, err)
 }
 
-/// Tells how a run ended within a package.
-fn tell_halt<E: Sink>(alloc: Global, party: u32, halt: Halt, err: &mut E) -> u8
-    ensures { spec.TellsHalt party halt (E.stand err.old) (E.stand err.new) result }
+/// Tells how a run ended within a party of this name.
+fn tell_halt<E: Sink>(alloc: Global, name: &str, halt: Halt, err: &mut E) -> u8
+    ensures { spec.TellsHalt name.now halt (E.stand err.old) (E.stand err.new) result }
 {
     match halt {
         Halt::Outside => tell_lack(err),
-        _ => put_made(
-            ended_line(alloc, halt_word(halt), party_word(party)),
-            LIMIT_STATUS,
-            err,
-        ),
+        _ => put_made(ended_line(alloc, halt_word(halt), name), LIMIT_STATUS, err),
     }
 }
 
 /// Tells how a run ended of which no call on the outside failed: nothing where it was done.
 fn tell_ending<E: Sink>(
     alloc: Global,
+    name: &str,
     ending: Ending,
     uncaught: Option<List<u8>>,
     err: &mut E,
 ) -> u8
-    ensures { spec.TellsEnding ending uncaught (E.stand err.old) (E.stand err.new) result }
+    ensures { let tells = spec.TellsEnding name.now ending uncaught in
+        tells (E.stand err.old) (E.stand err.new) result }
 {
     match ending {
         Ending::Done => DONE_STATUS,
         Ending::Uncaught => tell_uncaught(alloc, uncaught, err),
-        Ending::Budget(party) => put_made(
-            ended_line(alloc, "Budget", party_word(party)),
-            BUDGET_STATUS,
-            err,
-        ),
-        Ending::Fault(party, halt) => tell_halt(alloc, party, halt, err),
+        Ending::Budget(_) => put_made(ended_line(alloc, "Budget", name), BUDGET_STATUS, err),
+        Ending::Fault(_, halt) => tell_halt(alloc, name, halt, err),
     }
 }
 
-/// Tells which call on the outside failed in a run, or else how the run ended. (Where a run is traced, its trace is put to the output when it is over.)
-fn tell_run<E: Sink>(alloc: Global, report: Report, err: &mut E) -> u8
-    ensures { spec.TellsRun report (E.stand err.old) (E.stand err.new) result }
+/// Tells how a run ended in a party of this name.
+fn tell_ended<E: Sink>(
+    alloc: Global,
+    name: &Name,
+    ending: Ending,
+    uncaught: Option<List<u8>>,
+    err: &mut E,
+) -> u8
+    ensures { let tells = spec.TellsEnding name.now ending uncaught in
+        tells (E.stand err.old) (E.stand err.new) result }
 {
+    tell_ending(alloc, name.as_str(), ending, uncaught, err)
+}
+
+/// Tells which call on the outside failed in a run, or else how the run ended. (Where a run is traced, its trace is put to the output when it is over.)
+fn tell_run<E: Sink>(alloc: Global, ended: Ended, err: &mut E) -> u8
+    ensures { spec.TellsRun ended (E.stand err.old) (E.stand err.new) result }
+{
+    let Ended { report, name } = ended;
     match report.which {
         Some(which) => tell_outside(alloc, which, err),
-        None => tell_ending(alloc, report.ending, report.uncaught, err),
+        None => tell_ended(alloc, &name, report.ending, report.uncaught, err),
     }
 }
 
@@ -291,7 +292,7 @@ pub fn report_run<E: Sink>(alloc: Global, outcome: RunOutcome, err: &mut E) -> u
     ensures { spec.RunReports outcome (E.stand err.old) (E.stand err.new) result }
 {
     match outcome {
-        RunOutcome::Ran(report) => tell_run(alloc, report, err),
+        RunOutcome::Ran(ended) => tell_run(alloc, ended, err),
         RunOutcome::Graph(fault) => tell_graph(alloc, fault, err),
         RunOutcome::Policies(fault) => tell_policies(alloc, fault, err),
         RunOutcome::Load(fault) => tell_load(alloc, fault, err),
