@@ -48,7 +48,7 @@ fn run<F: Folder, I: Source, O: Sink, E: Sink, C: Clock>(
 
 /// Does what the words say, and gives the exit status. The words come without the program's own name.
 ///
-/// - `run DIR [--budget N]` loads the application of a directory (`package.json`, its policy files, `index.js` or its `main`, and what these require) and runs its own package.
+/// - `run DIR [--budget N]` loads the application of a directory (`package.json`, its policy files, `index.js` or its `main`, and what these require) and runs it, each package with what its row grants it.
 /// - `trace DIR [--budget N]` does the same, and appends the trace of the run in place of what it prints.
 /// - `tree FILE` appends the lines of the core term that a module is lowered to.
 ///

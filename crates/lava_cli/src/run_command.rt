@@ -83,7 +83,7 @@ fn run_loaded<F: Folder, I: Source, O: Sink, E: Sink, C: Clock>(
     }
 }
 
-/// Loads the application of a directory, and runs its own package in a mode.
+/// Loads the application of a directory, and runs it in a mode.
 pub fn run_directory<F: Folder, I: Source, O: Sink, E: Sink, C: Clock>(
     alloc: Global,
     mode: Mode,

@@ -1,5 +1,5 @@
-// How all parties of a run stand before anything has happened: the host, and the application's
-// own package, which is given the whole host.
+// How all parties of a run stand before anything has happened: the host, and each package with
+// what its row grants it.
 //
 // - `words` makes texts, and `objects` objects with properties.
 // - `host` has the objects of the host, `global` the global of a package.
