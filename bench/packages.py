@@ -3,7 +3,7 @@
 
     bench/packages.py [PROGRAM]
 
-PROGRAM is the built program, crates/pkg_rows/out/pkg_rows unless given; `rt run` in crates/pkg_rows builds it. Each figure is the least processor time of five runs, the making of the folder included, less the least of an empty line.
+PROGRAM is the built program, crates/package_rows/out/package_rows unless given; `rt run` in crates/package_rows builds it. Each figure is the least processor time of five runs, the making of the folder included, less the least of an empty line.
 """
 import os
 import resource
@@ -35,12 +35,12 @@ def seconds(program, line, answer):
 
 
 def main():
-    program = sys.argv[1] if len(sys.argv) > 1 else os.path.join(TOP, 'crates/pkg_rows/out/pkg_rows')
+    program = sys.argv[1] if len(sys.argv) > 1 else os.path.join(TOP, 'crates/package_rows/out/package_rows')
     idle = seconds(program, '', 'no such line')
     print('kind   packages    links       ms  us a link')
     for kind, links in LINKS.items():
         for count in (124, 249, 499, 999):
-            took = seconds(program, '%s %d' % (kind, count), '%d p' % (count + 1)) - idle
+            took = seconds(program, 'package %s %d' % (kind, count), '%d p' % (count + 1)) - idle
             print('%-6s %8d %8d %8.1f %10.2f' % (kind, count + 1, links(count), took * 1e3, took * 1e6 / links(count)))
 
 

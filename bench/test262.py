@@ -3,8 +3,8 @@
 
 usage: bench/test262.py FOLDER [PROGRAM]
 
-FOLDER is a checkout of test262 (or of the part of it that another engine's sources have), PROGRAM the built js_tree_rows, which `rt run`
-in crates/js_tree_rows makes. Each negative test that is read as a program is printed: what is left are our own choices (docs/DECISIONS.md).
+FOLDER is a checkout of test262 (or of the part of it that another engine's sources have), PROGRAM the built source_rows, which `rt run`
+in crates/source_rows makes. Each negative test that is read as a program is printed: what is left are our own choices (docs/DECISIONS.md).
 It is no test of the gate.
 """
 import collections
@@ -14,7 +14,7 @@ import subprocess
 import sys
 
 TOP = pathlib.Path(__file__).resolve().parent.parent
-PROGRAM = TOP / "crates/js_tree_rows/out/js_tree_rows"
+PROGRAM = TOP / "crates/source_rows/out/source_rows"
 
 
 def tests(folder):
@@ -37,7 +37,7 @@ def main():
     folder = pathlib.Path(sys.argv[1]) / "language"
     program = sys.argv[2] if len(sys.argv) == 3 else PROGRAM
     cases = list(tests(folder))
-    lines = "".join(text.rstrip("\n").replace("\n", "¶") + "\n" for _, text, _ in cases)
+    lines = "".join("tree " + text.rstrip("\n").replace("\n", "¶") + "\n" for _, text, _ in cases)
     answers = subprocess.run([str(program)], input=lines.encode(), stdout=subprocess.PIPE, check=True).stdout.decode().split("\n")
     counts = collections.Counter()
     for (path, _, negative), answer in zip(cases, answers):

@@ -1,5 +1,6 @@
-// What acorn reads, printed as js_tree_rows prints trees: `node bench/trees.js < LINES` prints a line for each line, in which `¶` stands for a
-// line terminator. Two programs that agree on every line read the same trees. `-` stands for what acorn refuses.
+// What acorn reads, printed as source_rows prints trees: `node bench/trees.js < LINES` prints a line for each line, in which `¶` stands for a
+// line terminator; source_rows takes the same lines with `tree ` before each. Two programs that agree on every line read the same trees. `-`
+// stands for what acorn refuses.
 'use strict';
 const acorn = require(process.env.ACORN || '/usr/share/nodejs/acorn/dist/acorn.js');
 let out;

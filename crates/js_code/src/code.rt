@@ -1,6 +1,6 @@
 // The terms of a run as tables of rows.
 
-ghost use Rattle.std.specs.Prelude.{◌≡◌, [], get_or, IfOk};
+ghost use Rattle.std.specs.Prelude.{◌≡◌, [], get_or, length, IfOk};
 ghost use Rattle.js_code.specs.Tables.{no_tables, node_at, part_of};
 ghost use Rattle.js_code.specs.Decoded.{layer_of, no_argument_row, no_class_row, no_guarded_row, no_template_row, no_turn_row, term_at, text_at};
 ghost use Rattle.js_code.specs.declared.node.PartRow.TheVariants as part_row;
@@ -212,6 +212,13 @@ impl Code {
             count: 0,
         };
         row_at(&self.classes, at, none)
+    }
+
+    /// How many classes there are.
+    pub fn class_count(&self) -> usize
+        ensures { result ≡ length self.now.classes }
+    {
+        self.classes.len()
     }
 
     /// What a loop does each turn; all at place 0 where there is no such row.

@@ -1,9 +1,9 @@
 -- Properties, methods and calls of `super`.
-use Rattle.std.proofs.Common.{◌≡◌, ℕ, ◌+◌, Bool, true, false, List, [], ◌∷◌, ◌++◌, drop, Option, Some, None, refl, sym, ap, ◌∙◌, subst, Result, Ok, Err, IfOk, if◌then◌else◌}
+use Rattle.std.proofs.Common.{◌≡◌, ℕ, ◌+◌, Bool, true, false, List, drop, Option, Some, None, refl, sym, ap, ◌∙◌, subst, Result, Ok, Err, IfOk, if◌then◌else◌}
 use Rattle.lava_base.specs.declared.ids.MadeSymbol.{MadeSymbol}
 use Rattle.lava_base.specs.declared.ids.Ref.{Ref}
 use Rattle.lava_base.specs.declared.marks.Marks.{Marks}
-use Rattle.js_text.specs.Naming.{Naming, naming_of}
+use Rattle.js_text.specs.Naming.{naming_of}
 use Rattle.js_text.specs.declared.value.Key.{Key}
 use Rattle.js_text.specs.declared.value.Value.{Value}
 use Rattle.js_text.specs.declared.value.Value.TheVariants as value
@@ -11,26 +11,27 @@ use Rattle.js_code.specs.Decoded.{arguments_at, term_at}
 use Rattle.js_desc.specs.declared.ask.Ask.TheVariants as ask
 use Rattle.js_desc.specs.declared.fault.FaultText.TheVariants as fault
 use Rattle.js_desc.specs.declared.reply.Reply.TheVariants as reply
-use Rattle.js_run.specs.Acts.{Act, Next, asks, give, with_prototype, with_value}
+use Rattle.js_run.specs.Acts.{Next, asks, give, with_value}
 use Rattle.js_run.specs.Asking.{calls}
-use Rattle.js_run.specs.Calls.{binds_this, constructs_by, super_called, super_constructs, super_news}
+use Rattle.js_run.specs.Calls.{binds_this, constructs_by, super_called, super_constructs}
 use Rattle.js_run.specs.Control.{argument_values}
 use Rattle.js_run.specs.Faults.{faults}
-use Rattle.js_run.specs.Parties.{Party, first_body, replaces_body, running}
-use Rattle.js_run.specs.Properties.{get_above, on_this, super_base, to_key, with_this}
+use Rattle.js_run.specs.Parties.{first_body, replaces_body, running}
+use Rattle.js_run.specs.Properties.{get_above, on_this, super_base, with_this}
 use Rattle.js_run.specs.Rows.{call_super_key, super_key}
-use Rattle.js_run.specs.Runs.{answered}
+use Rattle.js_machine.specs.Conversions.{BecomesKey, KeyReaches, ReadsSuper, super_frame}
 use Rattle.js_machine.specs.Decisions.{object_of_value}
 use Rattle.js_machine.specs.Keys.{plain_key}
 use Rattle.js_machine.specs.Looks.{marks_in}
 use Rattle.js_machine.specs.Replies.{deed_replied}
 use Rattle.js_machine.specs.Steps.{Deed, IsDelivered, LeadsTo, WaitsFor, over, settles, under, with_top, without_top}
 use Rattle.js_machine.specs.Supers.{parent_of}
-use Rattle.js_machine.specs.Views.{Around, View, applied, args_on, fitting, held, party_of, prototype_in, reply_of_answer, super_method, super_parent, top}
+use Rattle.js_machine.specs.Views.{Around, View, applied, args_on, fitting, held, object_on, party_of, prototype_in, reply_of_answer, super_method, super_parent, top}
 use Rattle.js_machine.specs.declared.asked.Answer.{Answer}
 use Rattle.js_machine.specs.declared.asked.Answer.TheVariants as answer
 use Rattle.js_machine.specs.declared.frame.Frame.{Frame}
 use Rattle.js_machine.specs.declared.frame.Frame.TheVariants as frame
+use Rattle.js_machine.specs.declared.frame.KeyGoal.TheVariants as key_goal
 use Rattle.js_machine.specs.declared.frame.Mode.{Mode}
 use Rattle.js_machine.specs.declared.frame.Mode.TheVariants as mode
 use Rattle.js_machine.specs.declared.frame.Purpose.{Purpose}
@@ -83,28 +84,51 @@ module _ (at : ℕ) where
 
 -- A PROPERTY ABOVE
 
-module _ (v : V) (k : Key MadeSymbol) (o : Ref) (f : Frame) (old : View) where
+module _ (call : Option ℕ) (k : Key MadeSymbol) (o : Ref) (old : View) where
   -- what the key leads to, with this for `this`
   abbrev Reads : Option V → Deed
-  Reads t a = on_this (naming_of old.me) t (party_of a old) (λ this p. asks (naming_of old.me) o (ask.Get k this) p (over f old a))
+  Reads t a = on_this (naming_of old.me) t (party_of a old) (λ this p. asks (naming_of old.me) o (ask.Get k this) p (over (super_frame call) old a))
 
-  abbrev Gets : View → Mode → Type 0
-  Gets new m = LeadsTo (λ a. get_above (naming_of old.me) a.shared v (Some o) (party_of a old) (over f old a)) old new m
+  read_so : {E : Type 0} (r : Result Mode E) (t u : Option V) (new : View) → t ≡ (first_body old.bodies).this → t ≡ u → IfOk r (LeadsTo (Reads u) old new) → IfOk r (ReadsSuper call o k old new)
+  read_so r t u new e d h =
+      same_deed r (Reads u) (λ a. with_this (naming_of old.me) (party_of a old) (λ this p. asks (naming_of old.me) o (ask.Get k this) p (over (super_frame call) old a))) old new (λ a. ap (λ x. Reads x (fitting old a)) (sym e ∙ d)) h
 
-  read_so : {E : Type 0} (r : Result Mode E) (t u : Option V) (new : View) → plain_key v ≡ Some k → t ≡ (first_body old.bodies).this → t ≡ u → IfOk r (LeadsTo (Reads u) old new) → IfOk r (Gets new)
-  read_so r t u new g e d h =
-      same_deed r (Reads u) (λ a. get_above (naming_of old.me) a.shared v (Some o) (party_of a old) (over f old a)) old new
-      (λ a.
-      reference_known (naming_of old.me) (fitting old a).shared (value.Bool true) v k (party_of (fitting old a) old) (λ name q. with_this (naming_of old.me) q (λ this p. asks (naming_of old.me) o (ask.Get name this) p (over f old (fitting old a)))) refl g
-      ∙ ap (λ x. Reads x (fitting old a)) (sym e ∙ d))
-      h
+  pub read_without : {E : Type 0} (r : Result Mode E) (t : Option V) (new : View) → t ≡ (first_body old.bodies).this → t ≡ None → IfOk r (LeadsTo (λ a. faults (naming_of old.me) fault.NoThis (party_of a old)) old new) → IfOk r (ReadsSuper call o k old new)
+  read_without r t new e d h = read_so r t None new e d h
 
-  pub read_without : {E : Type 0} (r : Result Mode E) (t : Option V) (new : View) → plain_key v ≡ Some k → t ≡ (first_body old.bodies).this → t ≡ None → IfOk r (LeadsTo (λ a. faults (naming_of old.me) fault.NoThis (party_of a old)) old new) → IfOk r (Gets new)
-  read_without r t new g e d h = read_so r t None new g e d h
+  -- no frame that waits for a property of `super` has values
+  stays : (c : Option ℕ) → under (super_frame c) old ≡ old
+  stays None = refl
+  stays (Some at) = refl
 
-  pub read_with : {E : Type 0} (r : Result Mode E) (t : Option V) (this : V) (new : View) → under f old ≡ old → plain_key v ≡ Some k → t ≡ (first_body old.bodies).this → t ≡ Some this → IfOk r (WaitsFor f o (ask.Get k this) old new) → IfOk r (Gets new)
-  read_with r t this new u g e d h =
-      read_so r t (Some this) new g e d (subst (λ x. IfOk r (LeadsTo (λ a. asks (naming_of old.me) o (ask.Get k this) (party_of a old) (over f old a)) x new)) u h)
+  pub read_with : {E : Type 0} (r : Result Mode E) (t : Option V) (this : V) (f : Frame) (new : View) → f ≡ super_frame call → t ≡ (first_body old.bodies).this → t ≡ Some this → IfOk r (WaitsFor f o (ask.Get k this) old new) → IfOk r (ReadsSuper call o k old new)
+  read_with r t this f new s e d h =
+      let w = subst (λ g. IfOk r (WaitsFor g o (ask.Get k this) old new)) s h in
+      read_so r t (Some this) new e d (subst (λ x. IfOk r (LeadsTo (λ a. asks (naming_of old.me) o (ask.Get k this) (party_of a old) (over (super_frame call) old a)) x new)) (stays call) w)
+
+abbrev Gets : Option ℕ → V → Ref → View → View → Mode → Type 0
+Gets call v o old new m = LeadsTo (λ a. get_above (naming_of old.me) a.shared v (Some o) (party_of a old) (over (super_frame call) old a)) old new m
+
+pub super_known : {E : Type 0} (r : Result Mode E) (call : Option ℕ) (v : V) (x : Option (Key MadeSymbol)) (k : Key MadeSymbol) (o : Ref) (old new : View) → x ≡ plain_key v → x ≡ Some k → IfOk r (ReadsSuper call o k old new) → IfOk r (Gets call v o old new)
+super_known r call v x k o old new g s h =
+    same_deed r (λ a. with_this (naming_of old.me) (party_of a old) (λ this p. asks (naming_of old.me) o (ask.Get k this) p (over (super_frame call) old a))) (λ a. get_above (naming_of old.me) a.shared v (Some o) (party_of a old) (over (super_frame call) old a)) old new
+    (λ a. reference_known (naming_of old.me) (fitting old a).shared (value.Bool true) v k (party_of (fitting old a) old) (λ name q. with_this (naming_of old.me) q (λ this p. asks (naming_of old.me) o (ask.Get name this) p (over (super_frame call) old (fitting old a)))) refl (sym g ∙ s))
+    h
+
+pub super_later : {E : Type 0} (r : Result Mode E) (call : Option ℕ) (v : V) (o : Ref) (old mid new : View) → mid ≡ with_top (value.Ref o) old → IfOk r (BecomesKey v (key_goal.Super call) mid new) → IfOk r (Gets call v o old new)
+super_later (Ok m) None v o old mid new s h = let w = subst (λ (x : View). BecomesKey v (key_goal.Super None) x new m) s h in record { leads = λ a. w.leads a; keeps = w.keeps }
+super_later (Ok m) (Some at) v o old mid new s h = let w = subst (λ (x : View). BecomesKey v (key_goal.Super (Some at)) x new m) s h in record { leads = λ a. w.leads a; keeps = w.keeps }
+super_later (Err x) call v o old mid new s h = tt
+
+reached_so : (m : Mode) (call : Option ℕ) (k : Key MadeSymbol) (old new : View) → ReadsSuper call (object_on (top old.values)) k (without_top old) new m → KeyReaches (key_goal.Super call) k old new m
+reached_so m None k old new u = record { leads = λ a. u.leads a; keeps = u.keeps }
+reached_so m (Some at) k old new u = record { leads = λ a. u.leads a; keeps = u.keeps }
+
+pub super_reached : {E : Type 0} (r : Result Mode E) (call : Option ℕ) (o : Ref) (k : Key MadeSymbol) (old mid new : View) → o ≡ object_on (top old.values) → mid ≡ without_top old → IfOk r (ReadsSuper call o k mid new) → IfOk r (KeyReaches (key_goal.Super call) k old new)
+super_reached (Ok m) call o k old mid new e s h =
+    let w = subst (λ (x : View). ReadsSuper call o k x new m) s h in
+    reached_so m call k old new (subst (λ x. ReadsSuper call x k (without_top old) new m) e w)
+super_reached (Err x) call o k old mid new e s h = tt
 
 -- what stands above comes to a frame that has the key
 pub home_known : {E : Type 0} (r : Result Mode E) (k : V) (o : Option Ref) (old mid new : View) → k ≡ top old.values → mid ≡ without_top old

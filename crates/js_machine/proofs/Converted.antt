@@ -60,8 +60,8 @@ pub method_asked : {E : Type 0} (r : Result Mode E) (o : Ref) (g : Goal) (last t
 method_asked (Ok m) o g last t k old mid new d e s h =
     let w = subst (λ (x : View). WaitsFor (frame.MethodGot last g) o (ask.Get k (value.Ref o)) x new m) s h in
     let u = subst (λ j. WaitsFor (frame.MethodGot last g) o (ask.Get j (value.Ref o)) (with_top (value.Ref o) old) new m) (e ∙ ap (λ b. key.Text (method_at last b)) d) w in
-    let led : LeadsTo (λ a. becomes (naming_of old.me) a.shared (methods_from last (as_text g)) o g old.values (party_of a old)) (record old { values = drop (1 + goal_held g) (value.Ref o ∷ old.values) }) new m = record { leads = λ a. u.leads a; keeps = u.keeps } in
-    subst (λ vs. LeadsTo (λ a. becomes (naming_of old.me) a.shared (methods_from last (as_text g)) o g old.values (party_of a old)) (record old { values = vs }) new m) (sym (beneath (goal_held g) (value.Ref o ∷ old.values))) led
+    let led : LeadsTo (λ a. becomes (naming_of old.me) a.shared old.code (methods_from last (as_text g)) o g old.values (party_of a old)) (record old { values = drop (1 + goal_held g) (value.Ref o ∷ old.values) }) new m = record { leads = λ a. u.leads a; keeps = u.keeps } in
+    subst (λ vs. LeadsTo (λ a. becomes (naming_of old.me) a.shared old.code (methods_from last (as_text g)) o g old.values (party_of a old)) (record old { values = vs }) new m) (sym (beneath (goal_held g) (value.Ref o ∷ old.values))) led
 method_asked (Err x) o g last t k old mid new d e s h = tt
 
 names_are : (t : Bool) → methods_from false t ≡ method_names t
@@ -89,8 +89,8 @@ pub method_asks : {E : Type 0} (r : Result Mode E) (o : Ref) (g : Goal) (last : 
 method_asks (Ok m) o g last f args old mid new e s h =
     let w = subst (λ (x : View). WaitsFor (frame.MethodCalled last g) f (ask.Call (value.Ref o) args) x new m) s h in
     let u = subst (λ xs. WaitsFor (frame.MethodCalled last g) f (ask.Call (value.Ref o) xs) (with_top (value.Ref o) old) new m) e w in
-    let led : LeadsTo (λ a. asks (naming_of old.me) f (ask.Call (value.Ref o) []) (party_of a old) (with_value (method_gave (naming_of old.me) a.shared last o g old.values))) (record old { values = drop (1 + goal_held g) (value.Ref o ∷ old.values) }) new m = record { leads = λ a. u.leads a; keeps = u.keeps } in
-    subst (λ vs. LeadsTo (λ a. asks (naming_of old.me) f (ask.Call (value.Ref o) []) (party_of a old) (with_value (method_gave (naming_of old.me) a.shared last o g old.values))) (record old { values = vs }) new m) (sym (beneath (goal_held g) (value.Ref o ∷ old.values))) led
+    let led : LeadsTo (λ a. asks (naming_of old.me) f (ask.Call (value.Ref o) []) (party_of a old) (with_value (method_gave (naming_of old.me) a.shared old.code last o g old.values))) (record old { values = drop (1 + goal_held g) (value.Ref o ∷ old.values) }) new m = record { leads = λ a. u.leads a; keeps = u.keeps } in
+    subst (λ vs. LeadsTo (λ a. asks (naming_of old.me) f (ask.Call (value.Ref o) []) (party_of a old) (with_value (method_gave (naming_of old.me) a.shared old.code last o g old.values))) (record old { values = vs }) new m) (sym (beneath (goal_held g) (value.Ref o ∷ old.values))) led
 method_asks (Err x) o g last f args old mid new e s h = tt
 
 same_marks : (w : View) (vs : Values) (r : Ref) (o : Origin) → marks_at (record w { values = vs }) r o ≡ marks_at w r o
@@ -102,8 +102,8 @@ module _ (o : Ref) (g : Goal) (last : Bool) (old : View) where
   -- a method, as it can be called or not
   abbrev known : Ref → Around → Bool → Act Ref MadeSymbol
   known q a b =
-      if b then asks (naming_of old.me) q (ask.Call (value.Ref o) []) (party_of a old) (with_value (method_gave (naming_of old.me) a.shared last o g old.values))
-      else becomes (naming_of old.me) a.shared (methods_behind last (as_text g)) o g old.values (party_of a old)
+      if b then asks (naming_of old.me) q (ask.Call (value.Ref o) []) (party_of a old) (with_value (method_gave (naming_of old.me) a.shared old.code last o g old.values))
+      else becomes (naming_of old.me) a.shared old.code (methods_behind last (as_text g)) o g old.values (party_of a old)
 
   seen : {E : Type 0} (r : Result Mode E) (q : Ref) (b : Bool) (new : View) → b ≡ (marks_in old q).callable → IfOk r (LeadsTo (λ a. known q a b) (past_goal g old) new) → IfOk r (GoesOnWithMethod last o g (value.Ref q) old new)
   seen r q b new e h =
@@ -190,8 +190,8 @@ module _ (names : Naming Ref MadeSymbol) (shared : Shared) where
 
 pub key_reached : {E : Type 0} (r : Result Mode E) (g : KeyGoal) (x : Option (Key MadeSymbol)) (k : Key MadeSymbol) (v : V) (old new : View) → x ≡ plain_key v → x ≡ Some k → IfOk r (KeyReaches g k old new) → IfOk r (Reaches (goal.Key g) v old new)
 key_reached r g x k v old new e s h =
-    same_deed r (λ a. key_deed (naming_of old.me) a.shared g old.values k (party_of a old)) (λ a. goal_deed (naming_of old.me) a.shared (goal.Key g) old.values v (party_of a old)) (past_goal (goal.Key g) old) new
-    (λ a. (let b = fitting old a in primitive_known (naming_of old.me) b.shared v k (party_of b old) (key_deed (naming_of old.me) b.shared g old.values) (sym e ∙ s))) h
+    same_deed r (λ a. key_deed (naming_of old.me) a.shared old.code g old.values k (party_of a old)) (λ a. goal_deed (naming_of old.me) a.shared old.code (goal.Key g) old.values v (party_of a old)) (past_goal (goal.Key g) old) new
+    (λ a. (let b = fitting old a in primitive_known (naming_of old.me) b.shared v k (party_of b old) (key_deed (naming_of old.me) b.shared old.code g old.values) (sym e ∙ s))) h
 
 abbrev Faults : View → View → Mode → Type 0
 Faults old new m = LeadsTo (λ a. faults (naming_of old.me) fault.CannotConvert (party_of a old)) old new m

@@ -6,6 +6,7 @@ use Rattle.js_text.specs.Naming.{naming_of}
 use Rattle.js_text.specs.declared.value.Value.{Value}
 use Rattle.js_text.specs.declared.value.Value.TheVariants as value
 use Rattle.js_desc.specs.declared.ask.Ask.{Ask}
+use Rattle.js_desc.specs.declared.decision.BodyId.{BodyId}
 use Rattle.js_desc.specs.declared.decision.Decision.TheVariants as decision
 use Rattle.js_desc.specs.declared.reply.Reply.{Reply}
 use Rattle.js_desc.specs.declared.reply.Reply.TheVariants as reply
@@ -19,7 +20,7 @@ use Rattle.js_ordinary.specs.declared.next.Next.{Next as OrdinaryNext}
 use Rattle.js_store.specs.Objects.{Object}
 use Rattle.js_run.specs.Completions.{Replied}
 use Rattle.js_run.specs.Going.{go_on}
-use Rattle.js_machine.specs.Decisions.{object_of_value, wants_number}
+use Rattle.js_machine.specs.Decisions.{object_of_value}
 use Rattle.js_machine.specs.Steps.{IsDecided, IsDelivered, LeadsTo, Wakes, over, under, without_top}
 use Rattle.js_machine.specs.Views.{View, first_wait, party_of, reply_of_answer, top, waits_under}
 use Rattle.js_machine.specs.declared.asked.Answer.{Answer}
@@ -31,11 +32,6 @@ use Rattle.js_machine.specs.declared.frame.Mode.{Mode}
 -- a decision, and the objects after it
 abbrev pub Says : ExoticDecision Ref MadeSymbol → List (Object Ref MadeSymbol) → ExoticDecision Ref MadeSymbol × List (Object Ref MadeSymbol) → Type 0
 Says d os q = (d, os) ≡ q
-
-pub followed : {E : Type 0} (r : Result Mode E) (me : Ref) (d : ExoticDecision Ref MadeSymbol) (b : Bool) (old new : View) → b ≡ wants_number d → b ≡ false
-    → IfOk r (LeadsTo (λ a. follows_once (naming_of old.me) a.shared me d (party_of a old)) old new) → IfOk r (LeadsTo (λ a. follows (naming_of old.me) a.shared me d (party_of a old)) old new)
-followed r me (decision.Number v n) b old new e f h = cc
-followed r me d b old new e f h = h
 
 -- what the table of decisions says is followed
 pub decided_so : {E : Type 0} (r : Result Mode E) (me : Ref) (d : ExoticDecision Ref MadeSymbol) (old mid new : View) → Says d mid.objects (decided (naming_of old.me) old.objects old.common me old.asked.ask) → mid ≡ record old { objects = mid.objects }
@@ -90,6 +86,13 @@ pub primitive_asks : {E : Type 0} (r : Result Mode E) (o : Ref) (target : Option
     → IfOk r (LeadsTo (λ a. follows_once (naming_of old.me) a.shared ((naming_of old.me).own 0) (as_exotic d) (party_of a old)) old new)
 primitive_asks r o target x n d old new e f h =
     let w = subst (λ me. IfOk r (LeadsTo (λ a. follows_once (naming_of old.me) a.shared me (decision.Ask target x (exotic.Ordinary n)) (party_of a old)) old new)) e h in
+    subst (λ y. IfOk r (LeadsTo (λ a. follows_once (naming_of old.me) a.shared ((naming_of old.me).own 0) (as_exotic y) (party_of a old)) old new)) (sym f) w
+
+pub primitive_runs : {E : Type 0} (r : Result Mode E) (o : Ref) (body : BodyId) (this : Value Ref MadeSymbol) (args : List (Value Ref MadeSymbol)) (target : Option Ref) (d : OrdinaryDecision Ref MadeSymbol) (old new : View) → o ≡ (naming_of old.me).own 0 → d ≡ decision.Run body this args target
+    → IfOk r (LeadsTo (λ a. follows_once (naming_of old.me) a.shared o (decision.Run body this args target) (party_of a old)) old new)
+    → IfOk r (LeadsTo (λ a. follows_once (naming_of old.me) a.shared ((naming_of old.me).own 0) (as_exotic d) (party_of a old)) old new)
+primitive_runs r o body this args target d old new e f h =
+    let w = subst (λ me. IfOk r (LeadsTo (λ a. follows_once (naming_of old.me) a.shared me (decision.Run body this args target) (party_of a old)) old new)) e h in
     subst (λ y. IfOk r (LeadsTo (λ a. follows_once (naming_of old.me) a.shared ((naming_of old.me).own 0) (as_exotic y) (party_of a old)) old new)) (sym f) w
 
 -- WHAT WAITS

@@ -160,6 +160,8 @@ module _ (names : Naming Ref MadeSymbol) (shared : Shared) (c : Tables) (v : Val
   by_frame frame.Made m vs ws t a p = cc
   by_frame (frame.ModuleBody n at o) m vs ws t a p = cc
   by_frame (frame.ModuleEnds n at) m vs ws t a p = cc
+  by_frame (frame.SlotCharged which count) m vs ws t a p = cc
+  by_frame (frame.Refused b) m vs ws t a p = cc
 
 -- nothing waits for a frame that takes values
 pub nothing_waits : (f : Frame) → takes_values f ≡ true → has_wait f ≡ false

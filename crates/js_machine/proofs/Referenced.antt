@@ -77,9 +77,9 @@ module _ (o v : Value Ref MadeSymbol) (old : View) (e : is_nullish o ≡ false) 
   pub got_later : {E : Type 0} (r : Result Mode E) (mid new : View) → mid ≡ with_top o old → IfOk r (BecomesKey v key_goal.Get mid new) → IfOk r (Gets new)
   got_later (Ok m) mid new s h =
       let w = subst (λ (x : View). BecomesKey v key_goal.Get x new m) s h in
-      let made : LeadsTo (λ a. to_key (naming_of old.me) a.shared v (party_of a old) (key_deed (naming_of old.me) a.shared key_goal.Get (o ∷ old.values))) old new m = record { leads = λ a. w.leads a; keeps = w.keeps } in
-      same_deed {E = ℕ} (Ok m) (λ a. to_key (naming_of old.me) a.shared v (party_of a old) (key_deed (naming_of old.me) a.shared key_goal.Get (o ∷ old.values))) (λ a. get_key (naming_of old.me) a.shared o v (party_of a old)) old new
-      (λ a. (let b = fitting old a in reference_made (naming_of old.me) b.shared o v (party_of b old) (key_deed (naming_of old.me) b.shared key_goal.Get (o ∷ old.values)) e)) made
+      let made : LeadsTo (λ a. to_key (naming_of old.me) a.shared v (party_of a old) (key_deed (naming_of old.me) a.shared old.code key_goal.Get (o ∷ old.values))) old new m = record { leads = λ a. w.leads a; keeps = w.keeps } in
+      same_deed {E = ℕ} (Ok m) (λ a. to_key (naming_of old.me) a.shared v (party_of a old) (key_deed (naming_of old.me) a.shared old.code key_goal.Get (o ∷ old.values))) (λ a. get_key (naming_of old.me) a.shared o v (party_of a old)) old new
+      (λ a. (let b = fitting old a in reference_made (naming_of old.me) b.shared o v (party_of b old) (key_deed (naming_of old.me) b.shared old.code key_goal.Get (o ∷ old.values)) e)) made
   got_later (Err x) mid new s h = tt
 
   abbrev Deletes : View → Mode → Type 0
@@ -93,9 +93,9 @@ module _ (o v : Value Ref MadeSymbol) (old : View) (e : is_nullish o ≡ false) 
   pub deleted_later : {E : Type 0} (r : Result Mode E) (mid new : View) → mid ≡ with_top o old → IfOk r (BecomesKey v key_goal.Delete mid new) → IfOk r (Deletes new)
   deleted_later (Ok m) mid new s h =
       let w = subst (λ (x : View). BecomesKey v key_goal.Delete x new m) s h in
-      let made : LeadsTo (λ a. to_key (naming_of old.me) a.shared v (party_of a old) (key_deed (naming_of old.me) a.shared key_goal.Delete (o ∷ old.values))) old new m = record { leads = λ a. w.leads a; keeps = w.keeps } in
-      same_deed {E = ℕ} (Ok m) (λ a. to_key (naming_of old.me) a.shared v (party_of a old) (key_deed (naming_of old.me) a.shared key_goal.Delete (o ∷ old.values))) (λ a. delete_property (naming_of old.me) a.shared o v (party_of a old)) old new
-      (λ a. (let b = fitting old a in reference_made (naming_of old.me) b.shared o v (party_of b old) (key_deed (naming_of old.me) b.shared key_goal.Delete (o ∷ old.values)) e)) made
+      let made : LeadsTo (λ a. to_key (naming_of old.me) a.shared v (party_of a old) (key_deed (naming_of old.me) a.shared old.code key_goal.Delete (o ∷ old.values))) old new m = record { leads = λ a. w.leads a; keeps = w.keeps } in
+      same_deed {E = ℕ} (Ok m) (λ a. to_key (naming_of old.me) a.shared v (party_of a old) (key_deed (naming_of old.me) a.shared old.code key_goal.Delete (o ∷ old.values))) (λ a. delete_property (naming_of old.me) a.shared o v (party_of a old)) old new
+      (λ a. (let b = fitting old a in reference_made (naming_of old.me) b.shared o v (party_of b old) (key_deed (naming_of old.me) b.shared old.code key_goal.Delete (o ∷ old.values)) e)) made
   deleted_later (Err x) mid new s h = tt
 
 pub set_asked : {E : Type 0} (r : Result Mode E) (o t x y : Value Ref MadeSymbol) (k : Key MadeSymbol) (old mid new : View) → t ≡ o → y ≡ x → mid ≡ with_top y old
@@ -116,9 +116,9 @@ module _ (o v x : Value Ref MadeSymbol) (old : View) (e : is_nullish o ≡ false
   pub put_later : {E : Type 0} (r : Result Mode E) (mid low new : View) → mid ≡ with_top o old → low ≡ with_top x mid → IfOk r (BecomesKey v key_goal.Put low new) → IfOk r (Puts new)
   put_later (Ok m) mid low new s t h =
       let w = subst (λ (z : View). BecomesKey v key_goal.Put z new m) (t ∙ ap (with_top x) s) h in
-      let made : LeadsTo (λ a. to_key (naming_of old.me) a.shared v (party_of a old) (key_deed (naming_of old.me) a.shared key_goal.Put (x ∷ o ∷ old.values))) old new m = record { leads = λ a. w.leads a; keeps = w.keeps } in
-      same_deed {E = ℕ} (Ok m) (λ a. to_key (naming_of old.me) a.shared v (party_of a old) (key_deed (naming_of old.me) a.shared key_goal.Put (x ∷ o ∷ old.values))) (λ a. put_property (naming_of old.me) a.shared o v x (party_of a old)) old new
-      (λ a. (let b = fitting old a in reference_made (naming_of old.me) b.shared o v (party_of b old) (key_deed (naming_of old.me) b.shared key_goal.Put (x ∷ o ∷ old.values)) e)) made
+      let made : LeadsTo (λ a. to_key (naming_of old.me) a.shared v (party_of a old) (key_deed (naming_of old.me) a.shared old.code key_goal.Put (x ∷ o ∷ old.values))) old new m = record { leads = λ a. w.leads a; keeps = w.keeps } in
+      same_deed {E = ℕ} (Ok m) (λ a. to_key (naming_of old.me) a.shared v (party_of a old) (key_deed (naming_of old.me) a.shared old.code key_goal.Put (x ∷ o ∷ old.values))) (λ a. put_property (naming_of old.me) a.shared o v x (party_of a old)) old new
+      (λ a. (let b = fitting old a in reference_made (naming_of old.me) b.shared o v (party_of b old) (key_deed (naming_of old.me) b.shared old.code key_goal.Put (x ∷ o ∷ old.values)) e)) made
   put_later (Err y) mid low new s t h = tt
 
 -- FREE NAMES

@@ -37,7 +37,7 @@ module _ (os : List (Object Ref MadeSymbol)) (cs : List CommonObject) where
   found true o p e = cc
   found false o p e = cc
 
-  same_place : (o p : Origin) → there os cs p ≡ Some o → p ≡ o
+  pub same_place : (o p : Origin) → there os cs p ≡ Some o → p ≡ o
   same_place o (Own i) e = found (nat_lt i (length os)) o (Own i) e
   same_place o (Common c) e = found (nat_lt c (length cs)) o (Common c) e
   same_place o Foreign e = cc

@@ -30,3 +30,10 @@ pub mod Natives
 pub mod Requested
 pub mod Evaluated
 pub mod Outsides
+pub mod Wanting
+pub mod Waking
+pub mod Proxying
+pub mod Collecting
+pub mod SlotAsks
+pub mod SlotSteps
+pub mod Defaults

@@ -1,9 +1,10 @@
 -- The parts of objects, arrays and classes, one after the other.
-use Rattle.std.specs.Prelude.{ℕ, suc, Bool, true, get_or, Option, Some, None, if◌then◌else◌}
+use Rattle.std.specs.Prelude.{ℕ, suc, Bool, true, false, get_or, Option, Some, None, if◌then◌else◌}
 use Rattle.lava_base.specs.declared.ids.MadeSymbol.{MadeSymbol}
 use Rattle.lava_base.specs.declared.ids.Ref.{Ref}
 use Rattle.lava_base.specs.declared.ids.Ref.TheVariants as reference
 use Rattle.js_text.specs.Naming.{Naming}
+use Rattle.js_text.specs.declared.value.Key.{Key}
 use Rattle.js_text.specs.declared.value.Value.{Value}
 use Rattle.js_text.specs.declared.value.Value.TheVariants as value
 use Rattle.js_desc.specs.declared.descriptor.PartialDescriptor.{PartialDescriptor}
@@ -43,6 +44,14 @@ operand_of (part_row.Spread k) = Some k
 operand_of (part_row.Item k) = Some k
 operand_of part_row.Hole = None
 
+-- the first form of a part is its key
+abbrev pub has_key : PartRow → Bool
+has_key (part_row.Data k v) = true
+has_key (part_row.Method s k t) = true
+has_key (part_row.Getter s k t) = true
+has_key (part_row.Setter s k t) = true
+has_key row = false
+
 -- the fields of an accessor
 abbrev pub accessor_part : (enumerable : Bool) → (get set : Option (Option Ref)) → PartialDescriptor Ref MadeSymbol
 accessor_part e get set = record { value = None; writable = None; get = get; set = set; enumerable = Some e; configurable = Some true }
@@ -75,11 +84,23 @@ module _ (names : Naming Ref MadeSymbol) (shared : Shared) (c : Tables) where
   abbrev pub spread_then : Holding → (at left : ℕ) → Value Ref MadeSymbol → Party Ref MadeSymbol → Act Ref MadeSymbol
   spread_then h at left v p = spreads names shared h.instance v p (with_value (λ w m. parts_go h (suc at) left m))
 
+  -- a function is made, and defined on its home by a key
+  abbrev pub function_keyed : Holding → (at left : ℕ) → (home : Ref) → (template : ℕ) → FunctionPart → Key MadeSymbol → Party Ref MadeSymbol → Act Ref MadeSymbol
+  function_keyed h at left o t part name m = defines names shared o name (function_fields part h.enumerable (next_object names shared m)) (method_made names shared (template_at c (term_at c) t) (Some o) m) (parts_go h (suc at) left)
+
   -- a function is made, and defined on its home
   -- ECMA-262 MethodDefinitionEvaluation
   abbrev pub function_then : Holding → (at left : ℕ) → (home : Ref) → (template : ℕ) → FunctionPart → (key : Value Ref MadeSymbol) → Party Ref MadeSymbol → Act Ref MadeSymbol
   function_then h at left o t part v p =
       to_key names shared v p (λ name m. defines names shared o name (function_fields part h.enumerable (next_object names shared m)) (method_made names shared (template_at c (term_at c) t) (Some o) m) (parts_go h (suc at) left))
+
+  -- the key of a part is known
+  unfoldable pub part_keyed : Holding → (at left : ℕ) → PartRow → Key MadeSymbol → Party Ref MadeSymbol → Act Ref MadeSymbol
+  part_keyed h at left (part_row.Data k e) name p = Evaluate (term_at c e) p (with_value (λ w n. defines names shared h.instance name (data_part h.enumerable w) n (parts_go h (suc at) left)))
+  part_keyed h at left (part_row.Method s k t) name p = function_keyed h at left (holder s (holders_of h)) t function_part.Method name p
+  part_keyed h at left (part_row.Getter s k t) name p = function_keyed h at left (holder s (holders_of h)) t function_part.Getter name p
+  part_keyed h at left (part_row.Setter s k t) name p = function_keyed h at left (holder s (holders_of h)) t function_part.Setter name p
+  part_keyed h at left row name p = parts_go h (suc at) left p
 
   -- the first operand of a part comes: a key, an object whose properties are copied, or an item
   -- ECMA-262 PropertyDefinitionEvaluation

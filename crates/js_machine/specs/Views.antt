@@ -20,7 +20,7 @@ use Rattle.lava_base.specs.declared.marks.Marks.{Marks}
 use Rattle.js_desc.specs.declared.reply.Reply.{Reply}
 use Rattle.js_store.specs.Foreign.{marks_of}
 use Rattle.js_store.specs.Frozen.{CommonObject}
-use Rattle.js_run.specs.Acts.{Closes, Decides_on, Evaluate, Give, Native_decides, Next, Tested, Then, Turned, Turns, Updated, as_it_is, give, throws, with_flag, with_prototype, with_value, Act, Inherits, asks, asks_value}
+use Rattle.js_run.specs.Acts.{Closes, Decides_on, Evaluate, Give, Native_decides, Next, Proxy_decides, Tested, Then, Turned, Turns, Updated, as_it_is, give, throws, with_flag, with_prototype, with_value, Act, Inherits, asks, asks_value}
 use Rattle.js_run.specs.Faults.{faults}
 use Rattle.js_run.specs.Bodies.{built, closed, constructed, derived_constructed, returned, this_of}
 use Rattle.js_run.specs.Completions as halt_kind
@@ -42,7 +42,7 @@ use Rattle.js_term.specs.declared.term.Template.{Template}
 use Rattle.js_state.specs.Scopes.{Scope, outwards, scope_at, with_slot}
 use Rattle.js_machine.specs.Bodies.{scope_of, stood_in}
 use Rattle.js_machine.specs.Classes.{parent_comes, prototype_comes}
-use Rattle.js_machine.specs.Parts.{part_at, part_comes, part_valued, parts_go, reference_in}
+use Rattle.js_machine.specs.Parts.{part_at, part_comes, part_keyed, part_valued, parts_go, reference_in}
 use Rattle.js_store.specs.Objects.{Object}
 use Rattle.js_term.specs.declared.term.Term.{Term}
 use Rattle.js_run.specs.Modules.{module_closes, module_ends}
@@ -58,6 +58,8 @@ use Rattle.js_machine.specs.Packages.{Package, loaded_in}
 use Rattle.js_desc.specs.declared.ask.Ask.TheVariants as ask
 use Rattle.js_run.specs.Conversions.{method_called, ordinary_to_primitive, primitive_or, primitive_to_key}
 use Rattle.js_operators.specs.Deeds.{becomes_key, rest_deed}
+use Rattle.js_machine.specs.SlotAsks.{asks_first, refusal}
+use Rattle.js_machine.specs.Wanting.{number_method_gave, number_method_got}
 use Rattle.js_machine.specs.declared.asked.Answer.{Answer}
 use Rattle.js_machine.specs.declared.asked.Answer.TheVariants as answer
 use Rattle.js_machine.specs.declared.asked.Asked.{Asked}
@@ -263,6 +265,7 @@ key_held _ = 1
 abbrev pub goal_held : Goal → ℕ
 goal_held (goal.Operand x) = 1
 goal_held (goal.Key k) = key_held k
+goal_held (goal.Part e at left) = 2
 
 -- how many values are a frame's own
 abbrev pub owned : Frame → ℕ
@@ -292,6 +295,7 @@ owned (frame.Charged which count) = count
 owned frame.Made = 1
 owned (frame.ModuleBody n at o) = 1
 owned (frame.ModuleEnds n at) = 1
+owned (frame.SlotCharged which count) = count
 owned _ = 0
 
 -- it goes on with an answer that is no value
@@ -324,6 +328,8 @@ takes_values (frame.Charged which count) = false
 takes_values frame.Made = false
 takes_values (frame.ModuleBody n at o) = false
 takes_values (frame.ModuleEnds n at) = false
+takes_values (frame.SlotCharged which count) = false
+takes_values (frame.Refused b) = false
 takes_values _ = true
 
 -- the values that are not a frame's own
@@ -383,6 +389,7 @@ object_on v = reference.Common (record { 0 = 0 })
 abbrev pub as_text : Goal → Bool
 as_text (goal.Operand x) = becomes_key x
 as_text (goal.Key k) = true
+as_text (goal.Part e at left) = true
 
 -- the first or the last of the methods that are tried
 -- ECMA-262 OrdinaryToPrimitive, steps 1 and 2
@@ -406,16 +413,25 @@ module _ (names : Naming Ref MadeSymbol) (shared : Shared) where
   abbrev pub has_deleted : Next Ref MadeSymbol
   has_deleted = with_flag (λ done p. if done then give (value.Bool true) p else faults names fault.CannotDelete p)
 
+module _ (names : Naming Ref MadeSymbol) (shared : Shared) (c : Tables) where
+  -- what a property of `super` is for: its value, or a call with these arguments
+  abbrev pub super_next : Option ℕ → Next Ref MadeSymbol
+  super_next None = with_value give
+  super_next (Some args) = with_value (super_method names shared (arguments_at c (term_at c) args))
+
   -- what a property key is for goes on with it
   abbrev pub key_deed : KeyGoal → Values → Key MadeSymbol → Party Ref MadeSymbol → Act Ref MadeSymbol
   key_deed key_goal.Get vs k p = asks_value names (top vs) (ask.Get k (top vs)) p (with_value give)
   key_deed key_goal.Put vs k p = asks_value names (top (below vs)) (ask.Set k (top vs) (top (below vs))) p (has_set names (top vs))
-  key_deed key_goal.Delete vs k p = asks_value names (top vs) (ask.Delete k) p has_deleted
+  key_deed key_goal.Delete vs k p = asks_value names (top vs) (ask.Delete k) p (has_deleted names shared)
+  key_deed (key_goal.Method args) vs k p = asks_value names (top vs) (ask.Get k (top vs)) p (with_value (calls_with names shared (top vs) (arguments_at c (term_at c) args)))
+  key_deed (key_goal.Super call) vs k p = with_this names p (λ this q. asks names (object_on (top vs)) (ask.Get k this) q (super_next call))
 
   -- what a primitive value is for goes on with it
   abbrev pub goal_deed : Goal → Values → Value Ref MadeSymbol → Party Ref MadeSymbol → Act Ref MadeSymbol
   goal_deed (goal.Operand x) vs v p = rest_deed names shared x (top vs) v p
   goal_deed (goal.Key k) vs v p = primitive_to_key names shared (asks names) v p (key_deed k vs)
+  goal_deed (goal.Part e at left) vs v p = primitive_to_key names shared (asks names) v p (part_keyed names shared c (holding_on e vs) at left (part_at c at))
 
   -- an object becomes a primitive value by these methods
   abbrev pub becomes : List (List ℕ) → Ref → Goal → Values → Party Ref MadeSymbol → Act Ref MadeSymbol
@@ -448,6 +464,12 @@ module _ (names : Naming Ref MadeSymbol) (shared : Shared) (c : Tables) where
   next_part_of (frame.ClassParent k) vs = with_value (parent_comes names shared c k)
   next_part_of (frame.ClassPrototype k) vs = with_value (prototype_comes names shared c k (reference_in (top vs)))
   next_part_of f vs = with_value give
+
+  -- what a frame of a native that asks a `Slot` goes on with
+  unfoldable pub next_slot_of : Frame → Values → Next Ref MadeSymbol
+  next_slot_of (frame.SlotCharged which count) vs = Then (λ d p. asks_first names shared which (args_on count vs) p)
+  next_slot_of (frame.Refused b) vs = Then (λ d p. faults names (refusal b) p)
+  next_slot_of f vs = with_value give
 
   -- what a frame goes on with
   abbrev pub next_of : Frame → Values → Next Ref MadeSymbol
@@ -506,8 +528,8 @@ module _ (names : Naming Ref MadeSymbol) (shared : Shared) (c : Tables) where
   next_of frame.Told vs = with_flag (λ b p. give (value.Bool b) p)
   next_of frame.InstanceOf vs = with_value (prototype_inherited names shared (object_on (top vs)))
   next_of frame.Inherits vs = Inherits (object_on (top vs))
-  next_of (frame.MethodGot last g) vs = with_value (method_got names shared last (object_on (top vs)) g (below vs))
-  next_of (frame.MethodCalled last g) vs = with_value (method_gave names shared last (object_on (top vs)) g (below vs))
+  next_of (frame.MethodGot last g) vs = with_value (method_got names shared c last (object_on (top vs)) g (below vs))
+  next_of (frame.MethodCalled last g) vs = with_value (method_gave names shared c last (object_on (top vs)) g (below vs))
   next_of (frame.Define start count) vs = next_part_of (frame.Define start count) vs
   next_of (frame.Part e at left) vs = next_part_of (frame.Part e at left) vs
   next_of (frame.PartValue e at left) vs = next_part_of (frame.PartValue e at left) vs
@@ -518,6 +540,16 @@ module _ (names : Naming Ref MadeSymbol) (shared : Shared) (c : Tables) where
   next_of frame.Made vs = Then (λ d p. give (top vs) p)
   next_of (frame.ModuleBody n at o) vs = Then (λ d p. module_ends names n (loaded_from c (top vs) at) o d p)
   next_of (frame.ModuleEnds n at) vs = Then (λ d p. module_closes names n (loaded_from c (top vs) at) d p)
+  next_of (frame.SlotCharged which count) vs = next_slot_of (frame.SlotCharged which count) vs
+  next_of (frame.Refused b) vs = next_slot_of (frame.Refused b) vs
+
+  -- what a proxy's decision, or the number that a decision wants, goes on with
+  unfoldable pub next_of_want : Wait → Next Ref MadeSymbol
+  next_of_want (wait.Proxy n) = Proxy_decides n
+  next_of_want (wait.MethodGot o last k) = with_value (number_method_got names shared last o k)
+  next_of_want (wait.MethodCalled o last k) = with_value (number_method_gave names shared last o k)
+  next_of_want (wait.SlotTold which n) = Closes (Native_decides which (waits_as n))
+  next_of_want w = with_value give
 
   -- what waits goes on with its answer
   abbrev pub next_of_wait : Wait → Next Ref MadeSymbol
@@ -525,6 +557,10 @@ module _ (names : Naming Ref MadeSymbol) (shared : Shared) (c : Tables) where
   next_of_wait (wait.Construct k args) = with_value (constructs_made names shared (template_at c (term_at c) k.at) k args)
   next_of_wait (wait.Native which n) = Native_decides which (waits_as n)
   next_of_wait wait.Exports = with_value give
+  next_of_wait (wait.Proxy n) = next_of_want (wait.Proxy n)
+  next_of_wait (wait.MethodGot o last k) = next_of_want (wait.MethodGot o last k)
+  next_of_wait (wait.MethodCalled o last k) = next_of_want (wait.MethodCalled o last k)
+  next_of_wait (wait.SlotTold which n) = next_of_want (wait.SlotTold which n)
 
   -- what a frame goes on with where it has something that waits. What decides is open meanwhile
   abbrev pub next_over : Frame → Values → Waits → Next Ref MadeSymbol

@@ -7,6 +7,7 @@ use js_natives::next::NativeNext;
 use js_text::native::Native;
 use js_text::text::Text;
 use js_text::value::{Key, Value};
+use js_traps::next::Next as ProxyNext;
 use lava_base::ids::Ref;
 use lava_base::list::List;
 
@@ -47,6 +48,20 @@ pub struct Construction {
     pub target: Ref,
 }
 
+/// What goes on with a number that it wants.
+#[derive(Drop)]
+pub enum NumberFor {
+    /// The decision of an object.
+    Object { me: Ref, next: ExoticNext },
+    /// The decision of a proxy.
+    Proxy { next: ProxyNext },
+}
+
+impl NumberFor {
+    /// It goes on no longer.
+    pub fn discard(self) {}
+}
+
 /// What a decision needs once its answer comes.
 #[derive(Drop)]
 pub enum Wait {
@@ -67,4 +82,30 @@ pub enum Wait {
     },
     /// The `exports` of another module.
     Exports,
+    /// The decision of a proxy.
+    Proxy {
+        next: ProxyNext,
+    },
+    /// A method of an object that is to become a number; `last` tells that it is the last of the two.
+    MethodGot {
+        object: Ref,
+        last: bool,
+        wanted: NumberFor,
+    },
+    /// What such a method gives.
+    MethodCalled {
+        object: Ref,
+        last: bool,
+        wanted: NumberFor,
+    },
+    /// What the target of a proxy tells that a native asked.
+    SlotTold {
+        which: Native,
+        next: NativeNext,
+    },
+}
+
+impl Wait {
+    /// It waits no longer.
+    pub fn discard(self) {}
 }

@@ -24,7 +24,7 @@ use lava_base::memory::OutOfMemory;
 
 impl Machine {
     /// What is asked.
-    pub(crate) fn set_asked(&mut self, target: Value, ask: Ask)
+    pub fn set_asked(&mut self, target: Value, ask: Ask)
         ensures { self.new ≡ record self.old { asked = record { target = target; ask = ask } } }
     {
         self.asked = Asked { target, ask };
@@ -73,7 +73,7 @@ impl Machine {
 
     /// Something comes on the stack of what waits.
     #[tactic(auto, using(crate::proofs::Reversed::reverse_push))]
-    pub(crate) fn push_wait(&mut self, wait: Wait) -> Result<(), OutOfMemory>
+    pub fn push_wait(&mut self, wait: Wait) -> Result<(), OutOfMemory>
         ensures { OnOk result (self.new ≡ record self.old { waits = wait ∷ self.old.waits }) }
     {
         self.waits.push(wait)?;

@@ -44,7 +44,7 @@ impl Machine {
 
     /// The newest body is over.
     #[tactic(auto, using(crate::proofs::Reversed::reverse_push))]
-    pub(crate) fn close_body(&mut self)
+    pub fn close_body(&mut self)
         ensures { self.new ≡ without_body self.old }
     {
         if let Some(body) = self.bodies.pop() {
@@ -54,7 +54,7 @@ impl Machine {
     }
 
     /// A body runs a form, and a frame waits for its end; the run ends where too much is open.
-    pub(crate) fn open_body(
+    pub fn open_body(
         &mut self,
         at: u32,
         scope: u32,
@@ -110,7 +110,7 @@ impl Machine {
     }
 
     /// The body of a template runs with so many arguments, and a frame waits for its end.
-    pub(crate) fn run_body(
+    pub fn run_body(
         &mut self,
         at: u32,
         outer: u32,

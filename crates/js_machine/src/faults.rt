@@ -3,8 +3,7 @@
 ghost use Rattle.std.specs.Prelude.{◌≡◌, ◌++◌, ◌∷◌, [], IfOk, OnOk, length, codes};
 ghost use Rattle.js_text.specs.Naming.{naming_of};
 ghost use Rattle.js_run.specs.Faults.{error_object, error_prototype, faults};
-ghost use Rattle.js_machine.specs.Steps.{error_with, message_key};
-ghost use Rattle.js_machine.specs.Steps.{LeadsTo, with_error};
+ghost use Rattle.js_machine.specs.Steps.{error_with, message_key, LeadsTo, with_error};
 ghost use Rattle.js_machine.specs.Views.{party_of};
 ghost use Rattle.js_machine.specs.declared.frame.Mode.TheVariants as mode;
 
@@ -30,7 +29,7 @@ use std::alloc::Global;
 static MESSAGE: [u16; 7] = [109, 101, 115, 115, 97, 103, 101];
 
 /// The key `message`.
-pub(crate) fn message_key(alloc: Global) -> Result<Key, OutOfMemory>
+pub fn message_key(alloc: Global) -> Result<Key, OutOfMemory>
     ensures { IfOk result (λ k. k ≡ message_key) }
 {
     match from_units(alloc, &MESSAGE) {
@@ -53,7 +52,7 @@ fn error_prototype(error: NativeError) -> u32
 
 /// Makes an error in a store.
 #[tactic(auto, using(crate::proofs::Faulted::last_changed, crate::proofs::Faulted::last_within))]
-pub(crate) fn add_error(
+pub fn add_error(
     store: &mut FlatStore,
     prototype: Ref,
     key: Key,

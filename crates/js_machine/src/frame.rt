@@ -299,6 +299,15 @@ pub enum Frame {
         number: u32,
         template: u32,
     },
+    /// A native that asks a `Slot` is charged; has so many operands, and asks the first one.
+    SlotCharged {
+        which: Native,
+        count: u32,
+    },
+    /// A native is charged that is refused.
+    Refused {
+        converts: bool,
+    },
 }
 
 /// What a property key is for. It has values on the stack.
@@ -310,6 +319,10 @@ pub enum KeyGoal {
     Put,
     /// A property is deleted. Has the object.
     Delete,
+    /// A method is called. Has the object.
+    Method { arguments: u32 },
+    /// A property of `super` is read, or called with these arguments. Has the object where `super` looks.
+    Super { call: Option<u32> },
 }
 
 /// What the primitive value that an object becomes is for. It has values on the stack.
@@ -319,6 +332,12 @@ pub enum Goal {
     Operand(Rest),
     /// The value becomes a property key.
     Key(KeyGoal),
+    /// The value becomes the key of a part. Has the objects on which parts are defined.
+    Part {
+        enumerable: bool,
+        at: u32,
+        left: u32,
+    },
 }
 
 impl Purpose {
@@ -354,6 +373,7 @@ impl Goal {
         match self {
             Goal::Operand(_) => 1,
             Goal::Key(goal) => goal.held(),
+            Goal::Part { .. } => 2,
         }
     }
 
@@ -363,7 +383,7 @@ impl Goal {
     {
         match self {
             Goal::Operand(rest) => matches!(rest, Rest::Key),
-            Goal::Key(_) => true,
+            Goal::Key(_) | Goal::Part { .. } => true,
         }
     }
 }
@@ -443,6 +463,7 @@ impl Frame {
             Frame::PartValue { .. } => 3,
             Frame::ClassPrototype { .. } => 1,
             Frame::Charged { count, .. } => u64::from(count),
+            Frame::SlotCharged { count, .. } => u64::from(count),
             _ => 0,
         }
     }
@@ -474,6 +495,7 @@ impl Frame {
             Frame::Guarded { .. } | Frame::Handled { .. } => false,
             Frame::Decides | Frame::Paid | Frame::Charged { .. } | Frame::Made => false,
             Frame::ModuleBody { .. } | Frame::ModuleEnds { .. } => false,
+            Frame::SlotCharged { .. } | Frame::Refused { .. } => false,
             Frame::Called | Frame::Constructed { .. } | Frame::Derived | Frame::Built => false,
             _ => true,
         }

@@ -47,7 +47,7 @@ fn is_plain(kind: TemplateKind) -> bool
 }
 
 /// A property that is not enumerable.
-pub(crate) fn hidden(value: Value, writable: bool, configurable: bool) -> Change
+pub fn hidden(value: Value, writable: bool, configurable: bool) -> Change
     ensures { result ≡ change.Write (Data value writable false configurable) }
 {
     Change::Write(Descriptor::Data {
@@ -59,7 +59,7 @@ pub(crate) fn hidden(value: Value, writable: bool, configurable: bool) -> Change
 }
 
 /// The object of a party.
-pub(crate) fn own(party: PartyId, id: u32) -> Value
+pub fn own(party: PartyId, id: u32) -> Value
     ensures { result ≡ value_kind.Ref ((naming_of party.0).own id) }
 {
     let id = ObjId(id);
@@ -68,7 +68,7 @@ pub(crate) fn own(party: PartyId, id: u32) -> Value
 
 /// Makes a function with its properties `length` and `name` (ECMA-262, OrdinaryFunctionCreate, SetFunctionLength, SetFunctionName).
 #[tactic(auto, using(crate::proofs::Faulted::last_within))]
-pub(crate) fn add_function(
+pub fn add_function(
     store: &mut FlatStore,
     keys: &KnownKeys,
     prototype: Option<Ref>,
@@ -196,7 +196,7 @@ impl Machine {
     }
 
     /// What a new function keeps.
-    pub(crate) fn closure(&self, kind: TemplateKind, home: Option<Ref>) -> Result<Slot, OutOfMemory>
+    pub fn closure(&self, kind: TemplateKind, home: Option<Ref>) -> Result<Slot, OutOfMemory>
         ensures { IfOk result (λ s. s ≡ closure_of (next_number self.now) kind home self.now) }
     {
         let template = self.next_template()?;

@@ -51,7 +51,7 @@ impl Machine {
     }
 
     /// A reference, where its object is a foreign one.
-    pub(crate) fn foreign_of(&self, object: Ref) -> Option<Ref>
+    pub fn foreign_of(&self, object: Ref) -> Option<Ref>
         ensures { result ≡ foreign_at object ((naming_of self.now.me).origin object) }
     {
         match object {

@@ -28,42 +28,43 @@ use std::marker::Model;
 /// A machine.
 #[derive(Drop)]
 pub struct Machine {
-    pub(crate) alloc: Global,
-    pub(crate) code: Code,
-    pub(crate) frames: Vec<Frame>,
-    pub(crate) values: Vec<Value>,
-    pub(crate) store: FlatStore,
-    pub(crate) templates: Vec<u32>,
-    pub(crate) scopes: Scopes,
-    pub(crate) bodies: Vec<Body>,
+    pub alloc: Global,
+    pub code: Code,
+    pub frames: Vec<Frame>,
+    pub values: Vec<Value>,
+    pub store: FlatStore,
+    pub templates: Vec<u32>,
+    pub scopes: Scopes,
+    pub bodies: Vec<Body>,
     /// Where the newest body stands.
-    pub(crate) scope: u32,
-    pub(crate) depth: u32,
+    pub scope: u32,
+    pub depth: u32,
     /// What waits for answers, beside the frames that wait.
-    pub(crate) waits: Vec<Wait>,
-    pub(crate) asked: Asked,
-    pub(crate) answer: Answer,
-    pub(crate) common: FrozenStore,
+    pub waits: Vec<Wait>,
+    pub asked: Asked,
+    pub answer: Answer,
+    pub common: FrozenStore,
     /// What is known of foreign objects.
-    pub(crate) foreign: Foreign,
+    pub foreign: Foreign,
     /// The templates of the common part, as places in the code.
-    pub(crate) common_templates: Vec<u32>,
+    pub common_templates: Vec<u32>,
     /// The place of the template that has nothing to do.
-    pub(crate) empty_template: u32,
-    pub(crate) keys: KnownKeys,
-    pub(crate) own_package: Package,
+    pub empty_template: u32,
+    /// The places of the templates that construct the objects of classes without a constructor, class by class.
+    pub default_templates: Vec<u32>,
+    pub keys: KnownKeys,
+    pub own_package: Package,
     /// The links that the party may import over.
-    pub(crate) allowed: Vec<Text>,
-    pub(crate) imported: Imported,
+    pub allowed: Vec<Text>,
+    pub imported: Imported,
     /// The calls of functions of the host so far.
-    pub(crate) calls: Vec<HostCall>,
+    pub calls: Vec<HostCall>,
 }
 
 impl Model for Machine {
     ghost use Rattle.std.specs.Prelude.{◌≡◌, reverse, true};
-    ghost use Rattle.js_code.specs.Decoded.{template_at, term_at};
-    ghost use Rattle.js_run.specs.Parties.{no_template};
     ghost use Rattle.js_machine.specs.Bodies.{bodies_of, is_grounded};
+    ghost use Rattle.js_machine.specs.Defaults.{KnowsTemplates};
     ghost use Rattle.js_machine.specs.Views.{View};
 
     ghost Value = { View };
@@ -91,7 +92,7 @@ impl Model for Machine {
     } };
 
     ghost invariant = { λ m. (is_grounded m.scope (reverse m.bodies.items) ≡ true)
-        × (template_at m.code (term_at m.code) m.empty_template ≡ no_template) };
+        × KnowsTemplates m.code m.empty_template m.default_templates.items };
 }
 
 impl Machine {

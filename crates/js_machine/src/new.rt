@@ -5,8 +5,10 @@ ghost use Rattle.js_code.specs.Settled.{Extends};
 ghost use Rattle.js_run.specs.Parties as parties;
 ghost use Rattle.js_code.specs.Decoded.{template_at, term_at};
 ghost use Rattle.js_machine.specs.Begun.{as_new, outermost};
+ghost use Rattle.js_machine.specs.Defaults.{KnowsTemplates};
 
 use crate::asked::{Answer, Asked, Imported};
+use crate::defaults::add_defaults;
 use crate::keys::KnownKeys;
 use crate::machine::Machine;
 use crate::package::Package;
@@ -55,6 +57,17 @@ fn add_empty(alloc: Global, code: &mut Code) -> Result<u32, OutOfMemory>
     code.add_template(&template)
 }
 
+/// Puts into a code what the machine itself names: the constructors of classes that have none, and the template that has nothing to do.
+#[tactic(auto, using(crate::proofs::Defaulted::kept_defaults), unfolding(crate::specs::Defaults::KnowsTemplates))]
+fn add_templates(alloc: Global, code: &mut Code) -> Result<(u32, Vec<u32>), OutOfMemory>
+    ensures knows { IfOk result (λ r. KnowsTemplates code.new r.0 r.1.items) }
+    ensures extends { OnOk result (Extends code.old code.new) }
+{
+    let default_templates = add_defaults(alloc, code)?;
+    let empty_template = add_empty(alloc, code)?;
+    Ok((empty_template, default_templates))
+}
+
 /// The outermost scope of a party.
 pub(crate) fn first_scope(alloc: Global) -> Result<Scopes, OutOfMemory>
     ensures { IfOk result (λ s. s ≡ outermost) }
@@ -64,8 +77,45 @@ pub(crate) fn first_scope(alloc: Global) -> Result<Scopes, OutOfMemory>
     Ok(scopes)
 }
 
+/// What a machine begins with, beside what it is given.
+#[derive(Drop)]
+struct Begun {
+    empty_template: u32,
+    default_templates: Vec<u32>,
+    scopes: Scopes,
+    keys: KnownKeys,
+    imported: Imported,
+}
+
+/// The import over no link, of no path.
+fn no_import(alloc: Global) -> Result<Imported, OutOfMemory> {
+    let link = text_of(alloc, &[])?;
+    let path = text_of(alloc, &[])?;
+    Ok(Imported { link, path })
+}
+
+/// What a machine begins with whose code this is.
+fn start(alloc: Global, code: &mut Code) -> Result<Begun, OutOfMemory>
+    ensures knows { IfOk result (λ s. KnowsTemplates code.new s.empty_template
+        s.default_templates.items) }
+    ensures scopes { IfOk result (λ s. s.scopes ≡ outermost) }
+    ensures extends { OnOk result (Extends code.old code.new) }
+{
+    let (empty_template, default_templates) = add_templates(alloc, code)?;
+    let scopes = first_scope(alloc)?;
+    let keys = KnownKeys::new(alloc)?;
+    let imported = no_import(alloc)?;
+    Ok(Begun {
+        empty_template,
+        default_templates,
+        scopes,
+        keys,
+        imported,
+    })
+}
+
 impl Machine {
-    /// A machine of the party whose store this is, which runs nothing yet and has its outermost scope. The code gets a template more, which has nothing to do; all that had a place there keeps it. Want of memory is answered too where the code is full.
+    /// A machine of the party whose store this is, which runs nothing yet and has its outermost scope. The code gets templates more: one that has nothing to do, and the constructors of classes that have none; all that had a place there keeps it. Want of memory is answered too where the code is full.
     pub fn new(
         alloc: Global,
         code: Code,
@@ -82,13 +132,13 @@ impl Machine {
             foreign m.asked m.answer m.imported) }
     {
         let mut code = code;
-        let empty_template = add_empty(alloc, &mut code)?;
-        let scopes = first_scope(alloc)?;
-        let keys = KnownKeys::new(alloc)?;
-        let imported = Imported {
-            link: text_of(alloc, &[])?,
-            path: text_of(alloc, &[])?,
-        };
+        let Begun {
+            empty_template,
+            default_templates,
+            scopes,
+            keys,
+            imported,
+        } = start(alloc, &mut code)?;
         Ok(Machine {
             alloc,
             code,
@@ -110,6 +160,7 @@ impl Machine {
             foreign,
             common_templates,
             empty_template,
+            default_templates,
             keys,
             own_package,
             allowed,

@@ -18,16 +18,16 @@ pub struct Module {
 #[derive(Drop)]
 pub struct Package {
     /// Its canonical name.
-    pub(crate) name: Text,
+    pub name: Text,
     /// The path of its main module.
-    pub(crate) main: Text,
-    pub(crate) modules: Vec<Module>,
+    pub main: Text,
+    pub modules: Vec<Module>,
     /// The names by which it links to others.
-    pub(crate) links: Vec<Text>,
+    pub links: Vec<Text>,
     /// What the builtin `fs` gives, if it may be required.
-    pub(crate) builtin: Option<Value>,
+    pub builtin: Option<Value>,
     /// The modules that a made party was given.
-    pub(crate) mapped: Vec<(Text, Value)>,
+    pub mapped: Vec<(Text, Value)>,
 }
 
 impl Model for Package {

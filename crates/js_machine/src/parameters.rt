@@ -63,7 +63,7 @@ impl Machine {
     }
 
     /// Gives a slot a value; nothing happens where there is no such slot.
-    pub(crate) fn write_slot(&mut self, scope: u32, slot: u32, value: Value)
+    pub fn write_slot(&mut self, scope: u32, slot: u32, value: Value)
         ensures { let scopes = with_slot self.old.scopes scope slot value in
             self.new ≡ record self.old { scopes = scopes } }
     {
@@ -71,7 +71,7 @@ impl Machine {
     }
 
     /// So many arguments are taken off the stack.
-    pub(crate) fn drop_arguments(&mut self, count: u32)
+    pub fn drop_arguments(&mut self, count: u32)
         ensures { self.new ≡ record self.old { values = drop count self.old.values } }
     {
         self.discard(u64::from(count));
@@ -79,7 +79,7 @@ impl Machine {
 
     /// How many arguments there are of so many on the stack of values.
     #[tactic(auto, using(crate::proofs::Filled::all_taken, crate::proofs::Filled::all_dropped))]
-    pub(crate) fn given(&self, count: u32) -> u32
+    pub fn given(&self, count: u32) -> u32
         ensures there { result ≤ length self.now.values }
         ensures same { args_on result self.now.values ≡ args_on count self.now.values }
         ensures rest { drop result self.now.values ≡ drop count self.now.values }

@@ -1,19 +1,17 @@
 // The array of a rest parameter.
 
-ghost use Rattle.std.specs.Prelude.{◌≡◌, ◌++◌, ◌∷◌, [], IfOk, OnOk, drop, length};
+ghost use Rattle.std.specs.Prelude.{◌≡◌, IfOk, OnOk, drop};
 ghost use Rattle.js_text.specs.Naming.{naming_of};
 ghost use Rattle.js_run.specs.Functions.{array_of};
 ghost use Rattle.js_machine.specs.Made.{next_own, with_object};
 ghost use Rattle.js_machine.specs.Opened.{with_rest};
 
 use crate::machine::Machine;
-use js_operations::made_objects::make_array;
-use js_store::flat::FlatStore;
+use js_natives::arrays::add_array;
 use js_text::value::Value;
-use lava_base::ids::{ObjId, Ref};
+use lava_base::ids::Ref;
 use lava_base::list::List;
 use lava_base::memory::OutOfMemory;
-use std::alloc::Global;
 
 /// The values behind so many.
 #[tactic(auto, using(crate::proofs::Rested::none_behind))]
@@ -27,20 +25,6 @@ fn behind(values: List<Value>, count: usize) -> List<Value>
         values.truncate(0);
     }
     values
-}
-
-/// Makes an array of values (ECMA-262, CreateArrayFromList).
-fn add_array(
-    alloc: Global,
-    store: &mut FlatStore,
-    values: &List<Value>,
-) -> Result<ObjId, OutOfMemory>
-    ensures id { IfOk result (λ id. id.0 ≡ length store.old.objects) }
-    ensures made { let array = array_of (naming_of store.old.party.0) values.now in
-        OnOk result (store.new.objects ≡ store.old.objects ++ array ∷ []) }
-    ensures party { store.new.party ≡ store.old.party }
-{
-    make_array(alloc, store, values)
 }
 
 impl Machine {

@@ -1,15 +1,9 @@
-// Lists of forms, one after the other.
+// Lists of forms.
 
 ghost use Rattle.std.specs.Prelude.{◌≡◌, ◌≤◌, ◌+◌, IfOk, get_or, length};
-ghost use Rattle.js_code.specs.Decoded.{term_at, terms_of};
 ghost use Rattle.js_code.specs.Tables.{part_of};
-ghost use Rattle.js_run.specs.Control.{in_order};
-ghost use Rattle.js_machine.specs.Steps.{LeadsTo};
-ghost use Rattle.js_machine.specs.Views.{party_of};
 
-use crate::frame::{Frame, Mode};
 use crate::machine::Machine;
-use js_text::value::Value;
 use lava_base::memory::OutOfMemory;
 
 impl Machine {
@@ -33,25 +27,5 @@ impl Machine {
             return Err(OutOfMemory);
         }
         Ok(there as u32)
-    }
-
-    /// Forms in their order; the last one takes the place of the list (ECMA-262, "Block").
-    pub fn in_order(&mut self, start: u32, count: u32) -> Result<Mode, OutOfMemory>
-        ensures { let terms = terms_of self.old.code (term_at self.old.code) start count in
-            IfOk result (LeadsTo (λ a. in_order terms (party_of a self.old)) self.old self.new) }
-    {
-        let there = self.listed(start, count)?;
-        if there == 0 {
-            return self.give(Value::Undefined);
-        }
-        let first = self.number(start);
-        if there == 1 {
-            return self.replace_by(first);
-        }
-        let rest = Frame::Seq {
-            start: start + 1,
-            count: count - 1,
-        };
-        self.wait(rest, first)
     }
 }

@@ -1,15 +1,9 @@
-// How a run stops, and what is charged for.
+// How runs stop.
 
-ghost use Rattle.std.specs.Prelude.{◌≡◌, ◌+◌, ◌≤◌, nat_lt};
-ghost use Rattle.js_run.specs.Runs.{charge, is_past};
-ghost use Rattle.js_machine.specs.declared.stop.Charge.TheVariants as charge_kind;
-ghost use Rattle.js_machine.specs.declared.frame.Mode.TheVariants as mode_kind;
-ghost use Rattle.js_text.specs.Naming.{naming_of};
-ghost use Rattle.js_machine.specs.Looks.{foreign_in};
-ghost use Rattle.js_machine.specs.Stops.{ask_stop, charge_of, cost_of, stop_at, told_stop, with_steps};
+ghost use Rattle.std.specs.Prelude.{◌≡◌};
+ghost use Rattle.js_machine.specs.Stops.{told_stop, with_steps};
 
 use crate::frame::{Halt, Mode};
-use crate::machine::Machine;
 use lava_base::ids::Ref;
 
 /// What a run has left where it pauses for an answer of the outside: so many charges, and the steps
@@ -47,88 +41,6 @@ pub enum Charge {
     Lacks,
     /// It would pass the party's meter, so the run ends.
     Stops,
-}
-
-/// Whether a cost would pass a bound.
-fn passes(bound: u64, steps: u64, cost: u64) -> bool
-    ensures { result ≡ nat_lt bound (steps + cost) }
-{
-    steps > bound || cost > bound - steps
-}
-
-/// Whether a cost would pass a meter, if there is one.
-fn passes_meter(meter: Option<u64>, steps: u64, cost: u64) -> bool
-    ensures { result ≡ is_past meter (steps + cost) }
-{
-    match meter {
-        None => false,
-        Some(bound) => passes(bound, steps, cost),
-    }
-}
-
-/// A charge of so much: the meter ends the run, and else the limit refuses it.
-pub fn charge_steps(meter: Option<u64>, steps: u64, limit: u64, cost: u64) -> Charge
-    ensures charge { charge_of result ≡ charge meter steps limit cost }
-    ensures fits { result ≡ charge_kind.Charged → steps + cost ≤ limit }
-{
-    if passes_meter(meter, steps, cost) {
-        return Charge::Stops;
-    }
-    if passes(limit, steps, cost) {
-        return Charge::Lacks;
-    }
-    Charge::Charged
-}
-
-impl Machine {
-    /// What is to be paid for an ask that is decided here.
-    fn ask_cost(&self) -> Option<u32>
-        ensures { result ≡ cost_of self.now mode_kind.Ask }
-    {
-        match self.sent_to() {
-            None => Some(0),
-            Some(_) => None,
-        }
-    }
-
-    /// What is to be paid for what is next, without the one of each charge; none where nothing is
-    /// due.
-    pub fn cost(&self, mode: Mode) -> Option<u32>
-        ensures { result ≡ cost_of self.now mode }
-    {
-        match mode {
-            Mode::Eval(_) => Some(0),
-            Mode::Ask => self.ask_cost(),
-            Mode::Pay(cost) | Mode::Serve(cost) => Some(cost),
-            _ => None,
-        }
-    }
-
-    /// How a run stops at an ask.
-    fn stop_ask(&self, steps: u64) -> Stop
-        ensures { let there = foreign_in (naming_of self.now.me) self.now.asked.target in
-            result ≡ ask_stop there steps }
-    {
-        match self.sent_to() {
-            None => Stop::Short { steps },
-            Some(target) => Stop::Sent { target, steps },
-        }
-    }
-
-    /// How a run stops where nothing is charged for.
-    pub fn stop_at(&self, mode: Mode, pause: Pause) -> Stop
-        ensures { result ≡ stop_at self.now mode pause }
-    {
-        let steps = pause.steps;
-        match mode {
-            Mode::Eval(_) | Mode::Pay(_) | Mode::Serve(_) => Stop::Short { steps },
-            Mode::Ask => self.stop_ask(steps),
-            Mode::End(halt) => Stop::Stopped { halt, steps },
-            Mode::Import => Stop::Imports { steps },
-            Mode::Outside => Stop::Outside(pause),
-            _ => Stop::Gave { mode, steps },
-        }
-    }
 }
 
 impl Stop {

@@ -30,8 +30,8 @@ use Rattle.js_run.specs.Parties.{Shared}
 use Rattle.js_run.specs.Runs.{Env, answered}
 use Rattle.js_run.specs.SlotNatives.{follows_kind}
 use Rattle.js_natives.specs.Decided.{native_step}
-use Rattle.js_natives.specs.Families.{is_left_out}
 use Rattle.js_natives.specs.Deeds.{Does, MachineAct, MachineParty, acts_with, asks_kind, having, knowing, sharing}
+use Rattle.js_natives.specs.Items.{reads_items}
 use Rattle.js_natives.specs.Seen.{all_are_there, is_there, value_is_there}
 use Rattle.js_natives.specs.Steps.{MachineObjects, MachineValue, NativeStep, of_maker, waits_as}
 use Rattle.js_natives.specs.declared.next.NativeNext.TheVariants as next
@@ -147,7 +147,7 @@ module _ (me : ℕ) (objects : MachineObjects) (common : List CommonObject) (kno
   made : (which : Native) (d : MakerDecision Ref MadeSymbol × MachineObjects) → makes (naming_of me) s which d q ≡ follows_native_with (naming_of me) which waits_as (of_maker d.0, d.1) q
   made which d = same_step (naming_of me) which d.1 p next.Maker d.0
 
-  native_law : (which : Native) (vs : List MachineValue) → is_left_out which ≡ false → Are_there vs → asks_kind (naming_of me) which (step which vs).0 ≡ false
+  native_law : (which : Native) (vs : List MachineValue) → reads_items which ≡ false → Are_there vs → asks_kind (naming_of me) which (step which vs).0 ≡ false
       → Led (acts which vs) (follows which vs)
   native_law native.FromUnits vs l h k = cc
   native_law native.SortTexts vs l h k = cc
@@ -178,7 +178,7 @@ module _ (me : ℕ) (objects : MachineObjects) (common : List CommonObject) (kno
   native_law which vs l h k = led (same_step (naming_of me) which objects p next.Object (object_native which vs))
 
 pub native_does : (me : ℕ) (objects : MachineObjects) (common : List CommonObject) (known : List (Ref × Marks)) (which : Native) (vs : List MachineValue) (d : NativeStep) (after : MachineObjects)
-    → is_left_out which ≡ false → all_are_there (naming_of me) objects common vs ≡ true
+    → reads_items which ≡ false → all_are_there (naming_of me) objects common vs ≡ true
     → ((read : List ℕ → Option ℤ) → ReadsNumbers read → (find : List ℕ → List ℕ → ℕ → Option ℕ) → FindsFirst find → Says d after (native_step (naming_of me) (λ r. marks_seen (naming_of me) objects common known r) objects common read find which vs))
     → asks_kind (naming_of me) which d ≡ false
     → Does me objects common known which (acts_with which vs) d after

@@ -1,5 +1,4 @@
 -- What each native works on.
-use Rattle.std.specs.Prelude.{Bool, true, false}
 use Rattle.js_text.specs.declared.native.Native.{Native}
 use Rattle.js_text.specs.declared.native.Native.TheVariants as native
 use Rattle.js_natives.specs.declared.families.Family.{Family}
@@ -29,9 +28,3 @@ family_of native.MakeCompartment = family.Parties
 family_of native.Evaluate = family.Compartments
 family_of native.CompartmentGlobal = family.Compartments
 family_of which = family.Calls
-
--- the natives that have no decision here yet
-abbrev pub is_left_out : Native → Bool
-is_left_out native.FromUnits = true
-is_left_out native.SortTexts = true
-is_left_out which = false

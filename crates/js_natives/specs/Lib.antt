@@ -3,3 +3,4 @@ pub mod Seen
 pub mod Families
 pub mod Decided
 pub mod Deeds
+pub mod Items

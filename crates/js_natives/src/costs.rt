@@ -1,10 +1,10 @@
 // What a native costs.
 
-ghost use Rattle.std.specs.Prelude.{◌≡◌, ◌≤◌, ◌*◌, IfOk};
+ghost use Rattle.std.specs.Prelude.{◌≡◌, ◌≤◌, ◌*◌, ◌∷◌, [], IfOk};
 ghost use Rattle.js_text.specs.Naming.{naming_of};
 ghost use Rattle.js_native.specs.Costs.{native_cost};
 ghost use Rattle.js_operations.specs.Lists.{list_items};
-ghost use Rattle.js_run.specs.NativeTurns.{listed_units, units_of_items};
+ghost use Rattle.js_run.specs.NativeTurns.{listed_units, units_of_items, units_of_lists};
 
 use js_native::costs::{native_cost, units_of_values};
 use js_operations::lists::list_items;
@@ -36,7 +36,50 @@ fn units_of_items(
     Ok(units_of_values(items.as_slice()))
 }
 
-/// How many units the texts have in the arrays that a native reads. Want of memory is answered too for `makeCompartment`, which reads more than one.
+/// How many units the texts have in four arrays.
+fn units_of_four(
+    alloc: Global,
+    store: &FlatStore,
+    common: &FrozenStore,
+    names: &Value,
+    values: &Value,
+    paths: &Value,
+    modules: &Value,
+) -> Result<u64, OutOfMemory>
+    ensures units { let own = store.now in
+        let items = list_items (naming_of own.party.0) own.objects common.now in
+        let lists = names.now ∷ values.now ∷ paths.now ∷ modules.now ∷ [] in
+        IfOk result (λ n. n ≡ units_of_lists items lists) }
+    ensures short { IfOk result (λ n. n ≤ 1048576 * 17179869184) }
+{
+    let globals = units_of_items(alloc, store, common, names)?;
+    let given = units_of_items(alloc, store, common, values)?;
+    let requests = units_of_items(alloc, store, common, paths)?;
+    let mapped = units_of_items(alloc, store, common, modules)?;
+    Ok(globals + (given + (requests + mapped)))
+}
+
+/// How many units the texts have in the arrays that `makeCompartment` reads. Want of memory is answered too where these are not four.
+fn units_of_lists(
+    alloc: Global,
+    store: &FlatStore,
+    common: &FrozenStore,
+    lists: &[Value],
+) -> Result<u64, OutOfMemory>
+    ensures units { let own = store.now in
+        let items = list_items (naming_of own.party.0) own.objects common.now in
+        IfOk result (λ n. n ≡ units_of_lists items lists.now) }
+    ensures short { IfOk result (λ n. n ≤ 1048576 * 17179869184) }
+{
+    match lists {
+        [names, values, paths, modules] => {
+            units_of_four(alloc, store, common, names, values, paths, modules)
+        }
+        _ => Err(OutOfMemory),
+    }
+}
+
+/// How many units the texts have in the arrays that a native reads. Want of memory is answered too for a `makeCompartment` with another number of operands than it has.
 fn listed_units(
     alloc: Global,
     store: &FlatStore,
@@ -47,18 +90,19 @@ fn listed_units(
     ensures units { let own = store.now in
         let items = list_items (naming_of own.party.0) own.objects common.now in
         IfOk result (λ n. n ≡ listed_units items which args.now) }
-    ensures short { IfOk result (λ n. n ≤ 1048576 * 4294967296) }
+    ensures short { IfOk result (λ n. n ≤ 1048576 * 17179869184) }
 {
     match (which, args) {
         (Native::Apply | Native::Bind, [_, _, list]) => units_of_items(alloc, store, common, list),
         (Native::Construct, [_, list, _]) => units_of_items(alloc, store, common, list),
         (Native::SortTexts, [list]) => units_of_items(alloc, store, common, list),
+        (Native::MakeCompartment, [_, lists @ ..]) => units_of_lists(alloc, store, common, lists),
         (Native::MakeCompartment, _) => Err(OutOfMemory),
         _ => Ok(0),
     }
 }
 
-/// What a native costs, in steps, before it begins. Want of memory is answered too where there are more than 4,294,967,295 operands, or items of an array that it reads, and for `makeCompartment`.
+/// What a native costs, in steps, before it begins. Want of memory is answered too where there are more than 4,294,967,295 operands, or items of an array that it reads, and for a `makeCompartment` with another number of operands than it has.
 pub fn cost(
     alloc: Global,
     store: &FlatStore,

@@ -1,7 +1,7 @@
 // What each native works on.
 
 ghost use Rattle.std.specs.Prelude.{◌≡◌};
-ghost use Rattle.js_natives.specs.Families.{family_of, is_left_out};
+ghost use Rattle.js_natives.specs.Families.{family_of};
 
 use js_text::native::Native;
 
@@ -46,11 +46,4 @@ pub(crate) fn family_of(which: Native) -> Family
         Native::Evaluate | Native::CompartmentGlobal => Family::Compartments,
         _ => Family::Calls,
     }
-}
-
-/// Whether a native has no decision here yet: `fromUnits` and `sortTexts`.
-pub(crate) fn is_left_out(which: Native) -> bool
-    ensures { result ≡ is_left_out which }
-{
-    matches!(which, Native::FromUnits | Native::SortTexts)
 }

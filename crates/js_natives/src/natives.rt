@@ -8,7 +8,8 @@ ghost use Rattle.js_operations.specs.Looks.{marks_seen};
 ghost use Rattle.js_natives.specs.Decided.{native_step};
 ghost use Rattle.js_natives.specs.Deeds.{Does, acts_with, asks_here, asks_kind, is_here};
 
-use crate::families::{Family, family_of, is_left_out};
+use crate::families::{Family, family_of};
+use crate::items::{item_native, reads_items};
 use crate::makers::maker_native;
 use crate::next::NativeNext;
 use crate::objects::{call_native, telling_native};
@@ -88,7 +89,7 @@ fn asks_kind(party: u32, which: Native, decision: &Decision<NativeNext>) -> bool
     }
 }
 
-/// What a native decides once it is charged. Want of memory is answered too where a native has no decision here yet, where an operand names no object, and where `classOf` is to ask a proxy that is not a foreign one.
+/// What a native decides once it is charged. Want of memory is answered too where an operand names no object, where an item of `fromUnits` is an object, and where `classOf` is to ask a proxy that is not a foreign one.
 pub fn native(
     alloc: Global,
     store: &mut FlatStore,
@@ -102,8 +103,11 @@ pub fn native(
         which deed d store.new.objects) }
     ensures party { store.new.party ≡ store.old.party }
 {
-    if is_left_out(which) || !all_are_there(store, common, args) {
+    if !all_are_there(store, common, args) {
         return Err(OutOfMemory);
+    }
+    if reads_items(which) {
+        return item_native(alloc, store, common, which, args);
     }
     let decision = native_step(alloc, store, common, foreign, which, args)?;
     if asks_kind(store.party().0, which, &decision) {

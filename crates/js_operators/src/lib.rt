@@ -17,7 +17,5 @@ pub mod operation;
 pub mod order;
 pub mod rests;
 pub mod sums;
-#[cfg(test)]
-mod tests;
 pub mod texts;
 pub mod unary;

@@ -89,3 +89,6 @@ pub fn parse_text(alloc: Global, source: &[u8]) -> Result<Module, SyntaxFault>
 {
     parse_source(alloc, SourceKind::EvaluatedText, source)
 }
+
+/// Lets a tree go. To let one go costs a crate two minutes of proof, which this call bears for those above.
+pub fn discard(tree: Module) {}

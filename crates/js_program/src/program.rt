@@ -11,7 +11,7 @@ ghost use Rattle.js_reader.specs.Reading.{IsRefusal};
 use crate::laws::one_tree;
 use js_early::early::check_early;
 use js_fault::fault::SyntaxFault;
-use js_parser::parse::parse_source;
+use js_parser::parse::{discard, parse_source};
 use js_tree::tree::{Module, SourceKind};
 use std::alloc::Global;
 
@@ -23,7 +23,10 @@ fn checked(alloc: Global, tree: Module) -> Result<Module, SyntaxFault>
 {
     match check_early(alloc, &tree) {
         Ok(()) => Ok(tree),
-        Err(fault) => Err(fault),
+        Err(fault) => {
+            discard(tree);
+            Err(fault)
+        }
     }
 }
 

@@ -30,6 +30,11 @@ pub struct Resolved {
     pub findings: Items<Finding>,
 }
 
+impl Resolved {
+    /// Lets a source go, which costs a crate two minutes of proof.
+    pub fn discard(self) {}
+}
+
 #[cycle(walk)]
 fn walk_to(
     alloc: Global,

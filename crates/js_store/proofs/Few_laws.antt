@@ -46,6 +46,10 @@ module _ {K X : Type 0} where
       by_test true rest le = absurd (omega arith)
       by_test false rest le = rest (omega arith)
 
+  pub own_none : (test : K → Bool) (es fs : List (K × X)) → length es ≤ entries_before test es → length fs ≡ 0 → lookup test (es ++ fs) ≡ None
+  own_none test es [] h none = own_many test es [] h
+  own_none test es (f ∷ fs) h none = absurd (omega arith)
+
   -- WHAT IS WRITTEN
 
   -- one more is written at its place

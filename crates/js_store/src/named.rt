@@ -5,7 +5,9 @@ ghost use Rattle.std.specs.List.{IsDistinct, remove};
 ghost use Rattle.std.specs.Map.{keys_of, lookup, remove_entry, set_value};
 ghost use Rattle.std.specs.Option.{option_map};
 ghost use Rattle.lava_base.specs.Ids.{same_made_symbol};
+ghost use Rattle.js_text.specs.Fingerprints.{text_fingerprint};
 ghost use Rattle.js_text.specs.Values.{same_key};
+ghost use Rattle.js_text.specs.declared.value.Key.TheVariants as spelled;
 ghost use Rattle.indexmap.specs.IndexMap.{insert_entry};
 ghost use Rattle.js_store.specs.Few.{chosen, entries_before, with_value_at};
 
@@ -13,6 +15,7 @@ use indexmap::IndexMap;
 use js_desc::descriptor::Descriptor;
 use js_text::copy::copy_key;
 use js_text::same::is_same_key;
+use js_text::text::Text;
 use js_text::value::Key;
 use lava_base::list::List;
 use lava_base::memory::OutOfMemory;
@@ -62,17 +65,19 @@ impl NamedProperties {
     }
 
     /// The property of a key.
-    #[tactic(auto, using(crate::proofs::Few_laws::own_few, crate::proofs::Few_laws::own_many))]
+    #[tactic(auto, using(crate::proofs::Few_laws::own_few, crate::proofs::Few_laws::own_many, crate::proofs::Few_laws::own_none))]
     pub(crate) fn own(&self, key: &Key) -> Option<&Descriptor>
         ensures { let found = option_map (λ d. d.now) result in
             found ≡ lookup (same_key same_made_symbol key.now) self.now }
     {
         let at = place_of(&self.few, key);
         if at < self.few.len() {
-            Some(&self.few[at].1)
-        } else {
-            self.many.get(key)
+            return Some(&self.few[at].1);
         }
+        if self.many.is_empty() {
+            return None;
+        }
+        self.many.get(key)
     }
 
     /// Writes the property of a key: one that is there keeps its place, and a new one goes last.
@@ -119,8 +124,33 @@ impl NamedProperties {
 }
 
 /// Where the property of a key stands, or how many there are where it does not.
-#[tactic(auto, using(crate::proofs::Few_laws::scan_step, crate::proofs::Few_laws::scan_end))]
 fn place_of(few: &[(Key, Descriptor)], key: &Key) -> usize
+    ensures { result ≡ entries_before (same_key same_made_symbol key.now) few.now }
+{
+    match key {
+        Key::Text(text) => place_of_text(few, text),
+        _ => place_of_other(few, key),
+    }
+}
+
+/// The same of a text. Only one of the same fingerprint is compared with it.
+#[tactic(auto, using(crate::proofs::Few_laws::scan_step, crate::proofs::Few_laws::scan_end))]
+fn place_of_text(few: &[(Key, Descriptor)], text: &Text) -> usize
+    ensures { let same = same_key same_made_symbol (spelled.Text text.now) in
+        result ≡ entries_before same few.now }
+{
+    let fingerprint = text.fingerprint();
+    for at in 0..few.len() {
+        if is_key_of_text(&few[at].0, text, fingerprint) {
+            return at;
+        }
+    }
+    few.len()
+}
+
+/// The same of a key that is no text.
+#[tactic(auto, using(crate::proofs::Few_laws::scan_step, crate::proofs::Few_laws::scan_end))]
+fn place_of_other(few: &[(Key, Descriptor)], key: &Key) -> usize
     ensures { result ≡ entries_before (same_key same_made_symbol key.now) few.now }
 {
     for at in 0..few.len() {
@@ -129,6 +159,17 @@ fn place_of(few: &[(Key, Descriptor)], key: &Key) -> usize
         }
     }
     few.len()
+}
+
+/// Whether a key is this text, which has this fingerprint.
+fn is_key_of_text(key: &Key, text: &Text, fingerprint: u32) -> bool
+    requires { fingerprint ≡ text_fingerprint text.now }
+    ensures { result ≡ same_key same_made_symbol (spelled.Text text.now) key.now }
+{
+    match key {
+        Key::Text(other) => other.fingerprint() == fingerprint && text.is_same(other),
+        _ => false,
+    }
 }
 
 /// Writes the property of a key among the first ones, or those behind them.

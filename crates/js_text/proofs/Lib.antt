@@ -1,6 +1,7 @@
 pub mod Begun
 pub mod Decimals
 pub mod Encoded
+pub mod Fronts_laws
 pub mod Keys
 pub mod Length_laws
 pub mod Moves
@@ -10,4 +11,5 @@ pub mod Paths
 pub mod Pieces
 pub mod Places
 pub mod Rising
+pub mod Search_laws
 pub mod Units

@@ -1,5 +1,5 @@
 -- Where a part stands.
-use Rattle.std.proofs.Common.{◌≡◌, ℕ, ◌+◌, ◌-◌, ◌<◌, ◌≤◌, List, [], ◌∷◌, length, get_or, take, drop, ap, sym, subst, ◌∙◌, arith}
+use Rattle.std.proofs.Common.{◌≡◌, ℕ, ◌+◌, ◌-◌, ◌<◌, ◌≤◌, List, length, get_or, take, drop, ap, sym, subst, ◌∙◌, arith}
 use Rattle.std.proofs.Math.Logic.{⊎_elim}
 use Rattle.std.proofs.str.Laws.{order}
 use Rattle.std.proofs.lemmas.List.{get_or-take, get_or-drop}
@@ -9,20 +9,6 @@ module _ (units part : List ℕ) where
   pub part_at : (at : ℕ) → substring units at (at + length part) ≡ take (length part) (drop at units)
   part_at at = ap (λ n. take n (drop at units)) (let e : at + length part - at ≡ length part = omega arith in e)
 
-  -- where it stands, its first unit does
-  first_stands : (k : ℕ) → 0 < length part → StandsAt units part k → get_or units k 0 ≡ get_or part 0 0
-  first_stands k some stands =
-      let none : k ≡ k + 0 = omega arith in
-      ap (λ i. get_or units i 0) none
-      ∙ sym (get_or-drop k units 0 0)
-      ∙ sym (get_or-take (length part) (drop k units) 0 0 some)
-      ∙ ap (λ l. get_or l 0 0) (sym (part_at k) ∙ stands.1)
-
-  -- so it stands at no place where its first unit does not
-  pub apart_by_first : (low high first : ℕ) → 0 < length part → first ≡ get_or part 0 0 → ((k : ℕ) → low ≤ k → k < high → get_or units k 0 ≡ first → ⊥)
-      → (k : ℕ) → low ≤ k → k < high → ¬ (StandsAt units part k)
-  apart_by_first low high first some is apart k above below stands = apart k above below (first_stands k some stands ∙ sym is)
-
   -- it stands at no place before the next one
   pub none_before_next : (from at next : ℕ) → ((k : ℕ) → from ≤ k → k < at → ¬ (StandsAt units part k)) → ¬ (StandsAt units part at) → ((k : ℕ) → at + 1 ≤ k → k < next → ¬ (StandsAt units part k))
       → (k : ℕ) → from ≤ k → k < next → ¬ (StandsAt units part k)
@@ -31,15 +17,6 @@ module _ (units part : List ℕ) where
       (λ l. before k low l stands)
       (λ l. ⊎_elim (λ e. here (subst (StandsAt units part) (let same : k ≡ at = omega arith in same) stands)) (λ m. after k m high stands) (order k (at + 1)))
       (order k at)
-
-  -- nor at a place that leaves too few units
-  pub none_at_all : (from at : ℕ) → length units < at + length part → ((k : ℕ) → from ≤ k → k < at → ¬ (StandsAt units part k)) → (k : ℕ) → from ≤ k → ¬ (StandsAt units part k)
-  none_at_all from at last before k low stands = ⊎_elim (λ l. before k low l stands) (λ l. omega (arith, stands.0)) (order k at)
-
--- a part without units stands at every place up to the length
-pub empty_stands : (units part : List ℕ) (at : ℕ) → length part ≡ 0 → at ≤ length units → StandsAt units part at
-empty_stands units [] at none within = (omega arith, part_at units [] at)
-empty_stands units (x ∷ xs) at none within = absurd (omega arith)
 
 -- a unit that stands neither before a place nor in a piece from there on
 pub not_in_piece : (xs run : List ℕ) (from at count unit : ℕ) → run ≡ take (length run) (drop at xs) → count ≤ length run → ((k : ℕ) → from ≤ k → k < at → get_or xs k 0 ≡ unit → ⊥)

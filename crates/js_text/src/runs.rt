@@ -1,8 +1,15 @@
 // Pieces of texts, as they are stored.
 
-ghost use Rattle.std.specs.Prelude.{◌≡◌, ◌≢◌, ℕ, ◌+◌, ◌<◌, ◌≤◌, length, take, drop, slice_index};
+ghost use Rattle.std.specs.Prelude.{◌≡◌, ◌≢◌, ℕ, ◌+◌, ◌<◌, ◌≤◌, ◌↔◌, length, take, drop, slice_index, IsTrue};
 
 use crate::text::Text;
+
+/// Whether both have the same units.
+pub(crate) fn are_same(units: &[u16], others: &[u16]) -> bool
+    ensures { IsTrue result ↔ (units.now ≡ others.now) }
+{
+    units == others
+}
 
 /// How many units stand before the first one that is this one.
 pub(crate) fn count_before(units: &[u16], unit: u16) -> usize

@@ -9,7 +9,8 @@ use crate::characters::{is_lead, is_trail, lone_character, pair_character, push_
 use crate::fault::TextFault;
 use crate::fingerprint::fingerprint_of;
 use crate::rope::{copied, joined, shared};
-use crate::runs::{count_before, even_runs};
+use crate::runs::{are_same, count_before, even_runs};
+use crate::search::first_place;
 use lava_base::list::List;
 use lava_base::memory::OutOfMemory;
 use std::alloc::Global;
@@ -187,9 +188,19 @@ impl Text {
         ensures test { result ≡ same_units self.now other.now }
         ensures equal { IsTrue result ↔ (self.now ≡ other.now) }
     {
-        self.fingerprint() == other.fingerprint()
-            && self.len() == other.len()
-            && self.has_at(0, other)
+        self.fingerprint() == other.fingerprint() && self.has_same_units(other)
+    }
+
+    /// The same, without a look at the fingerprints.
+    fn has_same_units(&self, other: &Text) -> bool
+        ensures { IsTrue result ↔ (self.now ≡ other.now) }
+    {
+        match (&*self.node, &*other.node) {
+            (Node::Whole { units, .. }, Node::Whole { units: others, .. }) => are_same(
+                units, others,
+            ),
+            _ => self.len() == other.len() && self.has_at(0, other),
+        }
     }
 
     /// Whether a part that is not too long for it stands at a place.
@@ -235,19 +246,11 @@ impl Text {
         if wanted == 0 {
             return Some(from);
         }
-        let first = part.unit(0);
-        let mut at = self.next_place(from, first);
-        while at <= len - wanted {
-            if self.has_at(at, part) {
-                return Some(at);
-            }
-            at = self.next_place(at + 1, first);
-        }
-        None
+        first_place(self, part, from)
     }
 
     /// The first place at `from` or after it where the unit stands, or the length.
-    fn next_place(&self, from: u32, unit: u16) -> u32
+    pub(crate) fn next_place(&self, from: u32, unit: u16) -> u32
         requires { from ≤ length self.now }
         ensures bound { (from ≤ result) × (result ≤ length self.now) }
         ensures before { (k : ℕ) → from ≤ k → k < result → slice_index self.now k ≢ unit }

@@ -22,6 +22,7 @@ use js_desc::reply::Reply;
 use js_machine::frame::{Halt, Mode};
 use js_machine::own::Left;
 use js_machine::stop::Stop;
+use js_machine_run::run::run;
 use lava_base::ids::Ref;
 use lava_base::memory::OutOfMemory;
 
@@ -61,8 +62,14 @@ impl World {
         if left >= u64::MAX - steps {
             return Err(OutOfMemory);
         }
-        self.machine
-            .run(is_host(party), None, steps + left, steps, mode)
+        run(
+            &mut self.machine,
+            is_host(party),
+            None,
+            steps + left,
+            steps,
+            mode,
+        )
     }
 
     /// An ask leaves the party in the machine, and the body that sent it waits.

@@ -13,6 +13,7 @@ use crate::leads::{Lead, lead_of};
 use crate::world::World;
 use js_machine::asked::Imported;
 use js_machine::frame::Mode;
+use js_machine_modules::imports::{import, sent_import};
 use js_text::text::Text;
 use lava_base::list::List;
 use lava_base::memory::OutOfMemory;
@@ -46,7 +47,7 @@ impl World {
         ensures sent { OnOk result (self.new ≡ import_away steps self.old) }
     {
         let party = self.machine.party().0;
-        let imported = self.machine.sent_import()?;
+        let imported = sent_import(&self.machine)?;
         self.charge(party, steps)?;
         self.set_aside()?;
         Ok(imported)
@@ -59,7 +60,7 @@ impl World {
             IfOk result (IsImported x.link x.path self.old.machine self.new.machine) }
         ensures rest { OnOk result (self.new ≡ record self.old { machine = self.new.machine }) }
     {
-        self.machine.import(&imported.link, &imported.path)
+        import(&mut self.machine, &imported.link, &imported.path)
     }
 
     /// A party runs what another one imports from it.

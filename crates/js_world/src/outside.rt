@@ -7,6 +7,8 @@ use crate::ending::Turn;
 use crate::world::World;
 use js_machine::outside::HostAnswer;
 use js_machine::stop::{Pause, Stop};
+use js_machine_modules::outside::answer_outside;
+use js_machine_run::run::run_on;
 use lava_base::memory::OutOfMemory;
 
 impl World {
@@ -20,8 +22,8 @@ impl World {
         if self.machine.party().0 as usize >= self.others.len() {
             return Err(OutOfMemory);
         }
-        let mode = self.machine.answer_outside(answer)?;
-        self.machine.run_on(None, pause, mode)
+        let mode = answer_outside(&mut self.machine, answer)?;
+        run_on(&mut self.machine, None, pause, mode)
     }
 
     /// The outside answers the newest call of the party in the machine, at which a crossing paused,

@@ -5,11 +5,11 @@ ghost use Rattle.std.specs.Prelude.{◌≡◌, IfOk, OnErr};
 ghost use Rattle.lava.specs.Ends.{IsAnswer};
 
 use lava_cli::command::{lava, refuse};
-use lava_cli::real_clock::RealClock;
-use lava_cli::real_folder::RealFolder;
-use lava_cli::real_sink::RealSink;
-use lava_cli::real_source::RealSource;
 use lava_streams::sink::Sink;
+use lava_system::real_clock::RealClock;
+use lava_system::real_folder::RealFolder;
+use lava_system::real_sink::RealSink;
+use lava_system::real_source::RealSource;
 use std::io::BufReader;
 use std::process::ExitCode;
 use std::rt::{Clock, Env, Files};

@@ -1,3 +1,1 @@
 mod Comes
-mod LineLemmas
-mod PieceLemmas

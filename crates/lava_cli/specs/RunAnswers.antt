@@ -28,16 +28,16 @@ use Rattle.policy_row.specs.Names.{file_name, shown_word, what_name}
 use Rattle.policy_row.specs.declared.fault.PolicyFile.{PolicyFile}
 use Rattle.policy_row.specs.declared.fault.PolicyWhat.{PolicyWhat}
 use Rattle.ses_prelude.specs.Preludes.{IsPreludeFault, prelude}
-use Rattle.lava_cli.specs.Loads.{CountsLoading, IsLoading}
+use Rattle.lava_loading.specs.Loads.{CountsLoading, IsLoading}
 use Rattle.lava_cli.specs.Words.{Asked, Runs, Trees, command_of}
-use Rattle.lava_cli.specs.declared.loading.LoadedApplication.{LoadedApplication}
-use Rattle.lava_cli.specs.declared.loading.LoadingFault.{LoadingFault}
-use Rattle.lava_cli.specs.declared.loading.LoadingFault.TheVariants as loading
+use Rattle.lava_loading.specs.declared.loading.LoadedApplication.{LoadedApplication}
+use Rattle.lava_loading.specs.declared.loading.LoadingFault.{LoadingFault}
+use Rattle.lava_loading.specs.declared.loading.LoadingFault.TheVariants as loading
 use Rattle.lava_cli.specs.declared.outcome.Ended.{Ended}
 use Rattle.lava_cli.specs.declared.outcome.RunOutcome.{RunOutcome}
 use Rattle.lava_cli.specs.declared.outcome.RunOutcome.TheVariants as outcome
-use Rattle.lava_cli.specs.declared.policies.PoliciesFault.{PoliciesFault}
-use Rattle.lava_cli.specs.declared.policies.PoliciesFault.TheVariants as policies
+use Rattle.lava_loading.specs.declared.policies.PoliciesFault.{PoliciesFault}
+use Rattle.lava_loading.specs.declared.policies.PoliciesFault.TheVariants as policies
 use Rattle.lava_cli.specs.declared.run_report.TheConstants as words
 
 -- WHERE A RUN ENDED

@@ -1,9 +1,9 @@
 // How a run of a folder ends.
 
-use crate::policies::PoliciesFault;
 use js_fault::fault::SyntaxWhat;
 use lava_base::name::Name;
 use lava_base::place::Place;
+use lava_loading::policies::PoliciesFault;
 use lava_runner::app::Report;
 use pkg_graph::fault::GraphFault;
 use pkg_load::fault::LoadFault;

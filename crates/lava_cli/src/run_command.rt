@@ -4,12 +4,12 @@ ghost use Rattle.std.specs.Prelude.{◌≡◌, IfOk};
 ghost use Rattle.lava_host.specs.Hosts.{host_world};
 ghost use Rattle.lava_cli.specs.RunAnswers.{EndsAs, RunComes, RunsOf, ended_in, party_name};
 
-use crate::loading::{LoadedApplication, LoadingFault, load_application};
 use crate::outcome::{Ended, RunOutcome};
 use js_world::ending::Ending;
 use lava_base::memory::OutOfMemory;
 use lava_base::name::Name;
 use lava_lines::status::{HOST_PARTY, ROOT_PACKAGE};
+use lava_loading::loading::{LoadedApplication, LoadingFault, load_application};
 use lava_runner::app::{Mode, Report, run_app};
 use lava_runner::common::RunFault;
 use lava_streams::clock::Clock;
@@ -102,9 +102,13 @@ pub fn run_directory<F: Folder, I: Source, O: Sink, E: Sink, C: Clock>(
         RunComes mode directory.now budget before after result }
 {
     match load_application(alloc, directory, folder) {
-        Ok(loaded) => run_loaded(
-            alloc, &loaded, mode, directory, budget, folder, input, out, err, clock,
-        ),
+        Ok(loaded) => {
+            let outcome = run_loaded(
+                alloc, &loaded, mode, directory, budget, folder, input, out, err, clock,
+            );
+            loaded.discard();
+            outcome
+        }
         Err(LoadingFault::Graph(fault)) => RunOutcome::Graph(fault),
         Err(LoadingFault::Policies(fault)) => RunOutcome::Policies(fault),
         Err(LoadingFault::Load(fault)) => RunOutcome::Load(fault),

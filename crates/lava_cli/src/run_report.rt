@@ -5,7 +5,6 @@ ghost use Rattle.policy_row.specs.Names.{shown_word};
 ghost use Rattle.lava_cli.specs.RunAnswers as spec;
 
 use crate::outcome::{Ended, RunOutcome};
-use crate::policies::PoliciesFault;
 use js_fault::fault::SyntaxWhat;
 use js_machine::frame::Halt;
 use js_world::ending::Ending;
@@ -23,6 +22,7 @@ use lava_lines::status::{
     BUDGET_STATUS, DONE_STATUS, LIMIT_STATUS, LOADING_STATUS, MEMORY_STATUS, OUTSIDE_STATUS,
     POLICY_STATUS, UNCAUGHT_STATUS,
 };
+use lava_loading::policies::PoliciesFault;
 use lava_streams::sink::Sink;
 use pkg_graph::fault::GraphFault;
 use pkg_graph::limits::FILE;

@@ -2,11 +2,11 @@
 
 use crate::fault::Fault;
 use crate::shown::{meant, number, show};
-use lava_cli::real_clock::RealClock;
-use lava_cli::real_folder::RealFolder;
 use lava_streams::clock::Clock;
 use lava_streams::fault::ReadFault;
 use lava_streams::folder::{FileRead, Folder, Listing};
+use lava_system::real_clock::RealClock;
+use lava_system::real_folder::RealFolder;
 use std::alloc::Global;
 use std::{env, fs};
 

@@ -2,8 +2,8 @@
 
 use crate::fault::Fault;
 use crate::streams::{answers, outcomes};
-use lava_cli::real_sink::RealSink;
-use lava_cli::real_source::RealSource;
+use lava_system::real_sink::RealSink;
+use lava_system::real_source::RealSource;
 use std::alloc::Global;
 use std::io;
 use std::io::{BufReader, ErrorKind, Read, Write};

@@ -3,13 +3,13 @@
 use crate::fault::Fault;
 use crate::files::new_path;
 use crate::shown::{meant, show};
-use lava_cli::real_clock::RealClock;
-use lava_cli::real_sink::RealSink;
-use lava_cli::real_source::RealSource;
 use lava_streams::clock::Clock;
 use lava_streams::fault::{Failed, ReadFault};
 use lava_streams::sink::Sink;
 use lava_streams::source::{LINE_LIMIT, Line, Source};
+use lava_system::real_clock::RealClock;
+use lava_system::real_sink::RealSink;
+use lava_system::real_source::RealSource;
 use std::alloc::Global;
 use std::fs;
 use std::fs::OpenOptions;

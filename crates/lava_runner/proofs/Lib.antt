@@ -1,5 +1,3 @@
-pub mod Underway
 pub mod In_range
-pub mod Tracing
-pub mod Traced_whole
+pub mod Calling
 pub mod Reported

@@ -9,6 +9,7 @@ use Rattle.lava_base.specs.declared.marks.Marks.{Marks}
 use Rattle.js_text.specs.Naming.{Origin, Own, Common, Foreign, naming_of, origin_of}
 use Rattle.js_store.specs.Foreign.{marks_of}
 use Rattle.js_store.specs.Objects.{object_at}
+use Rattle.js_host_laws.specs.Calls.{Gone_at_the_newest, Host_calls_are_crossings}
 use Rattle.js_run.specs.Heap as heap
 use Rattle.js_run.specs.Heap.{Over_with, World, begins}
 use Rattle.js_run.specs.Completions as halt
@@ -17,6 +18,7 @@ use Rattle.js_run.specs.Laws.{IsWellMade, Journal_is_net}
 use Rattle.js_run.specs.Parties.{Party}
 use Rattle.js_run.specs.Laws as laws
 use Rattle.js_run.specs.Net.{net}
+use Rattle.js_run.specs.Starts.{host_party}
 use Rattle.js_machine.specs.Begun as begun
 use Rattle.js_machine.specs.Begun.{own_of}
 use Rattle.js_machine.specs.Looks.{marks_at, marks_in}
@@ -39,15 +41,16 @@ use Rattle.pkg_source.specs.declared.code.ModuleCode.{ModuleCode}
 use Rattle.policy_row.specs.Rows.{Rows}
 use Rattle.lava_runner.specs.Commons.{IsCommonPart}
 use Rattle.lava_runner.specs.Packages.{parts_from, run_parts}
-use Rattle.lava_runner.specs.Ran.{AreAskedIn, BeginsSo, HasRun, IsAskedIn}
+use Rattle.lava_driver.specs.Ran.{AreAskedIn, BeginsSo, HasRun, IsAskedIn}
 use Rattle.lava_runner.specs.Reports.{EndsSo, HasReport, HasRunFrom, HasTraceReport, HasTracedFrom, IsApplicationOf, IsEmittedRun, IsFirstOf, IsReportOf, IsTracedRun, IsUncaughtText, party_names, traced_as, uncaught_text}
-use Rattle.lava_runner.specs.Talks.{Agrees, Talk, newest_failed}
-use Rattle.lava_runner.specs.Traces.{HasTraced, PutsText, ending_told, trace_text}
+use Rattle.lava_driver.specs.Talks.{Agrees, Talk, newest_failed}
+use Rattle.lava_driver.specs.Traces.{HasTraced, PutsText, ending_told, trace_text}
 use Rattle.lava_runner.specs.Uncaught.{IsUncaughtIn, Thrown, host_marks, marks_there, shown, thrown_in, uncaught_of}
 use Rattle.lava_runner.specs.declared.app.Report.{Report}
 use Rattle.lava_runner.specs.declared.common.CommonPart.{CommonPart}
-use Rattle.lava_runner.specs.declared.run.Ran.{Ran}
-use Rattle.lava_runner.specs.declared.trace_run.Traced.{Traced}
+use Rattle.lava_driver.specs.declared.run.Ran.{Ran}
+use Rattle.lava_driver.specs.declared.trace_run.Traced.{Traced}
+use Rattle.lava_runner.proofs.Calling.{are_called}
 use Rattle.lava_runner.proofs.In_range.{parts_in_range}
 
 -- THE APPLICATION BEGINS AS THE FIRST WORLD RESTS
@@ -59,6 +62,10 @@ asked_in : (parts : RunParts) (budget : ℕ) (v : WorldView) (f : IsFirstWorld p
 asked_in parts budget v f [] a = tt
 asked_in parts budget v f (t ∷ ts) a =
     ((λ app b g e. subst (λ n. (c : ℕ) × ((heap.heap app n c).control ≡ Over_with (Fault t.party halt.Outside))) f.limit (a.0 app (begins_so parts budget v f app b) g e)), asked_in parts budget v f ts a.1)
+
+-- the host stands first
+host_first : (parts : RunParts) (app : Application) → IsApplicationOf parts app → app.own 0 ≡ host_party
+host_first parts app a = ap (λ (x : Application). x.own 0) a.is
 
 -- WHAT NOTHING CAUGHT
 
@@ -112,37 +119,40 @@ first_over r c packages ms policy budget sources templates slice e t s h =
     in
     subst (λ ps. IfOk r (IsFirstWorld (record { common = c.objects; templates = c.templates; packages = ps }) budget)) e made
 
-ends_so : Journal_is_net → Runs_are_well_made → (parts : RunParts) (budget crossings : ℕ) (last : WorldView) (ran : Ran) (r : Report) → AllInRange parts.packages → IsReportOf last ran r → (app : Application) → IsApplicationOf parts app
+ends_so : Journal_is_net → Host_calls_are_crossings → Runs_are_well_made → (parts : RunParts) (budget crossings : ℕ) (last : WorldView) (ran : Ran) (r : Report) → AllInRange parts.packages → IsReportOf last ran r → (app : Application) → IsApplicationOf parts app
     → IsOver app (heap.heap app budget crossings) last ran.ending → EndsSo app budget crossings r
-ends_so law made parts budget n last ran r range s app a over =
+ends_so law calls made parts budget n last ran r range s app a over =
     let is : (heap.heap app budget n).control ≡ Over_with (ending_of r.ending) = over.control ∙ ap (λ e. Over_with (ending_of e)) (sym s.ending) in
     let well = subst IsWellMade (sym a.is) (made parts a.surroundings range) in
     record {
       machine = is;
       network = sym (law app well budget n).ending ∙ ap laws.ending_of is;
       uncaught = uncaught_so app (heap.heap app budget n) last ran.ending r.uncaught over.answer s.uncaught ∙ ap (λ e. uncaught_text e (uncaught_of app (heap.heap app budget n))) (sym s.ending);
+      crossed = λ plain. calls app (host_first parts app a) budget n (ending_of r.ending) (ap laws.ending_of is) plain;
     }
 
-pub is_run : {E : Type 0} → Journal_is_net → Runs_are_well_made → (k : Result Report E) (dir : List ℕ) (loaded : loads.Application ModuleCode) (policy : Rows) (budget : ℕ) (before after : HostWorld) (c : CommonPart)
+pub is_run : {E : Type 0} → Journal_is_net → Host_calls_are_crossings → Gone_at_the_newest → Runs_are_well_made → (k : Result Report E) (dir : List ℕ) (loaded : loads.Application ModuleCode) (policy : Rows) (budget : ℕ) (before after : HostWorld) (c : CommonPart)
     → IsCommonPart c → IfOk k (HasRunFrom true dir loaded.packages loaded.modules policy c budget before after) → IfOk k (IsEmittedRun dir loaded policy budget before after)
-is_run law made (Err e) dir loaded policy budget before after c part run = run
-is_run law made (Ok r) dir loaded policy budget before after c part run =
+is_run law calls gone made (Err e) dir loaded policy budget before after c part run = run
+is_run law calls gone made (Ok r) dir loaded policy budget before after c part run =
     let first = run.first in
     let f = run.is in
     let h = run.report in
     let come = h.runs.come in
     let parts = run_parts c loaded.packages loaded.modules policy in
     let range = parts_in_range loaded.packages loaded.modules policy 0 loaded.packages in
+    let are_asked = asked_in parts budget first f come.talks come.asked in
     record {
       common = c;
       part = part;
       talks = come.talks;
       outside = come.outside;
       which = h.report.which ∙ come.newest;
-      asked = asked_in parts budget first f come.talks come.asked;
+      asked = are_asked;
+      called = are_called gone (IsApplicationOf parts) (host_first parts) budget come.talks are_asked;
       crossings = suc come.underway.crossings;
       ends = λ app a g.
-          ends_so law made parts budget (suc come.underway.crossings) h.last h.ran r range h.report app a
+          ends_so law calls made parts budget (suc come.underway.crossings) h.last h.ran r range h.report app a
           (subst (λ b. IsOver app (heap.heap app b (suc come.underway.crossings)) h.last h.ran.ending) f.limit (come.underway.after app (begins_so parts budget first f app a) g));
     }
 
@@ -162,10 +172,10 @@ trace_report (Err e) parties dir first last before after traced h s = tt
 as_ran : (last : WorldView) (t : Traced) (ran : Ran) (r : Report) → t.ending ≡ ran.ending → IsReportOf last (traced_as t) r → IsReportOf last (record { ending = ran.ending; failed = t.failed }) r
 as_ran last t ran r e s = record { ending = s.ending ∙ e; which = s.which; uncaught = subst (λ x. IsUncaughtText last x r.uncaught) e s.uncaught }
 
-pub is_traced : {E : Type 0} → Journal_is_net → Runs_are_well_made → (k : Result Report E) (dir : List ℕ) (loaded : loads.Application ModuleCode) (policy : Rows) (budget : ℕ) (before after : HostWorld) (c : CommonPart)
+pub is_traced : {E : Type 0} → Journal_is_net → Host_calls_are_crossings → Gone_at_the_newest → Runs_are_well_made → (k : Result Report E) (dir : List ℕ) (loaded : loads.Application ModuleCode) (policy : Rows) (budget : ℕ) (before after : HostWorld) (c : CommonPart)
     → IsCommonPart c → IfOk k (HasTracedFrom dir loaded.packages loaded.modules policy c budget before after) → IfOk k (IsTracedRun dir loaded policy budget before after)
-is_traced law made (Err e) dir loaded policy budget before after c part run = run
-is_traced law made (Ok r) dir loaded policy budget before after c part run =
+is_traced law calls gone made (Err e) dir loaded policy budget before after c part run = run
+is_traced law calls gone made (Ok r) dir loaded policy budget before after c part run =
     let first = run.first in
     let f = run.is in
     let h = run.report in
@@ -174,6 +184,7 @@ is_traced law made (Ok r) dir loaded policy budget before after c part run =
     let names = party_names loaded.packages in
     let parts = run_parts c loaded.packages loaded.modules policy in
     let range = parts_in_range loaded.packages loaded.modules policy 0 loaded.packages in
+    let are_asked = asked_in parts budget first f come.talks come.asked in
     let n = suc come.underway.crossings in
     let ran : Ran = record { ending = t.ran.ending; failed = h.traced.failed } in
     let s = as_ran h.last h.traced t.ran r t.ending h.report in
@@ -183,7 +194,8 @@ is_traced law made (Ok r) dir loaded policy budget before after c part run =
       talks = come.talks;
       mid = t.mid;
       outside = come.outside;
-      asked = asked_in parts budget first f come.talks come.asked;
+      asked = are_asked;
+      called = are_called gone (IsApplicationOf parts) (host_first parts) budget come.talks are_asked;
       told = t.told;
       tells = ap (λ e. ending_told (ending_of e)) s.ending ∙ t.tells;
       text = t.text;
@@ -193,7 +205,7 @@ is_traced law made (Ok r) dir loaded policy budget before after c part run =
       ends = λ app a g.
           record {
             ends =
-                ends_so law made parts budget n h.last ran r range s app a
+                ends_so law calls made parts budget n h.last ran r range s app a
                 (subst (λ b. IsOver app (heap.heap app b n) h.last t.ran.ending) f.limit (come.underway.after app (begins_so parts budget first f app a) g));
             trace = t.is app (begins_so parts budget first f app a) g ∙ ap (λ b. trace_text names app (heap.heap app b n) t.told) f.limit;
           };

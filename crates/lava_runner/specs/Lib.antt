@@ -1,6 +1,4 @@
-pub mod Ran
-pub mod Talks
-pub mod Traces
+pub mod Called
 pub mod Commons
 pub mod Modules
 pub mod Packages

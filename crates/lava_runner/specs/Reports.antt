@@ -1,6 +1,7 @@
 -- The run of an application, and the report on it.
 use Rattle.std.specs.Prelude.{◌≡◌, ℕ, Bool, true, false, List, ◌∷◌, map, Option, Some, None}
 use Rattle.js_desc.specs.declared.ending.Ending as desc
+use Rattle.js_host_laws.specs.Calls.{ArePlain, Calls_are_crossings}
 use Rattle.js_run.specs.Heap.{Over_with, World, heap}
 use Rattle.js_run.specs.Journal.{Application}
 use Rattle.js_run.specs.Net.{net}
@@ -17,17 +18,18 @@ use Rattle.pkg_source.specs.declared.code.ModuleCode.{ModuleCode}
 use Rattle.policy_row.specs.Rows.{Rows}
 use Rattle.lava_runner.specs.Commons.{IsCommonPart}
 use Rattle.lava_runner.specs.Packages.{run_parts}
-use Rattle.lava_runner.specs.Ran.{AreAskedIn, HasRun}
-use Rattle.lava_runner.specs.Talks.{Agrees, AreTalks, Talk, newest_failed}
+use Rattle.lava_driver.specs.Ran.{AreAskedIn, HasRun}
+use Rattle.lava_driver.specs.Talks.{Agrees, AreTalks, Talk, newest_failed}
+use Rattle.lava_runner.specs.Called.{AreCalledIn}
 use Rattle.lava_runner.specs.Uncaught.{IsUncaughtIn, uncaught_of}
-use Rattle.lava_runner.specs.Traces.{HasTraced, PutsText, ending_told, trace_text}
+use Rattle.lava_driver.specs.Traces.{HasTraced, PutsText, ending_told, trace_text}
 use Rattle.lava_runner.specs.declared.app.Mode.{Mode}
 use Rattle.lava_runner.specs.declared.app.TheConstants.{HOST_NAME}
 use Rattle.lava_runner.specs.declared.app.Mode.TheVariants as mode
 use Rattle.lava_runner.specs.declared.app.Report.{Report}
 use Rattle.lava_runner.specs.declared.common.CommonPart.{CommonPart}
-use Rattle.lava_runner.specs.declared.run.Ran.{Ran}
-use Rattle.lava_runner.specs.declared.trace_run.Traced.{Traced}
+use Rattle.lava_driver.specs.declared.run.Ran.{Ran}
+use Rattle.lava_driver.specs.declared.trace_run.Traced.{Traced}
 
 -- the machine of all parties before a run of these packages
 abbrev pub IsFirstOf : List Package → List (LoadedModule ModuleCode) → Rows → CommonPart → (budget : ℕ) → WorldView → Type 0
@@ -70,13 +72,14 @@ pub record HasRunFrom (emit : Bool) (dir : List ℕ) (packages : List Package) (
   pub is : IsFirstOf packages ms policy c budget first
   pub report : HasReport emit dir first before after r
 
--- so many crossings after its first import the run of an application is over: so the machine of all parties says, and the network
+-- so many crossings after its first import the run of an application is over: so the machine of all parties says, and the network. Where the host was asked plainly, its calls of the outside are the Calls at its functions in the journal, each answered there by what the outside told
 pub record EndsSo (app : Application) (budget crossings : ℕ) (r : Report) : Type 0 where
   pub machine : (heap app budget crossings).control ≡ Over_with (ending_of r.ending)
   pub network : (net app budget crossings).ending ≡ Some (ending_of r.ending)
   pub uncaught : r.uncaught ≡ uncaught_text r.ending (uncaught_of app (heap app budget crossings))
+  pub crossed : ArePlain app (heap app budget crossings).journal → Calls_are_crossings app (heap app budget crossings) (ending_of r.ending)
 
--- the run of an application, whose packages have what its merged policy grants them: what it asks of the host, each in its turn, is what was done to the outside, and in each application whose outside answers so it ends with this report
+-- the run of an application, whose packages have what its merged policy grants them: what it asks of the host, each in its turn, is what was done to the outside, and what its journal says (`Called`), and in each application whose outside answers so it ends with this report
 pub record IsEmittedRun (dir : List ℕ) (app : loads.Application ModuleCode) (policy : Rows) (budget : ℕ) (before after : HostWorld) (r : Report) : Type 0 where
   pub common : CommonPart
   pub part : IsCommonPart common
@@ -84,6 +87,7 @@ pub record IsEmittedRun (dir : List ℕ) (app : loads.Application ModuleCode) (p
   pub outside : AreTalks true dir talks before after
   pub which : r.which ≡ newest_failed talks
   pub asked : AreAskedIn (IsApplicationOf (run_parts common app.packages app.modules policy)) budget talks
+  pub called : AreCalledIn (IsApplicationOf (run_parts common app.packages app.modules policy)) budget talks
   pub crossings : ℕ
   pub ends : (a : Application) → IsApplicationOf (run_parts common app.packages app.modules policy) a → Agrees a talks → EndsSo a budget crossings r
 
@@ -121,6 +125,7 @@ pub record IsTracedRun (dir : List ℕ) (app : loads.Application ModuleCode) (po
   pub mid : HostWorld
   pub outside : AreTalks false dir talks before mid
   pub asked : AreAskedIn (IsApplicationOf (run_parts common app.packages app.modules policy)) budget talks
+  pub called : AreCalledIn (IsApplicationOf (run_parts common app.packages app.modules policy)) budget talks
   pub told : desc.Ending
   pub tells : ending_told (ending_of r.ending) ≡ Some told
   pub text : List ℕ

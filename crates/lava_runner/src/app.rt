@@ -4,21 +4,23 @@ ghost use Rattle.std.specs.Prelude.{◌≡◌, ◌++◌, [], map, IfOk, OnOk, Ma
 ghost use Rattle.lava_host.specs.Hosts.{host_world};
 ghost use Rattle.lava_start.specs.Firsts.{IsFirstWorld};
 ghost use Rattle.lava_runner.specs.Commons.{HasRunCause, IsCommonPart};
-ghost use Rattle.lava_runner.specs.Ran.{HasRun};
+ghost use Rattle.lava_driver.specs.Ran.{HasRun};
 ghost use Rattle.lava_runner.specs.Reports.{HasReport, HasRunFrom, HasTraceReport, HasTracedFrom, IsEmittedRun, IsFirstOf, IsReportOf, IsRunOf, IsTracedRun, IsUncaughtText, party_names};
 ghost use Rattle.pkg_graph.specs.declared.graph.Package.{Package};
 
 use crate::common::{CommonPart, RunFault, common_part};
 use crate::packages::packages_of;
-use crate::run::{Ran, run};
-use crate::trace_run::trace_run;
 use crate::uncaught::uncaught;
+use js_host_laws::{gone_at_the_newest, host_calls_are_crossings};
 use js_run_laws::journal_is_net;
 use js_world::ending::Ending;
 use js_world::world::World;
+use js_world_end::discard;
 use lava_base::list::List;
 use lava_base::memory::OutOfMemory;
 use lava_base::name::Name;
+use lava_driver::run::{Ran, run};
+use lava_driver::trace_run::trace_run;
 use lava_host::fault::Which;
 use lava_start::first::first_world;
 use lava_start::laws::runs_are_well_made;
@@ -151,7 +153,9 @@ fn run_packages<F: Folder, I: Source, O: Sink, E: Sink, C: Clock>(
         IfOk result (run before after) }
 {
     let mut world = first_of(alloc, packages, modules, policy, common, budget)?;
-    run_world(alloc, &mut world, emit, dir, folder, input, out, err, clock)
+    let report = run_world(alloc, &mut world, emit, dir, folder, input, out, err, clock);
+    discard(world);
+    report
 }
 
 /// The names of all parties: the host, and the packages behind it.
@@ -227,9 +231,11 @@ fn trace_packages<F: Folder, I: Source, O: Sink, E: Sink, C: Clock>(
 {
     let names = names_of(alloc, packages)?;
     let mut world = first_of(alloc, packages, modules, policy, common, budget)?;
-    trace_world(
+    let report = trace_world(
         alloc, &mut world, &names, dir, folder, input, out, err, clock,
-    )
+    );
+    discard(world);
+    report
 }
 
 /// Runs an application over a common part, and prints what it prints.
@@ -254,6 +260,8 @@ fn run_emitted<F: Folder, I: Source, O: Sink, E: Sink, C: Clock>(
         IfOk result (IsEmittedRun dir.now app.now policy.now budget before after) }
 {
     journal_is_net();
+    host_calls_are_crossings();
+    gone_at_the_newest();
     runs_are_well_made();
     run_packages(
         alloc,
@@ -294,6 +302,8 @@ fn run_with_trace<F: Folder, I: Source, O: Sink, E: Sink, C: Clock>(
         IfOk result (IsTracedRun dir.now app.now policy.now budget before after) }
 {
     journal_is_net();
+    host_calls_are_crossings();
+    gone_at_the_newest();
     runs_are_well_made();
     trace_packages(
         alloc,

@@ -63,7 +63,10 @@ fn module_of_names(alloc: Global, resolved: Resolved) -> Result<ModuleRead<Modul
             requests,
             code: ModuleCode::Source(resolved),
         }),
-        Err(OutOfMemory) => Err(OutOfMemory),
+        Err(OutOfMemory) => {
+            resolved.discard();
+            Err(OutOfMemory)
+        }
     }
 }
 

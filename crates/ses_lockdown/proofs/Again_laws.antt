@@ -36,6 +36,7 @@ use Rattle.ses_lockdown.proofs.Locked_laws.{at_locked}
 
 tamed_accessor : (s : Stands) (get set : Option Ref) (e c : Bool) → tamed s (Accessor get set e c) ≡ Accessor get set e c
 tamed_accessor stands.OwnName get set e c = refl
+tamed_accessor stands.OwnLength get set e c = refl
 tamed_accessor (stands.Object p) get set e c = refl
 tamed_accessor (stands.Tamed p) get set e c = refl
 tamed_accessor (stands.NameOf p) get set e c = refl
@@ -47,6 +48,7 @@ tamed_accessor (stands.Read p) get set e c = refl
 tamed_twice : (s : Stands) (d : Property) → tamed s (fixed (tamed s d)) ≡ fixed (tamed s d)
 tamed_twice s (Accessor get set e c) = ap (λ d. tamed s (fixed d)) (tamed_accessor s get set e c) ∙ tamed_accessor s get set e false ∙ ap fixed (sym (tamed_accessor s get set e c))
 tamed_twice stands.OwnName (Data v w e c) = refl
+tamed_twice stands.OwnLength (Data v w e c) = refl
 tamed_twice (stands.Object p) (Data v w e c) = refl
 tamed_twice (stands.Tamed p) (Data v w e c) = refl
 tamed_twice (stands.NameOf p) (Data v w e c) = refl

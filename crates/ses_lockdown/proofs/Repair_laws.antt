@@ -128,6 +128,7 @@ row_ordinary (p ∷ ps) n (suc k) h a = row_ordinary ps (suc n) k (both_hold (co
 
 tamed_is : (s : Stands) (v : Value Ref MadeSymbol) (w e c : Bool) → tamed s (Data v w e c) ≡ Data (tamed_value s v) w e c
 tamed_is stands.OwnName v w e c = refl
+tamed_is stands.OwnLength v w e c = refl
 tamed_is (stands.Object p) v w e c = refl
 tamed_is (stands.Tamed p) v w e c = refl
 tamed_is (stands.NameOf p) v w e c = refl

@@ -1,5 +1,5 @@
 -- The intrinsics: the common objects before lockdown.
-use Rattle.std.specs.Prelude.{ℕ, true, false, List, [], map, Option, Some, None, get_or, pos, ◌++◌, ◌∷◌}
+use Rattle.std.specs.Prelude.{ℕ, true, false, List, [], map, Option, Some, None, get_or, ℤ, pos, ◌++◌, ◌∷◌}
 use Rattle.std.specs.List.{range_with_len}
 use Rattle.std.specs.Option.{option_map}
 use Rattle.lava_base.specs.declared.ids.MadeSymbol.{MadeSymbol}
@@ -16,12 +16,14 @@ use Rattle.js_store.specs.Frozen.{CommonObject, common_at, common_ref}
 use Rattle.js_store.specs.Objects.{at_place, fresh, plain_marks, with_replaced, with_slot}
 use Rattle.js_store.specs.declared.slot.Slot.{Slot}
 use Rattle.js_store.specs.declared.slot.Slot.TheVariants as slot
-use Rattle.ses_lockdown.specs.Lockdown.{Obj, Property, own_at, with_permits, common_slot}
+use Rattle.ses_lockdown.specs.Lockdown.{Obj, Property, own_at, with_permits, common_slot, role_at}
 use Rattle.ses_lockdown.specs.Permits.{Permit, permits, place_at, count}
 use Rattle.ses_lockdown.specs.declared.intrinsics.TheConstants.{FUNCTION_PROTOTYPE}
 use Rattle.ses_lockdown.specs.declared.names.TheConstants.{NAMES}
 use Rattle.ses_lockdown.specs.declared.table.Kind.{Kind}
 use Rattle.ses_lockdown.specs.declared.table.Kind.TheVariants as kind
+use Rattle.ses_lockdown.specs.declared.table.Role.{Role}
+use Rattle.ses_lockdown.specs.declared.table.Role.TheVariants as role
 use Rattle.ses_lockdown.specs.declared.table.Stands.{Stands}
 use Rattle.ses_lockdown.specs.declared.table.Stands.TheVariants as stands
 
@@ -40,10 +42,17 @@ name_at place = get_or names place []
 abbrev pub holding : Value Ref MadeSymbol → Property
 holding v = Data v true false true
 
+-- how many parameters a function has before it has its body: a setter of lockdown has one
+-- ECMA-262 SetFunctionLength
+abbrev pub own_length : Role → ℤ
+own_length (role.Setter n) = pos 1
+own_length r = pos 0
+
 -- what stands at the key of a permit, of the object of a place
 -- ECMA-262 Well-Known Intrinsic Objects
 abbrev pub initial_property : (place : ℕ) → Stands → Property
 initial_property place stands.OwnName = holding (value.Text (name_at place))
+initial_property place stands.OwnLength = holding (value.Int (own_length (role_at place)))
 initial_property place (stands.Object p) = holding (value.Ref (common_ref p))
 initial_property place (stands.Tamed p) = holding (value.Ref (common_ref p))
 initial_property place (stands.NameOf p) = holding (value.Text (name_at p))

@@ -6,11 +6,11 @@ ghost use Rattle.js_store.specs.Frozen.{common_ref};
 ghost use Rattle.js_store.specs.Objects.{at_place};
 ghost use Rattle.ses_lockdown.specs.Permits.{permits, row_of};
 ghost use Rattle.ses_lockdown.specs.Lockdown.{more, one_more};
-ghost use Rattle.ses_lockdown.specs.Intrinsics.{holding, initial_property, marks_of, initial_at, initial_object, initial_objects};
+ghost use Rattle.ses_lockdown.specs.Intrinsics.{holding, initial_property, own_length, marks_of, initial_at, initial_object, initial_objects};
 
 use crate::making::{common, define, is_for};
-use crate::rows::{name_at, permit, place};
-use crate::table::{COUNT, Kind, PERMIT_COUNT, Permit, Stands};
+use crate::rows::{name_at, permit, place, role};
+use crate::table::{COUNT, Kind, PERMIT_COUNT, Permit, Role, Stands};
 use crate::words::text_of;
 use js_desc::descriptor::Descriptor;
 use js_store::flat::FlatStore;
@@ -34,12 +34,23 @@ pub(crate) fn holding(value: Value) -> Descriptor
     }
 }
 
+/// How many parameters a function has before it has its body.
+fn own_length(role: Role) -> i64
+    ensures { result ≡ own_length role }
+{
+    match role {
+        Role::Setter(_) => 1,
+        _ => 0,
+    }
+}
+
 /// What stands at the key of a permit, of the object of a place.
 fn initial_property(alloc: Global, place: u32, stands: Stands) -> Result<Descriptor, OutOfMemory>
     ensures { IfOk result (λ d. d ≡ initial_property place stands) }
 {
     match stands {
         Stands::OwnName => Ok(holding(Value::Text(text_of(alloc, name_at(place))?))),
+        Stands::OwnLength => Ok(holding(Value::Int(own_length(role(place))))),
         Stands::Object(at) => Ok(holding(Value::Ref(common(at)))),
         Stands::Tamed(at) => Ok(holding(Value::Ref(common(at)))),
         Stands::NameOf(at) => Ok(holding(Value::Text(text_of(alloc, name_at(at))?))),

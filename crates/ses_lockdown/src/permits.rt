@@ -4,11 +4,13 @@ use crate::table::Holder::{At, EachFunction};
 use crate::table::KeySort::{Iterator, Named};
 use crate::table::Override::{Accessor, Stays};
 use crate::table::Permit;
-use crate::table::Stands::{Empty, Integer, IteratorSymbol, NameOf, Object, OwnName, Read, Tamed};
+use crate::table::Stands::{
+    Empty, Integer, IteratorSymbol, NameOf, Object, OwnLength, OwnName, Read, Tamed,
+};
 
 /// The permits, in the order in which the properties stand: `length`, `name` and `prototype` of a function, `constructor` of a prototype, then the constants, the functions in the order of the prelude's text, and last a `Symbol.iterator` that is no function of its own. No property of a common object is off this list (SES, permits).
 pub static PERMITS: [Permit; 161] = [
-    (EachFunction, Named, "length", Integer(0), Stays),
+    (EachFunction, Named, "length", OwnLength, Stays),
     (EachFunction, Named, "name", OwnName, Stays),
     (At(0), Named, "prototype", Object(4), Stays),
     (At(0), Named, "isArray", Object(2), Stays),

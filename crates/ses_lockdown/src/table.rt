@@ -23,6 +23,8 @@ pub enum KeySort {
 pub enum Stands {
     /// The function's name.
     OwnName,
+    /// How many parameters the function has, before it has its body: a setter of lockdown has one, and any other none.
+    OwnLength,
     /// The common object of a place.
     Object(u32),
     /// The common object of a place, which lockdown puts there (SES, tameFunctionConstructors).

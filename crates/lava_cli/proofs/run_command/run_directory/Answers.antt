@@ -7,5 +7,5 @@ pub returns-in-Ok : goal.returns-in-Ok
 returns-in-Ok g c =
     let before = host_world (g.F.Folder.stand c.args.folder.now) (g.I.Source.stand c.args.input.now) (g.O.Sink.stand c.args.out.now) (g.E.Sink.stand c.args.err.now) (g.C.Clock.stand c.args.clock.now) in
     let mid = host_world (g.F.Folder.stand c.load_application.new.folder) (g.I.Source.stand c.args.input.now) (g.O.Sink.stand c.args.out.now) (g.E.Sink.stand c.args.err.now) (g.C.Clock.stand c.args.clock.now) in
-    let after = host_world (g.F.Folder.stand c.run_loaded.new.folder) (g.I.Source.stand c.run_loaded.new.input) (g.O.Sink.stand c.run_loaded.new.out) (g.E.Sink.stand c.run_loaded.new.err) (g.C.Clock.stand c.run_loaded.new.clock) in
-    ran_so c.args.mode c.args.directory.now c.args.budget before mid after c.in-Ok.loaded c.run_loaded.result c.in-Ok.ensures.loads (record { rest = refl; told = c.in-Ok.ensures.tells; counts = c.in-Ok.ensures.counts }) c.run_loaded.ensures
+    let after = host_world (g.F.Folder.stand c.run_loaded-outcome.new.folder) (g.I.Source.stand c.run_loaded-outcome.new.input) (g.O.Sink.stand c.run_loaded-outcome.new.out) (g.E.Sink.stand c.run_loaded-outcome.new.err) (g.C.Clock.stand c.run_loaded-outcome.new.clock) in
+    ran_so c.args.mode c.args.directory.now c.args.budget before mid after c.in-Ok.loaded c.run_loaded-outcome.result c.in-Ok.ensures.loads (record { rest = refl; told = c.in-Ok.ensures.tells; counts = c.in-Ok.ensures.counts }) c.run_loaded-outcome.ensures

@@ -1,6 +1,0 @@
-use Rattle.std.proofs.Common.{◌+◌, ◌-◌}
-use Rattle.js_machine.specs.Definitions.{GoesOnAs, HasOtherObjects}
-use Rattle.js_machine.proofs.machine.Machine.add_holes.Given as goal
-
-abbrev pub invariant-loop-i : goal.invariant-loop-i
-invariant-loop-i l = GoesOnAs l.holding l.start l.count (l.start + l.i) (l.count - l.i) l.fn.self l.self × HasOtherObjects l.fn.self l.self

@@ -1,8 +1,0 @@
-use Rattle.std.proofs.Common.{◌≡◌, ◌+◌, suc, arith}
-use Rattle.js_machine.proofs.Argued.{one_more}
-use Rattle.js_machine.proofs.machine.Machine.argument_comes.Goals as goal
-
-pub returns : goal.returns
-returns c =
-    let more : c.args.done + 1 ≡ suc c.args.done = omega arith in
-    one_more c.args.purpose c.args.done c.args.self.now c.next_argument.result c.args.start c.args.left c.args.value (c.args.done + 1) c.push.new.self c.next_argument.new.self more c.in_ok-push.ensures c.next_argument.ensures

@@ -1,6 +1,0 @@
-use Rattle.js_machine.proofs.Parted.{one_begins}
-use Rattle.js_machine.proofs.machine.Machine.begin_part.Goals as goal
-
-pub returns-in_ok-hold-in-Some : goal.returns-in_ok-hold-in-Some
-returns-in_ok-hold-in-Some c =
-    one_begins c.wait.result c.args.holding c.part.result c.operand_of.result c.in-Some.operand c.args.at c.args.left c.args.self.now c.hold.new.self c.wait.new.self c.requires c.part.ensures c.operand_of.ensures c.in-Some.is c.in_ok-hold-in-Some.ensures c.wait.ensures.leads

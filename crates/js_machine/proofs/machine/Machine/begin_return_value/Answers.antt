@@ -1,5 +1,0 @@
-use Rattle.js_machine.proofs.Jumped.{returns_value}
-use Rattle.js_machine.proofs.machine.Machine.begin_return_value.Goals as goal
-
-pub returns : goal.returns
-returns c = returns_value c.wait.result c.args.value c.args.self.now c.wait.new.self c.wait.ensures.leads

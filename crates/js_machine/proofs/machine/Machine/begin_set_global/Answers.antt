@@ -1,6 +1,0 @@
-use Rattle.js_machine.proofs.Referenced.{set_global_asked}
-use Rattle.js_machine.proofs.machine.Machine.begin_set_global.Goals as goal
-
-pub returns : goal.returns
-returns c =
-    set_global_asked c.ask.result c.global.result c.in_ok-key.key c.args.name c.args.value c.args.self.now c.ask.new.self c.global.ensures c.in_ok-key.ensures c.ask.ensures

@@ -1,5 +1,0 @@
-use Rattle.js_machine.proofs.Converted.{method_asks}
-use Rattle.js_machine.proofs.machine.Machine.call_method.Goals as goal
-
-pub returns : goal.returns
-returns c = method_asks c.ask.result c.args.object c.args.goal c.args.last c.args.function c.new.result c.args.self.now c.push.new.self c.ask.new.self c.new.ensures c.in_ok-push.ensures c.ask.ensures

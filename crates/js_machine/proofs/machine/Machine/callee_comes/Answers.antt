@@ -1,5 +1,0 @@
-use Rattle.js_machine.proofs.Argued.{callee_led}
-use Rattle.js_machine.proofs.machine.Machine.callee_comes.Goals as goal
-
-pub returns : goal.returns
-returns c = callee_led c.begin_arguments.result c.args.this c.args.callee c.args.arguments c.args.self.now c.push.new.self c.push-2.new.self c.begin_arguments.new.self c.in_ok-push.ensures c.in_ok-push-2.ensures c.begin_arguments.ensures

@@ -1,5 +1,0 @@
-use Rattle.js_machine.proofs.Converted.{operand_converts}
-use Rattle.js_machine.proofs.machine.Machine.convert_operand.Goals as goal
-
-pub returns : goal.returns
-returns c = operand_converts c.convert_object.result c.args.object c.args.rest c.args.held c.args.self.now c.push.new.self c.convert_object.new.self c.in_ok-push.ensures c.convert_object.ensures

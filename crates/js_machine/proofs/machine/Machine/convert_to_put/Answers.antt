@@ -1,6 +1,0 @@
-use Rattle.js_machine.proofs.Referenced.{put_later}
-use Rattle.js_machine.proofs.machine.Machine.convert_to_put.Goals as goal
-
-pub returns : goal.returns
-returns c =
-    put_later c.args.object c.args.key c.args.value c.args.self.now c.requires c.with_key_of.result c.push.new.self c.push-2.new.self c.with_key_of.new.self c.in_ok-push.ensures c.in_ok-push-2.ensures c.with_key_of.ensures

@@ -1,6 +1,0 @@
-use Rattle.js_machine.proofs.Followed.{decided_so}
-use Rattle.js_machine.proofs.machine.Machine.decide_as_object.Goals as goal
-
-pub returns : goal.returns
-returns c =
-    decided_so c.follow.result c.args.me c.in_ok-decision.decision c.args.self.now c.table_decision.new.self c.follow.new.self c.in_ok-decision.ensures.decided c.in_ok-decision.ensures.rest c.follow.ensures

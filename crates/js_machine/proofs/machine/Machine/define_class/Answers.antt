@@ -1,7 +1,0 @@
-use Rattle.js_machine.proofs.Classed.{class_led}
-use Rattle.js_machine.proofs.machine.Machine.define_class.Goals as goal
-
-pub returns : goal.returns
-returns c =
-    class_led c.args.row c.args.derived c.args.above c.args.over c.next_part.result c.in_ok-template.template c.in_ok-holding.holding c.args.self.now c.make_class.new.self c.next_part.new.self c.in_ok-template.ensures c.in_ok-holding.ensures.objects
-    c.in_ok-holding.ensures.made c.next_part.ensures

@@ -1,5 +1,0 @@
-use Rattle.js_machine.proofs.Above.{prototype_comes}
-use Rattle.js_machine.proofs.machine.Machine.deliver_prototype.Goals as goal
-
-pub returns-in-Some : goal.returns-in-Some
-returns-in-Some c = prototype_comes c.go_on_prototype.result c.args.frame c.prototype_in.result c.in-Some.above c.args.self.now c.go_on_prototype.new.self c.prototype_in.ensures c.in-Some.is c.go_on_prototype.ensures

@@ -1,8 +1,0 @@
-use Rattle.std.proofs.Common.{◌∙◌}
-use Rattle.js_machine.proofs.Tried.{entered_with}
-use Rattle.js_machine.proofs.machine.Machine.enter_with.Goals as goal
-
-pub returns : goal.returns
-returns c =
-    c.stand_in.ensures
-    ∙ entered_with c.args.value c.standing-outer.result c.in_ok-scope.scope _ c.args.self.now c.open_empty.new.self c.write.new.self c.self.view_is c.standing-outer.ensures c.in_ok-scope.ensures.ok c.in_ok-scope.ensures.number c.write.ensures

@@ -1,7 +1,0 @@
--- No module has a path so far.
-use Rattle.std.proofs.Common.{◌≡◌, drop}
-use Rattle.js_machine.specs.Requested.{first_place}
-use Rattle.js_machine.proofs.machine.Machine.first_module.Given as goal
-
-abbrev pub invariant-loop-path : goal.invariant-loop-path
-invariant-loop-path l = first_place l.self.own_package.modules l.paths ≡ first_place l.self.own_package.modules (drop l.path-index l.paths)

@@ -1,5 +1,0 @@
-use Rattle.js_machine.proofs.Evaluates.{exports_asked}
-use Rattle.js_machine.proofs.machine.Machine.get_exports.Goals as goal
-
-pub returns : goal.returns
-returns c = exports_asked c.ask.result c.args.frame c.args.object c.own.result c.in_ok-ask.ask c.args.self.now c.ask.new.self c.own.ensures c.in_ok-ask.ensures c.ask.ensures

@@ -1,5 +1,0 @@
-use Rattle.js_machine.proofs.Instance_laws.{prototype_asked}
-use Rattle.js_machine.proofs.machine.Machine.get_prototype.Goals as goal
-
-pub returns : goal.returns
-returns c = prototype_asked c.ask.result c.args.function c.args.object c.in_ok-key.key c.args.self.now c.push.new.self c.ask.new.self c.in_ok-key.ensures c.in_ok-push.ensures c.ask.ensures

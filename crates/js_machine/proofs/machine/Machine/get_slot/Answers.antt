@@ -1,6 +1,0 @@
-use Rattle.js_machine.proofs.Slotted.{found_ok}
-use Rattle.js_machine.proofs.machine.Machine.get_slot.Goals as goal
-
-pub returns-in-Some : goal.returns-in-Some
-returns-in-Some c =
-    found_ok c.give.result c.args.hops c.args.slot c.in_ok-value.field-0 c.in-Some.value c.args.self.now c.give.new.self c.in_ok-value.ensures c.in-Some.is c.give.ensures.value c.give.ensures.mode

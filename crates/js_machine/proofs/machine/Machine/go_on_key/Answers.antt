@@ -1,5 +1,0 @@
-use Rattle.js_machine.proofs.Operands.{with_object}
-use Rattle.js_machine.proofs.machine.Machine.go_on_key.Goals as goal
-
-pub returns : goal.returns
-returns c = with_object c.get_key.result c.take-object.result c.args.key c.args.self.now c.take-object.new.self c.get_key.new.self c.take-object.ensures.value c.take-object.ensures.rest c.get_key.ensures

@@ -1,7 +1,0 @@
-use Rattle.js_machine.proofs.Operands.{with_both}
-use Rattle.js_machine.proofs.machine.Machine.go_on_put.Goals as goal
-
-pub returns : goal.returns
-returns c =
-    with_both c.put_property.result c.take-key.result c.take-object.result c.args.value c.args.self.now c.take-key.new.self c.take-object.new.self c.put_property.new.self
-    c.take-key.ensures.value c.take-key.ensures.rest c.take-object.ensures.value c.take-object.ensures.rest c.put_property.ensures

@@ -1,5 +1,0 @@
-use Rattle.js_machine.proofs.Instance_laws.{instance_object}
-use Rattle.js_machine.proofs.machine.Machine.has_instance_by.Goals as goal
-
-pub returns-in-Some : goal.returns-in-Some
-returns-in-Some c = instance_object c.get_prototype.result c.object_of_value.result c.args.function c.in-Some.object c.args.value c.args.self.now c.get_prototype.new.self c.object_of_value.ensures c.in-Some.is c.get_prototype.ensures

@@ -1,5 +1,0 @@
-use Rattle.js_machine.proofs.Parted.{helper_is}
-use Rattle.js_machine.proofs.machine.Machine.helper_into.Goals as goal
-
-pub returns-in-Some : goal.returns-in-Some
-returns-in-Some c = helper_is c.args.object c.spread_helper.result c.in-Some.id.0 c.is_array.result c.args.self.now c.in-Some.ensures.own c.is_array.ensures c.spread_helper.ensures

@@ -1,8 +1,0 @@
-use Rattle.std.proofs.Common.{refl, arith}
-use Rattle.js_machine.proofs.Ordered.{more_left}
-use Rattle.js_machine.proofs.machine.Machine.in_order.Goals as goal
-
-pub returns : goal.returns
-returns c =
-    more_left c.wait.result c.in_ok-there.there c.args.start c.args.count _ _ c.number-first.result c.args.self.now c.wait.new.self c.in_ok-there.ensures.there (omega (arith, c.if-there-eq0.false, c.if-there-eq1.false))
-    c.in_ok-there.ensures.most refl refl c.number-first.ensures c.wait.ensures.leads

@@ -1,5 +1,0 @@
-use Rattle.js_machine.proofs.Argued.{method_led}
-use Rattle.js_machine.proofs.machine.Machine.method_comes.Goals as goal
-
-pub returns : goal.returns
-returns c = method_led c.callee_comes.result c.take-this.result c.args.callee c.args.arguments c.args.self.now c.take-this.new.self c.callee_comes.new.self c.take-this.ensures.value c.take-this.ensures.rest c.callee_comes.ensures

@@ -1,5 +1,0 @@
-use Rattle.js_machine.proofs.Keyed.{method_key_led}
-use Rattle.js_machine.proofs.machine.Machine.method_key_comes.Goals as goal
-
-pub returns : goal.returns
-returns c = method_key_led c.read_method.result c.args.arguments c.take-object.result c.args.key c.args.self.now c.take-object.new.self c.read_method.new.self c.take-object.ensures.value c.take-object.ensures.rest c.read_method.ensures

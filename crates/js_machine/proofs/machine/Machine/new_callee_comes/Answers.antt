@@ -1,5 +1,0 @@
-use Rattle.js_machine.proofs.Argued.{new_callee_led}
-use Rattle.js_machine.proofs.machine.Machine.new_callee_comes.Goals as goal
-
-pub returns : goal.returns
-returns c = new_callee_led c.begin_arguments.result c.args.callee c.args.arguments c.args.self.now c.push.new.self c.begin_arguments.new.self c.in_ok-push.ensures c.begin_arguments.ensures

@@ -1,9 +1,0 @@
-use Rattle.std.proofs.Common.{IfOk, subst}
-use Rattle.js_text.specs.Naming.{naming_of}
-use Rattle.js_exotic.specs.Decided.{exotic_resumed}
-use Rattle.js_machine.specs.Views.{View}
-use Rattle.js_machine.proofs.Followed.{Says}
-use Rattle.js_machine.proofs.machine.Machine.next_decision.Goals as goal
-
-pub returns-clause-decided : goal.returns-clause-decided
-returns-clause-decided c = subst (λ (w : View). IfOk c.resume.result (λ d. Says d c.resume.new.store.objects (exotic_resumed (naming_of w.me) w.objects w.common c.args.next c.args.reply))) c.self.view_is c.resume.ensures.ok

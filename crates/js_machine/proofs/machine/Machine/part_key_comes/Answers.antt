@@ -1,8 +1,0 @@
-use Rattle.std.proofs.Common.{◌∙◌, sym}
-use Rattle.js_machine.proofs.Parted.{key_waits}
-use Rattle.js_machine.proofs.machine.Machine.part_key_comes.Goals as goal
-
-pub returns : goal.returns
-returns c =
-    key_waits c.wait.result c.args.holding c.args.at c.args.left c.args.operand c.args.key c.object_of_value.result c.args.self.now c.hold.new.self c.push.new.self c.wait.new.self c.object_of_value.ensures (sym c.is_some.ensures ∙ c.if-is_some.false)
-    c.in_ok-hold.ensures c.in_ok-push.ensures c.wait.ensures.leads

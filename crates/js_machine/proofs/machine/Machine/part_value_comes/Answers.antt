@@ -1,7 +1,0 @@
-use Rattle.js_machine.proofs.Parted.{value_frame}
-use Rattle.js_machine.proofs.machine.Machine.part_value_comes.Goals as goal
-
-pub returns : goal.returns
-returns c =
-    value_frame c.define_value.result c.args.enumerable c.args.at c.args.left c.take_holding-holding.result c.take-key.result c.args.value c.args.self.now c.take-key.new.self c.take_holding-holding.new.self c.define_value.new.self
-    c.take-key.ensures.value c.take-key.ensures.rest c.take_holding-holding.ensures.held c.take_holding-holding.ensures.rest c.define_value.ensures

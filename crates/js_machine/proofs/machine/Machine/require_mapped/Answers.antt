@@ -1,6 +1,0 @@
-use Rattle.js_machine.proofs.Required.{none_mapped}
-use Rattle.js_machine.proofs.machine.Machine.require_mapped.Goals as goal
-
-pub returns-in_ok-units-in-None : goal.returns-in_ok-units-in-None
-returns-in_ok-units-in-None c =
-    none_mapped c.not_found.result c.in_ok-value.field-0 c.args.request.now c.in_ok-units-in-None.units c.as_slice.result.now c.args.self.now c.not_found.new.self c.in_ok-value.ensures c.in-None.is c.in_ok-units-in-None.ensures.units c.as_slice.ensures c.not_found.ensures

@@ -1,6 +1,0 @@
-use Rattle.js_machine.proofs.Required.{path_required}
-use Rattle.js_machine.proofs.machine.Machine.require_path.Goals as goal
-
-pub returns : goal.returns
-returns c =
-    path_required c.require_there.result c.args.number c.args.request.now c.in_ok-path.path c.as_slice.result.now c.in_ok-dir.dir c.in_ok-there.there c.args.self.now c.require_there.new.self c.in_ok-path.ensures c.as_slice.ensures c.in_ok-dir.ensures c.in_ok-there.ensures c.require_there.ensures

@@ -1,8 +1,0 @@
-use Rattle.js_machine.proofs.Converted.{result_object, result_reached}
-use Rattle.js_machine.proofs.machine.Machine.result_known.Goals as goal
-
-pub returns-in-Some : goal.returns-in-Some
-returns-in-Some c = result_object c.args.object c.args.goal c.args.last c.args.self.now c.next_method.result c.object_of_value.result c.in-Some.field-0 c.args.value c.next_method.new.self c.object_of_value.ensures c.in-Some.is c.next_method.ensures
-
-pub returns-in-None : goal.returns-in-None
-returns-in-None c = result_reached c.args.object c.args.goal c.args.last c.args.self.now c.reach.result c.object_of_value.result c.args.value c.reach.new.self c.object_of_value.ensures c.in-None.is c.reach.ensures

@@ -1,6 +1,0 @@
-use Rattle.js_machine.proofs.Native_deeds.{went_on}
-use Rattle.js_machine.proofs.machine.Machine.resume_native.Goals as goal
-
-pub returns : goal.returns
-returns c =
-    went_on c.follow_native.result c.args.which c.args.next c.args.reply c.in_ok-decision.decision c.args.self.now c.native_resumed.new.self c.follow_native.new.self c.in_ok-decision.ensures.does c.in_ok-decision.ensures.rest c.follow_native.ensures

@@ -1,6 +1,0 @@
-use Rattle.js_machine.proofs.Followed.{resumed_so}
-use Rattle.js_machine.proofs.machine.Machine.resume_object.Goals as goal
-
-pub returns : goal.returns
-returns c =
-    resumed_so c.follow_once.result c.args.me c.args.next c.args.reply c.in_ok-decision.decision c.args.self.now c.next_decision.new.self c.follow_once.new.self c.in_ok-decision.ensures.decided c.in_ok-decision.ensures.rest c.follow_once.ensures

@@ -1,5 +1,0 @@
-use Rattle.js_machine.proofs.Followed.{woken_thrown}
-use Rattle.js_machine.proofs.machine.Machine.resume_thrown.Goals as goal
-
-pub returns : goal.returns
-returns c = woken_thrown c.resume_wait.result c.take-thrown.result c.args.self.now c.take-thrown.new.self c.resume_wait.new.self c.take-thrown.ensures.value c.take-thrown.ensures.rest c.resume_wait.ensures

@@ -1,7 +1,0 @@
-use Rattle.js_machine.proofs.Closed.{closure_runs}
-use Rattle.js_machine.proofs.machine.Machine.run_closure.Goals as goal
-
-pub returns : goal.returns
-returns c =
-    closure_runs c.run_template.result c.args.me c.args.body c.args.closure c.args.this c.args.args c.args.target c.len-count.result c.template_place-at.result c.outer_scope-outer.result c.args.self.now c.push_arguments.new.self c.run_template.new.self c.len-count.ensures
-    c.in_ok-push_arguments.ensures c.template_place-at.ensures c.outer_scope-outer.ensures c.run_template.ensures

@@ -1,5 +1,0 @@
-use Rattle.js_machine.proofs.Charged.{IsOn}
-use Rattle.js_machine.proofs.machine.Machine.run_for.Given as goal
-
-abbrev pub invariant-loop-i : goal.invariant-loop-i
-invariant-loop-i l = IsOn l.fn.meter l.fn.charges l.fn.limit l.fn.steps l.fn.mode l.fn.self l.i l.spent l.mode l.self

@@ -1,5 +1,0 @@
-use Rattle.js_machine.proofs.Native_deeds.{ran}
-use Rattle.js_machine.proofs.machine.Machine.run_native.Goals as goal
-
-pub returns : goal.returns
-returns c = ran c.charge_native.result c.args.which c.asks_slots.result c.args.count c.args.self.now c.charge_native.new.self c.asks_slots.ensures c.if-asks_slots.false c.charge_native.ensures

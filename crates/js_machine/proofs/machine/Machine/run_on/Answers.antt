@@ -1,6 +1,0 @@
-use Rattle.js_machine.proofs.Charged.{goes_on_after}
-use Rattle.js_machine.proofs.machine.Machine.run_on.Goals as goal
-
-pub returns : goal.returns
-returns c =
-    goes_on_after c.args.meter c.args.pause c.args.mode c.args.self.now c.run_for.new.self c.in_ok-stop.stop c.told.result c.in_ok-stop.ensures c.told.ensures

@@ -1,9 +1,0 @@
-use Rattle.std.proofs.Common.{IfOk, subst}
-use Rattle.js_text.specs.Naming.{naming_of}
-use Rattle.js_exotic.specs.Decided.{decided}
-use Rattle.js_machine.specs.Views.{View}
-use Rattle.js_machine.proofs.Followed.{Says}
-use Rattle.js_machine.proofs.machine.Machine.table_decision.Goals as goal
-
-pub returns-clause-decided : goal.returns-clause-decided
-returns-clause-decided c = subst (λ (w : View). IfOk c.decide.result (λ d. Says d c.decide.new.store.objects (decided (naming_of w.me) w.objects w.common c.args.me w.asked.ask))) c.self.view_is c.decide.ensures.ok

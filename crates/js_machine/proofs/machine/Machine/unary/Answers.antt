@@ -1,6 +1,0 @@
-use Rattle.js_run.specs.Operators.{unary_value}
-use Rattle.js_machine.proofs.Operated.{does_so}
-use Rattle.js_machine.proofs.machine.Machine.unary.Goals as goal
-
-pub returns : goal.returns
-returns c = does_so c.operate.result (λ n s. unary_value n s c.args.operator c.args.value) c.in_ok-operation.operation c.args.self.now c.operate.new.self c.in_ok-operation.ensures.does c.operate.ensures

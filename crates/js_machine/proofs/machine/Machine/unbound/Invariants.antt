@@ -1,6 +1,0 @@
-use Rattle.std.proofs.Common.{◌≡◌, ◌-◌, length}
-use Rattle.js_machine.specs.Instances.{unbound_in}
-use Rattle.js_machine.proofs.machine.Machine.unbound.Given as goal
-
-abbrev pub invariant-loop-i : goal.invariant-loop-i
-invariant-loop-i l = unbound_in l.self (length l.self.objects) l.fn.function ≡ unbound_in l.self (length l.self.objects - l._i) l.found

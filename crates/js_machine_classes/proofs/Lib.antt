@@ -1,0 +1,3 @@
+pub mod Parted
+pub mod Classed
+pub mod Part_keys

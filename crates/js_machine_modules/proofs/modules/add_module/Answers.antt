@@ -1,0 +1,13 @@
+use Rattle.std.proofs.Common.{refl, true, []}
+use Rattle.js_text.specs.Naming.{naming_of}
+use Rattle.js_desc.specs.declared.descriptor.Change.TheVariants as change
+use Rattle.js_desc.specs.declared.descriptor.Descriptor.TheVariants.{Data}
+use Rattle.js_run.specs.Functions.{plain_object}
+use Rattle.js_run.specs.Modules.{exports_key}
+use Rattle.js_machine.proofs.Created.{written_last}
+use Rattle.js_machine_modules.proofs.modules.add_module.Goals as goal
+
+pub returns-clause-made : goal.returns-clause-made
+returns-clause-made c =
+    written_last c.args.store.now.objects c.make.new.self.objects c.apply.new.self.objects (plain_object (naming_of c.args.store.now.party.0) []) c.args.key exports_key (change.Write (Data c.args.exports true true true)) (change.Write (Data c.args.exports true true true)) c.in_ok-id.id.0 c.in_ok-id.ensures.ok c.in_ok-id.ensures.id
+    c.requires refl c.in_ok-apply.ensures.ok

@@ -1,0 +1,14 @@
+// The forms that name a native.
+//
+// - `collections`: what keyed collections decide that a native looks into.
+// - `natives`: forms that name a native: operands, the charge, what the native decides, and how it goes on.
+// - `proxies`: what proxies decide, and what follows.
+// - `slot_asks`: natives that ask a `Slot`: where their object is from is seen first, and only what doesn't cross is charged here.
+// - `to_number`: the numbers that decisions want (ECMA-262, ToNumber).
+#![tactic(auto)]
+
+pub mod collections;
+pub mod natives;
+pub mod proxies;
+pub mod slot_asks;
+pub mod to_number;

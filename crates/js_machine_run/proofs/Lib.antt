@@ -1,0 +1,5 @@
+pub mod Replied
+pub mod Handed
+pub mod Charged
+pub mod Argued
+pub mod Woken_laws

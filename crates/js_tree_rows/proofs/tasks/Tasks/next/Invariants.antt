@@ -1,5 +1,0 @@
-use Rattle.std.proofs.Common.{length}
-use Rattle.js_tree_rows.proofs.tasks.Tasks.next.Given as goal
-
-abbrev pub decreases-loop-task : goal.decreases-loop-task
-decreases-loop-task l = length l.self.fresh.items

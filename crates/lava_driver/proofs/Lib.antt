@@ -1,0 +1,3 @@
+pub mod Underway
+pub mod Tracing
+pub mod Traced_whole

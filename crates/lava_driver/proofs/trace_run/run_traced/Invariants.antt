@@ -1,0 +1,13 @@
+-- The machine has come as far as this, and so have the outside and the trace.
+use Rattle.std.proofs.Common.{◌≡◌, ℕ, List}
+use Rattle.lava_host.specs.Hosts.{host_world}
+use Rattle.lava_driver.specs.Traces.{HasTracedTo, trace_start}
+use Rattle.lava_driver.proofs.trace_run.run_traced.Given as goal
+
+abbrev pub invariant-loop-i : goal.invariant-loop-i
+invariant-loop-i g l =
+    (parties : List (List ℕ)) → l.fn.tracer ≡ trace_start parties
+    → HasTracedTo parties l.fn.dir l.fn.world
+    (host_world (g.F.Folder.stand l.fn.folder) (g.I.Source.stand l.fn.input) (g.O.Sink.stand l.fn.out) (g.E.Sink.stand l.fn.err) (g.C.Clock.stand l.fn.clock))
+    l.world l.step.turn l.step.failed l.tracer
+    (host_world (g.F.Folder.stand l.folder) (g.I.Source.stand l.input) (g.O.Sink.stand l.out) (g.E.Sink.stand l.err) (g.C.Clock.stand l.clock))

@@ -1,0 +1,164 @@
+-- The text of a trace: the lines of a journal, with the first ones before them and the last ones behind them.
+use Rattle.std.specs.Prelude.{◌≡◌, ℕ, zero, suc, ◌+◌, Bool, true, false, List, [], ◌∷◌, ◌++◌, ◌⊎◌, length, Option, Some, None}
+use Rattle.js_desc.specs.declared.ending.Ending as desc
+use Rattle.js_desc.specs.declared.ending.Ending.TheVariants as told
+use Rattle.js_run.specs.Completions as halt
+use Rattle.js_run.specs.Heap.{World, begins, heap}
+use Rattle.js_run.specs.Journal as journal
+use Rattle.js_run.specs.Journal.{Application, Crossing}
+use Rattle.js_world.specs.Newest.{newest_crossing}
+use Rattle.js_machine.specs.declared.stop.Stop.TheVariants as stop
+use Rattle.js_world.specs.Crossings.{Rests}
+use Rattle.js_world.specs.Worlds.{HasStopped, IsOver, Stands, WorldView, ending_of}
+use Rattle.js_world.specs.declared.ending.Ending.{Ending}
+use Rattle.js_world.specs.declared.ending.Ending.TheVariants as ending
+use Rattle.js_world.specs.declared.ending.Turn.{Turn}
+use Rattle.js_world.specs.declared.ending.Turn.TheVariants as turn
+use Rattle.js_world.specs.declared.newest.TracedCrossing.{TracedCrossing}
+use Rattle.lava_journal.specs.Lines.{crossing_line, end_text, start_text}
+use Rattle.lava_journal.specs.Sheets.{TraceNames, no_names}
+use Rattle.lava_host.specs.Hosts.{HostWorld}
+use Rattle.lava_host.specs.declared.fault.Which.{Which}
+use Rattle.lava_host.specs.declared.fault.Which.TheVariants as which
+use Rattle.lava_streams.specs.Outside.{Fails, Grows, Stand}
+use Rattle.lava_driver.specs.Ran.{AreAskedIn, BeginsSo, HasRun}
+use Rattle.lava_driver.specs.Talks.{Agrees, AreTalks, Talk, newest_failed}
+use Rattle.lava_driver.specs.declared.run.Ran.{Ran}
+use Rattle.lava_driver.specs.declared.trace_run.Traced.{Traced}
+
+-- THE TEXT
+
+-- a trace that is being written: what is written of it, what that has named, and how many crossings it has
+pub record TraceText : Type 0 where
+  pub text : List ℕ
+  pub names : TraceNames
+  pub count : ℕ
+
+-- the first lines
+abbrev pub trace_start : (parties : List (List ℕ)) → TraceText
+trace_start parties = record { text = start_text parties; names = no_names; count = 0 }
+
+-- the trace with the line of one crossing more
+-- own: the crossings of a trace are numbered from 1
+abbrev pub with_crossing : TraceText → TracedCrossing → TraceText
+with_crossing t x = record {
+  text = t.text ++ (crossing_line t.names (t.count + 1) x.crossing x.marks).text;
+  names = (crossing_line t.names (t.count + 1) x.crossing x.marks).names;
+  count = t.count + 1;
+}
+
+abbrev pub with_newest : TraceText → Option TracedCrossing → TraceText
+with_newest t None = t
+with_newest t (Some x) = with_crossing t x
+
+-- the lines of a journal, whose newest crossing stands first, behind the first lines
+abbrev pub trace_of : (parties : List (List ℕ)) → Application → List Crossing → TraceText
+trace_of parties app [] = trace_start parties
+trace_of parties app (x ∷ older) = with_newest (trace_of parties app older) (newest_crossing app (x ∷ older))
+
+-- how a run ended, as a trace tells it. No party has a meter yet
+abbrev pub halt_told : ℕ → halt.Halt → Option desc.Ending
+halt_told p halt.Number = Some (told.Number (record { 0 = p }))
+halt_told p halt.Text = Some (told.Text (record { 0 = p }))
+halt_told p halt.Depth = Some (told.Depth (record { 0 = p }))
+halt_told p halt.Meter = None
+halt_told p halt.Outside = Some told.Outside
+
+abbrev pub ending_told : journal.Ending → Option desc.Ending
+ending_told journal.Done = Some told.Done
+ending_told journal.Uncaught = Some told.Uncaught
+ending_told (journal.Budget p) = Some (told.Budget (record { 0 = p }))
+ending_told (journal.Fault p h) = halt_told p h
+ending_told (journal.Parties p) = Some (told.Parties (record { 0 = p }))
+
+-- the steps of so many parties, from one on
+abbrev pub steps_from : (first count : ℕ) → (ℕ → ℕ) → List ℕ
+steps_from p zero steps = []
+steps_from p (suc n) steps = steps p ∷ steps_from (suc p) n steps
+
+-- the trace of a run that is over: the lines of its journal, the steps of each party, and how it ended
+-- own: the trace of a run
+abbrev pub trace_text : (parties : List (List ℕ)) → Application → World → desc.Ending → List ℕ
+trace_text parties app w e = (trace_of parties app w.journal).text ++ end_text (steps_from 0 (length parties) w.steps) e
+
+-- ON THE WAY
+
+-- what is written is the trace of a journal so far
+abbrev pub IsTraceOf : (parties : List (List ℕ)) → Application → List Crossing → TraceText → Type 0
+IsTraceOf parties app journal t = t ≡ trace_of parties app journal
+
+-- the line of the newest crossing is written, where crossings are traced
+pub record HasWritten (v : WorldView) (old new : TraceText) : Type 0 where
+  pub traces : v.tracing ≡ true
+  pub newest : TracedCrossing
+  pub is : v.newest ≡ Some newest
+  pub written : new ≡ with_crossing old newest
+
+-- a turn that comes by a crossing has its line, and another one has none
+abbrev pub HasNoted : WorldView → Turn → (old new : TraceText) → Type 0
+HasNoted v (turn.Runs m) old new = HasWritten v old new
+HasNoted v (turn.Over ending.Done) old new = HasWritten v old new
+HasNoted v (turn.Over ending.Uncaught) old new = HasWritten v old new
+HasNoted v (turn.Over (ending.Budget p)) old new = new ≡ old
+HasNoted v (turn.Over (ending.Fault p h)) old new = new ≡ old
+HasNoted v (turn.Asks p) old new = new ≡ old
+
+-- where a run that is traced stands, after so many crossings
+abbrev pub StandsAt : Application → (budget crossings : ℕ) → WorldView → Turn → Type 0
+StandsAt app budget n v (turn.Runs m) = Stands app (heap app budget n) v m
+StandsAt app budget n v (turn.Over e) = IsOver app (heap app budget (suc n)) v e
+StandsAt app budget n v (turn.Asks p) = HasStopped app (heap app budget n) v (stop.Outside p) (heap app budget (suc n))
+
+-- so far its crossings have their lines
+abbrev pub lines_at : Turn → ℕ → ℕ
+lines_at (turn.Runs m) n = n
+lines_at (turn.Over e) n = suc n
+lines_at (turn.Asks p) n = n
+
+-- after so much was asked and answered the machine stands there, and the trace is that of the journal so far, in each application that begins as the first world rests and whose outside answers so
+pub record IsTracing (parties : List (List ℕ)) (first : WorldView) (talks : List Talk) (now : WorldView) (t : Turn) (trace : TraceText) : Type 0 where
+  pub crossings : ℕ
+  pub stands : (app : Application) → Rests app (begins app) first → Agrees app talks → StandsAt app first.budget crossings now t
+  pub lines : (app : Application) → Rests app (begins app) first → Agrees app talks → IsTraceOf parties app (heap app first.budget (lines_at t crossings)).journal trace
+  pub budget : now.budget ≡ first.budget
+
+-- the same, with what was done to the outside meanwhile, and the object of it that has failed last. Lines that are printed go nowhere
+pub record HasTracedTo (parties : List (List ℕ)) (dir : List ℕ) (first : WorldView) (before : HostWorld) (now : WorldView) (t : Turn) (failed : Option Which) (trace : TraceText) (after : HostWorld) : Type 0 where
+  pub talks : List Talk
+  pub outside : AreTalks false dir talks before after
+  pub asked : AreAskedIn (BeginsSo first) first.budget talks
+  pub tracing : IsTracing parties first talks now t trace
+  pub newest : failed ≡ newest_failed talks
+
+-- a call of the outside that failed goes before the output
+abbrev pub first_failed : Option Which → Option Which
+first_failed None = Some which.Output
+first_failed (Some w) = Some w
+
+-- a text is put to a sink in one piece: which object of the outside has failed by then
+abbrev pub PutsText : List ℕ → (failed which : Option Which) → (before after : Stand (List ℕ)) → Type 0
+PutsText text failed which before after = ((which ≡ failed) × Grows before after text) ⊎ ((which ≡ first_failed failed) × Fails before after text)
+
+-- the last lines of a trace were written, and the whole was put to the output
+pub record IsFinished (v : WorldView) (ran : Ran) (trace : TraceText) (before after : Stand (List ℕ)) (r : Traced) : Type 0 where
+  pub ending : r.ending ≡ ran.ending
+  pub told : desc.Ending
+  pub tells : ending_told (ending_of ran.ending) ≡ Some told
+  pub puts : PutsText (trace.text ++ end_text v.steps told) ran.failed r.failed before after
+  pub crossings : r.crossings ≡ trace.count
+
+-- the run is over, and its trace is put to the output: it is a run whose printed lines go nowhere, and in each application that begins as the first world rests and whose outside answers so the trace is that of the run's journal
+pub record HasTraced (parties : List (List ℕ)) (dir : List ℕ) (first : WorldView) (before : HostWorld) (now : WorldView) (r : Traced) (after : HostWorld) : Type 0 where
+  pub ran : Ran
+  pub mid : HostWorld
+  pub runs : HasRun false dir first before now ran mid
+  pub ending : r.ending ≡ ran.ending
+  pub told : desc.Ending
+  pub tells : ending_told (ending_of ran.ending) ≡ Some told
+  pub text : List ℕ
+  pub puts : PutsText text ran.failed r.failed mid.output after.output
+  pub rest : after ≡ record mid { output = after.output }
+  pub is : (app : Application) → Rests app (begins app) first → Agrees app runs.come.talks
+      → text ≡ trace_text parties app (heap app first.budget (suc runs.come.underway.crossings)) told
+  pub count : (app : Application) → Rests app (begins app) first → Agrees app runs.come.talks
+      → r.crossings ≡ length (heap app first.budget (suc runs.come.underway.crossings)).journal

@@ -1,0 +1,182 @@
+// The text of a trace, line by line as crossings happen.
+
+ghost use Rattle.std.specs.Prelude.{◌≡◌, ◌++◌, sum, true, IfOk, IfSome, OnOk};
+ghost use Rattle.lava_journal.specs.Lines.{HasSteps, end_text};
+ghost use Rattle.lava_driver.specs.Traces.{HasNoted, HasWritten, trace_start, with_crossing};
+
+use js_desc::ending::Ending as ToldEnding;
+use js_world::ending::{Ending, Turn};
+use js_world::newest::TracedCrossing;
+use js_world::world::World;
+use lava_base::list::List;
+use lava_base::memory::OutOfMemory;
+use lava_base::name::Name;
+use lava_journal::frame::{write_end, write_start};
+use lava_journal::names::Names;
+use std::alloc::Global;
+use std::marker::Model;
+
+/// A trace that is being written.
+#[derive(Drop)]
+pub struct Tracer {
+    names: Names,
+    /// The number of the newest crossing that has its line.
+    count: u64,
+    text: List<u8>,
+}
+
+impl Model for Tracer {
+    ghost use Rattle.lava_driver.specs.Traces.{TraceText};
+
+    ghost Value = { TraceText };
+
+    ghost view = { λ t. record { text = t.text; names = t.names; count = t.count } };
+}
+
+/// The sum of steps, where it can be counted.
+fn sum_of(steps: &[u64]) -> Option<u64>
+    ensures { IfSome result (λ n. sum steps.now ≡ n) }
+{
+    let mut total: u64 = 0;
+    for count in steps {
+        match total.checked_add(*count) {
+            Some(next) => total = next,
+            None => return None,
+        }
+    }
+    Some(total)
+}
+
+/// Whether the party of an ending, if it has one, is among those that have steps.
+fn has_steps(steps: &[u64], ending: ToldEnding) -> bool
+    ensures { result ≡ true → HasSteps steps.now ending }
+{
+    match ending {
+        ToldEnding::Number(party)
+        | ToldEnding::Text(party)
+        | ToldEnding::Depth(party)
+        | ToldEnding::Parties(party)
+        | ToldEnding::Budget(party) => (party.0 as usize) < steps.len(),
+        ToldEnding::Done | ToldEnding::Uncaught | ToldEnding::Outside => true,
+    }
+}
+
+/// The same steps as a list.
+fn list_of(alloc: Global, steps: &[u64]) -> Result<List<u64>, OutOfMemory>
+    ensures { IfOk result (λ l. l ≡ steps.now) }
+{
+    let mut list = List::new(alloc);
+    list.extend_from_slice(steps)?;
+    Ok(list)
+}
+
+/// Appends the lines of the steps and the last line. Want of memory is answered too where the party of the ending has no steps, and where their sum is too large to be counted.
+fn push_end(
+    alloc: Global,
+    steps: &[u64],
+    ending: ToldEnding,
+    text: &mut List<u8>,
+) -> Result<(), OutOfMemory>
+    ensures { OnOk result (text.new ≡ text.old ++ end_text steps.now ending) }
+{
+    let listed = list_of(alloc, steps)?;
+    if !has_steps(steps, ending) {
+        return Err(OutOfMemory);
+    }
+    match sum_of(steps) {
+        Some(_) => write_end(alloc, &listed, &ending, text),
+        None => Err(OutOfMemory),
+    }
+}
+
+impl Tracer {
+    /// A trace of these parties, of which nothing but the first lines is written.
+    pub fn new(alloc: Global, parties: &List<Name>) -> Result<Tracer, OutOfMemory>
+        ensures { IfOk result (λ t. t ≡ trace_start parties.now) }
+    {
+        let mut text = List::new(alloc);
+        write_start(alloc, parties, &mut text)?;
+        Ok(Tracer {
+            names: Names::new(alloc),
+            count: 0,
+            text,
+        })
+    }
+
+    /// What is written.
+    pub fn text(&self) -> &[u8]
+        ensures { result.now ≡ self.now.text }
+    {
+        self.text.as_slice()
+    }
+
+    /// How many crossings have their lines.
+    pub fn count(&self) -> u64
+        ensures { result ≡ self.now.count }
+    {
+        self.count
+    }
+
+    /// The line of a crossing is written.
+    fn write_line(&mut self, newest: &TracedCrossing) -> Result<(), OutOfMemory>
+        ensures { OnOk result (self.new ≡ with_crossing self.old newest.now) }
+    {
+        match self.count.checked_add(1) {
+            Some(number) => {
+                self.names
+                    .write_crossing(number, &newest.crossing, &newest.marks, &mut self.text)?;
+                self.count = number;
+                Ok(())
+            }
+            None => Err(OutOfMemory),
+        }
+    }
+
+    /// The line of the newest crossing is written, of a world that traces.
+    fn write_newest(&mut self, world: &World) -> Result<(), OutOfMemory>
+        requires { world.now.tracing ≡ true }
+        ensures { OnOk result (HasWritten world.now self.old self.new) }
+    {
+        match world.newest() {
+            Some(newest) => self.write_line(newest),
+            None => Err(OutOfMemory),
+        }
+    }
+
+    /// The line of the newest crossing is written. Want of memory is answered too where crossings are not traced, and after 18,446,744,073,709,551,615 of them.
+    pub fn write(&mut self, world: &World) -> Result<(), OutOfMemory>
+        ensures { OnOk result (HasWritten world.now self.old self.new) }
+    {
+        if world.is_tracing() {
+            return self.write_newest(world);
+        }
+        Err(OutOfMemory)
+    }
+
+    /// The line of the crossing by which a turn came is written, if there is one.
+    pub fn note(&mut self, world: &World, turn: Turn) -> Result<(), OutOfMemory>
+        ensures { OnOk result (HasNoted world.now turn self.old self.new) }
+    {
+        match turn {
+            Turn::Runs(_) | Turn::Over(Ending::Done) | Turn::Over(Ending::Uncaught) => {
+                self.write(world)
+            }
+            Turn::Over(Ending::Budget(_)) | Turn::Over(Ending::Fault(_, _)) | Turn::Asks(_) => {
+                Ok(())
+            }
+        }
+    }
+
+    /// The lines of the steps and the last line are written. Want of memory is answered too where `push_end` says so.
+    pub fn end(
+        &mut self,
+        alloc: Global,
+        steps: &[u64],
+        ending: ToldEnding,
+    ) -> Result<(), OutOfMemory>
+        ensures { let end = end_text steps.now ending in
+            OnOk result (self.new ≡ record self.old { text = self.old.text ++ end }) }
+    {
+        push_end(alloc, steps, ending, &mut self.text)
+    }
+}

@@ -1,9 +1,0 @@
-use Rattle.std.proofs.Common.{subst}
-use Rattle.lava_host.specs.Hosts.{host_world}
-use Rattle.lava_runner.specs.Ran.{HasComeTo}
-use Rattle.lava_runner.proofs.run.go_further.Goals as goal
-
-pub returns-in-Asks : goal.returns-in-Asks
-returns-in-Asks g c =
-    let before = host_world (g.F.Folder.stand c.args.folder.now) (g.I.Source.stand c.args.input.now) (g.O.Sink.stand c.args.out.now) (g.E.Sink.stand c.args.err.now) (g.C.Clock.stand c.args.clock.now) in
-    λ first start h. c.answer.ensures first start c.args.step.failed (subst (λ t. HasComeTo c.args.emit c.args.dir.now first start c.args.world.now t c.args.step.failed before) c.in-Asks.is h)

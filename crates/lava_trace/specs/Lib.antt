@@ -1,0 +1,6 @@
+pub mod Asks
+pub mod Courses
+pub mod Items
+pub mod Left
+pub mod Many
+pub mod Traces
