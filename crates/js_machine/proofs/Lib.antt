@@ -27,5 +27,5 @@ pub mod Operated
 pub mod Instance_laws
 pub mod Converted
 pub mod Defined
-pub mod Native_deeds
+pub mod In_cases
 pub mod Defaulted

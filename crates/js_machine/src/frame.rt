@@ -3,7 +3,7 @@
 ghost use Rattle.std.specs.Prelude.{◌≡◌};
 ghost use Rattle.js_machine.specs.Views.{has_value, is_completion, is_handed, owned, takes_answers, takes_values, held, is_throw, as_text, goal_held, key_held};
 
-use js_operators::operation::Rest;
+use js_operation::operation::Rest;
 use js_text::native::Native;
 use js_tree::operator::{BinaryOperator, LogicalOperator, UnaryOperator};
 

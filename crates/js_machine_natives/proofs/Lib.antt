@@ -1,3 +1,4 @@
+pub mod Native_deeds
 pub mod Paid_laws
 pub mod Proxied_laws
 pub mod Wanted_numbers

@@ -20,8 +20,8 @@ use Rattle.js_desc.specs.declared.reply.Reply.{Reply}
 use Rattle.js_maker_natives.specs.Kinds.{array_of_class, is_array}
 use Rattle.js_maker_natives.specs.MakerDecisions.{MakerDecision}
 use Rattle.js_native.specs.Costs.{native_cost}
-use Rattle.js_natives.specs.Steps.{waits_as}
-use Rattle.js_natives.specs.declared.next.NativeNext.{NativeNext}
+use Rattle.js_native_steps.specs.Steps.{waits_as}
+use Rattle.js_native_steps.specs.declared.next.NativeNext.{NativeNext}
 use Rattle.js_operations.specs.Lists.{list_items}
 use Rattle.js_operations.specs.Looks.{marks_seen}
 use Rattle.js_run.specs.Acts as acts
@@ -70,7 +70,7 @@ use Rattle.js_machine.specs.declared.ways.Way.TheVariants as way
 use Rattle.js_machine_natives.proofs.Collected.{not_asked}
 use Rattle.js_machine.proofs.Leads.{delivered}
 use Rattle.js_machine.proofs.Looked.{looked}
-use Rattle.js_machine.proofs.Native_deeds.{RunsNative}
+use Rattle.js_machine_natives.proofs.Native_deeds.{RunsNative}
 use Rattle.js_machine_natives.proofs.Proxied_laws.{as_decided, is_proxy, proxied_in, seen_as_known, target_looked}
 
 abbrev V : Type 0

@@ -3,12 +3,12 @@
 ghost use Rattle.std.specs.Prelude.{◌≡◌, IfOk};
 ghost use Rattle.js_text.specs.declared.value.Value.TheVariants.{Int};
 ghost use Rattle.js_run.specs.Operators.{binary_value};
-ghost use Rattle.js_operators.specs.Deeds.{Does};
-ghost use Rattle.js_operators.specs.Operating.{integer_operation};
+ghost use Rattle.js_operation.specs.Deeds.{Does};
+ghost use Rattle.js_operation.specs.Operating.{integer_operation};
 
 use crate::numbers::numeric;
-use crate::operation::{Operation, flag, number_operation};
 use js_desc::fault::FaultText;
+use js_operation::operation::{Operation, flag, number_operation};
 use js_tree::operator::BinaryOperator;
 use lava_base::memory::OutOfMemory;
 

@@ -1,5 +1,5 @@
 use Rattle.std.proofs.Common.{◌∙◌}
-use Rattle.js_machine.proofs.Native_deeds.{acted}
+use Rattle.js_machine_natives.proofs.Native_deeds.{acted}
 use Rattle.js_machine_natives.proofs.natives.act_native.Goals as goal
 
 pub returns : goal.returns

@@ -13,8 +13,8 @@ use Rattle.js_desc.specs.declared.reply.Reply.{Reply}
 use Rattle.js_desc.specs.declared.reply.Reply.TheVariants as reply
 use Rattle.js_native.specs.Costs.{native_cost}
 use Rattle.js_natives.specs.Deeds.{Does, NativeDeed, acts_with, goes_on_with}
-use Rattle.js_natives.specs.Steps.{NativeStep, waits_as}
-use Rattle.js_natives.specs.declared.next.NativeNext.{NativeNext}
+use Rattle.js_native_steps.specs.Steps.{NativeStep, waits_as}
+use Rattle.js_native_steps.specs.declared.next.NativeNext.{NativeNext}
 use Rattle.js_operations.specs.Lists.{list_items}
 use Rattle.js_run.specs.Acts.{give}
 use Rattle.js_run.specs.NativeTurns.{charged, follows_native, follows_native_with, listed_units, native_gives, native_goes_on}
@@ -32,10 +32,6 @@ use Rattle.js_machine.specs.declared.frame.Mode.TheVariants as mode
 use Rattle.js_machine.specs.declared.frame.Purpose.{Purpose}
 use Rattle.js_machine.specs.declared.frame.Purpose.TheVariants as purpose
 use Rattle.js_machine.proofs.Leads.{delivered}
-
--- a deed of what is known
-pub in_case : {A : Type 0} {E : Type 0} (r : Result Mode E) (x y : A) (deed : A → Deed) (old new : View) → x ≡ y → IfOk r (LeadsTo (deed y) old new) → IfOk r (LeadsTo (deed x) old new)
-in_case r x y deed old new e h = subst (λ z. IfOk r (LeadsTo (deed z) old new)) (sym e) h
 
 -- a value that is no text is given as it is
 not_text : (which : Native) (v : Value Ref MadeSymbol) (p : Party Ref MadeSymbol) → ((t : List ℕ) → v ≡ value.Text t → ⊥) → native_gives which (reply.Value v) p ≡ give v p

@@ -1,7 +1,7 @@
 // What a native that waits needs to go on.
 
 ghost use Rattle.std.specs.Prelude.{◌≡◌};
-ghost use Rattle.js_natives.specs.Steps.{of_conversion, of_maker, of_object, of_slot, of_text};
+ghost use Rattle.js_native_steps.specs.Steps.{of_conversion, of_maker, of_object, of_slot, of_text};
 
 use js_conversions::next::Next as ConversionNext;
 use js_desc::decision::Decision;
@@ -21,7 +21,7 @@ pub enum NativeNext {
 }
 
 /// A decision of a native on texts, which asks nothing.
-pub(crate) fn of_text(decision: Decision<TextNext>) -> Decision<NativeNext>
+pub fn of_text(decision: Decision<TextNext>) -> Decision<NativeNext>
     ensures { result ≡ of_text decision }
 {
     match decision {
@@ -33,7 +33,7 @@ pub(crate) fn of_text(decision: Decision<TextNext>) -> Decision<NativeNext>
 }
 
 /// A decision of a native on objects.
-pub(crate) fn of_object(decision: Decision<ObjectNext>) -> Decision<NativeNext>
+pub fn of_object(decision: Decision<ObjectNext>) -> Decision<NativeNext>
     ensures { result ≡ of_object decision }
 {
     match decision {
@@ -64,7 +64,7 @@ pub(crate) fn of_object(decision: Decision<ObjectNext>) -> Decision<NativeNext>
 }
 
 /// A decision of a native that tells kinds or makes objects.
-pub(crate) fn of_maker(decision: Decision<MakerNext>) -> Decision<NativeNext>
+pub fn of_maker(decision: Decision<MakerNext>) -> Decision<NativeNext>
     ensures { result ≡ of_maker decision }
 {
     match decision {
@@ -95,7 +95,7 @@ pub(crate) fn of_maker(decision: Decision<MakerNext>) -> Decision<NativeNext>
 }
 
 /// A decision of a native on collections.
-pub(crate) fn of_slot(decision: Decision<SlotNext>) -> Decision<NativeNext>
+pub fn of_slot(decision: Decision<SlotNext>) -> Decision<NativeNext>
     ensures { result ≡ of_slot decision }
 {
     match decision {
@@ -126,7 +126,7 @@ pub(crate) fn of_slot(decision: Decision<SlotNext>) -> Decision<NativeNext>
 }
 
 /// A decision of a native that converts its operand.
-pub(crate) fn of_conversion(decision: Decision<ConversionNext>) -> Decision<NativeNext>
+pub fn of_conversion(decision: Decision<ConversionNext>) -> Decision<NativeNext>
     ensures { result ≡ of_conversion decision }
 {
     match decision {

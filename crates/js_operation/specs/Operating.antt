@@ -20,15 +20,15 @@ use Rattle.js_tree.specs.declared.operator.UnaryOperator.{UnaryOperator}
 use Rattle.js_tree.specs.declared.operator.UnaryOperator.TheVariants as unary
 use Rattle.js_run.specs.Operators.{either_is_text, numeric}
 use Rattle.js_run.specs.Truth.{is_nullish, to_boolean}
-use Rattle.js_operators.specs.Computing.{calculate, is_less_than, is_loosely_equal, key_of, number_of, number_or_end, texts_of, then_computed}
-use Rattle.js_operators.specs.declared.operation.Computed.{Computed}
-use Rattle.js_operators.specs.declared.operation.Computed.TheVariants as computed
-use Rattle.js_operators.specs.declared.operation.Look.{Look}
-use Rattle.js_operators.specs.declared.operation.Look.TheVariants as look
-use Rattle.js_operators.specs.declared.operation.Operation.{Operation}
-use Rattle.js_operators.specs.declared.operation.Operation.TheVariants as operation
-use Rattle.js_operators.specs.declared.operation.Rest.{Rest}
-use Rattle.js_operators.specs.declared.operation.Rest.TheVariants as rest
+use Rattle.js_operation.specs.Computing.{calculate, is_less_than, is_loosely_equal, key_of, number_of, number_or_end, texts_of, then_computed}
+use Rattle.js_operation.specs.declared.operation.Computed.{Computed}
+use Rattle.js_operation.specs.declared.operation.Computed.TheVariants as computed
+use Rattle.js_operation.specs.declared.operation.Look.{Look}
+use Rattle.js_operation.specs.declared.operation.Look.TheVariants as look
+use Rattle.js_operation.specs.declared.operation.Operation.{Operation}
+use Rattle.js_operation.specs.declared.operation.Operation.TheVariants as operation
+use Rattle.js_operation.specs.declared.operation.Rest.{Rest}
+use Rattle.js_operation.specs.declared.operation.Rest.TheVariants as rest
 
 abbrev pub MachineValue : Type 0
 MachineValue = values.Value Ref MadeSymbol

@@ -19,13 +19,13 @@ use Rattle.js_run.specs.Following.{halt_of}
 use Rattle.js_run.specs.Operators.{added, given_number, given_text, gives_flag, gives_opposite, has_instance, has_instance_by, number_of, numeric, primitive_is_less, primitives_are_equal, prototype_inherited, to_primitive}
 use Rattle.js_run.specs.Parties as parties
 use Rattle.js_run.specs.Parties.{Shared}
-use Rattle.js_operators.specs.Operating.{MachineValue, takes_numbers, unary_numeric}
-use Rattle.js_operators.specs.declared.operation.Look.{Look}
-use Rattle.js_operators.specs.declared.operation.Look.TheVariants as look
-use Rattle.js_operators.specs.declared.operation.Operation.{Operation}
-use Rattle.js_operators.specs.declared.operation.Operation.TheVariants as operation
-use Rattle.js_operators.specs.declared.operation.Rest.{Rest}
-use Rattle.js_operators.specs.declared.operation.Rest.TheVariants as rest
+use Rattle.js_operation.specs.Operating.{MachineValue, takes_numbers, unary_numeric}
+use Rattle.js_operation.specs.declared.operation.Look.{Look}
+use Rattle.js_operation.specs.declared.operation.Look.TheVariants as look
+use Rattle.js_operation.specs.declared.operation.Operation.{Operation}
+use Rattle.js_operation.specs.declared.operation.Operation.TheVariants as operation
+use Rattle.js_operation.specs.declared.operation.Rest.{Rest}
+use Rattle.js_operation.specs.declared.operation.Rest.TheVariants as rest
 
 abbrev pub MachineNaming : Type 0
 MachineNaming = Naming Ref MadeSymbol

@@ -21,8 +21,8 @@ use Rattle.js_desc.specs.declared.reply.Reply.TheVariants as reply
 use Rattle.js_tree.specs.declared.operator.BinaryOperator.{BinaryOperator}
 use Rattle.js_run.specs.Operators.{is_safe, numeric}
 use Rattle.js_run.specs.Truth.{is_nullish}
-use Rattle.js_operators.specs.declared.operation.Computed.{Computed}
-use Rattle.js_operators.specs.declared.operation.Computed.TheVariants as computed
+use Rattle.js_operation.specs.declared.operation.Computed.{Computed}
+use Rattle.js_operation.specs.declared.operation.Computed.TheVariants as computed
 
 abbrev pub then_computed : {A B : Type 0} → Computed A → (A → Computed B) → Computed B
 then_computed (computed.Is x) go = go x

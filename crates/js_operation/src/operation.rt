@@ -1,7 +1,7 @@
 // What an operator does.
 
 ghost use Rattle.std.specs.Prelude.{◌≡◌};
-ghost use Rattle.js_operators.specs.Operating.{flag, flag_operation, number_operation, number_value, object_of, wanted_by};
+ghost use Rattle.js_operation.specs.Operating.{flag, flag_operation, number_operation, number_value, object_of, wanted_by};
 
 use js_conversions::next::Wanted;
 use js_desc::decision::EndKind;
@@ -103,14 +103,14 @@ impl Rest {
 }
 
 /// Gives a truth value, or its opposite where it is negated.
-pub(crate) fn flag(negated: bool, truth: bool) -> Operation
+pub fn flag(negated: bool, truth: bool) -> Operation
     ensures { result ≡ flag negated truth }
 {
     Operation::Value(Value::Bool(truth != negated))
 }
 
 /// Gives a truth value that was computed, or its opposite where it is negated.
-pub(crate) fn flag_operation(negated: bool, truth: Computed<bool>) -> Operation
+pub fn flag_operation(negated: bool, truth: Computed<bool>) -> Operation
     ensures { result ≡ flag_operation negated truth }
 {
     match truth {
@@ -121,7 +121,7 @@ pub(crate) fn flag_operation(negated: bool, truth: Computed<bool>) -> Operation
 }
 
 /// A number that was computed, as a value.
-pub(crate) fn number_value(number: Computed<i64>) -> Computed<Value>
+pub fn number_value(number: Computed<i64>) -> Computed<Value>
     ensures { result ≡ number_value number }
 {
     match number {
@@ -132,7 +132,7 @@ pub(crate) fn number_value(number: Computed<i64>) -> Computed<Value>
 }
 
 /// Gives a number that was computed.
-pub(crate) fn number_operation(number: Computed<i64>) -> Operation
+pub fn number_operation(number: Computed<i64>) -> Operation
     ensures { result ≡ number_operation number }
 {
     match number {
@@ -143,7 +143,7 @@ pub(crate) fn number_operation(number: Computed<i64>) -> Operation
 }
 
 /// The object that a value is.
-pub(crate) fn object_of(value: &Value) -> Option<Ref>
+pub fn object_of(value: &Value) -> Option<Ref>
     ensures { result ≡ object_of value.now }
 {
     match value {

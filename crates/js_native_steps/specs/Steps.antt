@@ -14,8 +14,8 @@ use Rattle.js_slot_natives.specs.SlotNatives.{SlotDecision}
 use Rattle.js_store.specs.Objects.{Object}
 use Rattle.js_run.specs.Acts as acts
 use Rattle.js_run.specs.Acts.{Of_conversion, Of_maker, Of_object, Of_slot}
-use Rattle.js_natives.specs.declared.next.NativeNext.{NativeNext}
-use Rattle.js_natives.specs.declared.next.NativeNext.TheVariants as next
+use Rattle.js_native_steps.specs.declared.next.NativeNext.{NativeNext}
+use Rattle.js_native_steps.specs.declared.next.NativeNext.TheVariants as next
 
 abbrev pub MachineValue : Type 0
 MachineValue = Value Ref MadeSymbol
