@@ -6,6 +6,7 @@ ghost use Rattle.js_machine.specs.Views.{has_value, is_completion, is_handed, ow
 use js_operation::operation::Rest;
 use js_text::native::Native;
 use js_tree::operator::{BinaryOperator, LogicalOperator, UnaryOperator};
+use std::marker::Model;
 
 /// How a run ends within a party. None of these can be caught.
 #[derive(Clone, Copy, Debug, PartialEq, Eq)]
@@ -15,6 +16,60 @@ pub enum Halt {
     Depth,
     Meter,
     Outside,
+}
+
+/// How a run ends, in a word of its own: next to the number of a `Mode` it would be read together with that, and what is written in two pieces and read in one waits for both.
+#[derive(Clone, Copy)]
+pub struct HaltCode {
+    code: u32,
+}
+
+impl Model for HaltCode {
+    ghost use Rattle.std.specs.Prelude.{◌≡◌};
+    ghost use Rattle.js_machine.specs.Halts.{halt_coded, halt_number};
+    ghost use Rattle.js_machine.specs.declared.frame.Halt.{Halt};
+
+    ghost Value = { Halt };
+
+    ghost view = { λ c. halt_coded c.code };
+
+    ghost invariant = { λ c. halt_number (halt_coded c.code) ≡ c.code };
+
+    ghost inverse = { λ h. record { code = halt_number h } };
+
+    ghost inverse_ok = { λ a h i. record { code = h i } };
+}
+
+impl HaltCode {
+    /// The code of a halt.
+    pub fn of(halt: Halt) -> HaltCode
+        ensures { result ≡ halt }
+    {
+        match halt {
+            Halt::Number => HaltCode { code: 0 },
+            Halt::Text => HaltCode { code: 1 },
+            Halt::Depth => HaltCode { code: 2 },
+            Halt::Meter => HaltCode { code: 3 },
+            Halt::Outside => HaltCode { code: 4 },
+        }
+    }
+
+    /// The halt.
+    pub fn halt(self) -> Halt
+        ensures { result ≡ self }
+    {
+        if self.code == 0 {
+            Halt::Number
+        } else if self.code == 1 {
+            Halt::Text
+        } else if self.code == 2 {
+            Halt::Depth
+        } else if self.code == 3 {
+            Halt::Meter
+        } else {
+            Halt::Outside
+        }
+    }
 }
 
 /// What the arguments of a call are for. It has values on the stack, below the arguments.
@@ -43,7 +98,7 @@ pub enum Mode {
     Return,
     Break(u32),
     Continue(u32),
-    End(Halt),
+    End(HaltCode),
     /// So much and one is to be paid, before undefined is given.
     Pay(u32),
     /// So much and one is to be paid for an ask that came from another party.

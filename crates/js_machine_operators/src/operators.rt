@@ -60,6 +60,7 @@ fn operation_on_number(
 }
 
 /// What a binary operator does with its operands.
+#[inline]
 fn operation_on(
     alloc: Global,
     operator: BinaryOperator,
@@ -159,8 +160,8 @@ fn convert_operand(
     machine.convert_object(object, Goal::Operand(rest))
 }
 
-/// Does what an operation says.
-pub fn operate(machine: &mut Machine, operation: Operation) -> Result<Mode, OutOfMemory>
+/// Does what an operation says, whatever it is.
+fn operate_any(machine: &mut Machine, operation: Operation) -> Result<Mode, OutOfMemory>
     ensures { IfOk result (LeadsTo (λ a. act_of (naming_of machine.old.me) a.shared operation
         (party_of a machine.old)) machine.old machine.new) }
 {
@@ -180,6 +181,18 @@ pub fn operate(machine: &mut Machine, operation: Operation) -> Result<Mode, OutO
     }
 }
 
+/// Does what an operation says. (A value, which is what comes of most, is given at once: what the others move would be laid out for it, too.)
+#[inline]
+pub fn operate(machine: &mut Machine, operation: Operation) -> Result<Mode, OutOfMemory>
+    ensures { IfOk result (LeadsTo (λ a. act_of (naming_of machine.old.me) a.shared operation
+        (party_of a machine.old)) machine.old machine.new) }
+{
+    match operation {
+        Operation::Value(value) => machine.give(value),
+        _ => operate_any(machine, operation),
+    }
+}
+
 /// A unary operator has its operand (ECMA-262, Unary Operators).
 pub fn unary(
     machine: &mut Machine,
@@ -194,6 +207,7 @@ pub fn unary(
 }
 
 /// A binary operator has its operands (ECMA-262, EvaluateStringOrNumericBinaryExpression).
+#[inline]
 fn binary(
     machine: &mut Machine,
     operator: BinaryOperator,
@@ -209,6 +223,7 @@ fn binary(
 }
 
 /// The right operand comes to the frame that has the left one.
+#[inline]
 pub fn go_on_binary(
     machine: &mut Machine,
     operator: BinaryOperator,

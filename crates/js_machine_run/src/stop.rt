@@ -85,7 +85,10 @@ pub fn stop_at(machine: &Machine, mode: Mode, pause: Pause) -> Stop
     match mode {
         Mode::Eval(_) | Mode::Pay(_) | Mode::Serve(_) => Stop::Short { steps },
         Mode::Ask => stop_ask(machine, steps),
-        Mode::End(halt) => Stop::Stopped { halt, steps },
+        Mode::End(code) => Stop::Stopped {
+            halt: code.halt(),
+            steps,
+        },
         Mode::Import => Stop::Imports { steps },
         Mode::Outside => Stop::Outside(pause),
         _ => Stop::Gave { mode, steps },

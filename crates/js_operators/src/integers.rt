@@ -13,6 +13,7 @@ use js_tree::operator::BinaryOperator;
 use lava_base::memory::OutOfMemory;
 
 /// What a binary operator does with two numbers.
+#[inline]
 fn integer_step(operator: BinaryOperator, left: i64, right: i64) -> Result<Operation, OutOfMemory>
     ensures { IfOk result (λ o. o ≡ integer_operation operator left right) }
 {
@@ -34,6 +35,7 @@ fn integer_step(operator: BinaryOperator, left: i64, right: i64) -> Result<Opera
 }
 
 /// What a binary operator does with two numbers, in a constant number of steps but for `**` (ECMA-262, ApplyStringOrNumericBinaryOperator, IsLessThan, IsStrictlyEqual). Want of memory is answered too where one is no safe integer.
+#[inline]
 pub fn integer_operation(
     operator: BinaryOperator,
     left: i64,

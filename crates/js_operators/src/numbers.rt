@@ -20,6 +20,7 @@ use lava_base::memory::OutOfMemory;
 use std::alloc::Global;
 
 /// A number, where it is safe.
+#[inline]
 fn safe_or_end(number: Result<Safe, NotSafe>) -> Computed<i64>
     ensures { result ≡ safe_or_end number }
 {
@@ -83,6 +84,7 @@ fn operate(operator: BinaryOperator, left: Safe, right: Safe) -> Result<Safe, No
 }
 
 /// The number, which is a safe one. Want of memory is answered too where it is not.
+#[inline]
 pub(crate) fn safe(number: i64) -> Result<Safe, OutOfMemory>
     ensures { IfOk result (λ safe. safe ≡ number) }
 {
@@ -93,6 +95,7 @@ pub(crate) fn safe(number: i64) -> Result<Safe, OutOfMemory>
 }
 
 /// What an operator on two numbers gives; a result that is no safe integer ends the run (ECMA-262, ApplyStringOrNumericBinaryOperator). Want of memory is answered too where an operand is no safe integer.
+#[inline]
 pub fn numeric(
     operator: BinaryOperator,
     left: i64,

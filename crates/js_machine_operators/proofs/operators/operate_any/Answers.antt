@@ -3,7 +3,7 @@ use Rattle.js_text.specs.Naming.{naming_of}
 use Rattle.js_operation.specs.Deeds.{act_of}
 use Rattle.js_machine.specs.Steps.{LeadsTo}
 use Rattle.js_machine.specs.Views.{party_of}
-use Rattle.js_machine_operators.proofs.operators.operate.Goals as goal
+use Rattle.js_machine_operators.proofs.operators.operate_any.Goals as goal
 
 pub returns-in-HasProperty : goal.returns-in-HasProperty
 returns-in-HasProperty c =
