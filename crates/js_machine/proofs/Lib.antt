@@ -3,6 +3,7 @@ pub mod Dropped
 pub mod Standing
 pub mod Passes
 pub mod Leads
+pub mod Over
 pub mod Faulted
 pub mod Exits
 pub mod Created

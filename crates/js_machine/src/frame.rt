@@ -1,12 +1,12 @@
 // What waits for a completion, and what is next. A frame's own values stand on the stack of values.
 
 ghost use Rattle.std.specs.Prelude.{◌≡◌};
+ghost use Rattle.js_machine.specs.Halts.{halt_coded, halt_number};
 ghost use Rattle.js_machine.specs.Views.{has_value, is_completion, is_handed, owned, takes_answers, takes_values, held, is_throw, as_text, goal_held, key_held};
 
 use js_operation::operation::Rest;
 use js_text::native::Native;
 use js_tree::operator::{BinaryOperator, LogicalOperator, UnaryOperator};
-use std::marker::Model;
 
 /// How a run ends within a party. None of these can be caught.
 #[derive(Clone, Copy, Debug, PartialEq, Eq)]
@@ -18,57 +18,33 @@ pub enum Halt {
     Outside,
 }
 
-/// How a run ends, in a word of its own: next to the number of a `Mode` it would be read together with that, and what is written in two pieces and read in one waits for both.
-#[derive(Clone, Copy)]
-pub struct HaltCode {
-    code: u32,
-}
-
-impl Model for HaltCode {
-    ghost use Rattle.std.specs.Prelude.{◌≡◌};
-    ghost use Rattle.js_machine.specs.Halts.{halt_coded, halt_number};
-    ghost use Rattle.js_machine.specs.declared.frame.Halt.{Halt};
-
-    ghost Value = { Halt };
-
-    ghost view = { λ c. halt_coded c.code };
-
-    ghost invariant = { λ c. halt_number (halt_coded c.code) ≡ c.code };
-
-    ghost inverse = { λ h. record { code = halt_number h } };
-
-    ghost inverse_ok = { λ a h i. record { code = h i } };
-}
-
-impl HaltCode {
-    /// The code of a halt.
-    pub fn of(halt: Halt) -> HaltCode
-        ensures { result ≡ halt }
-    {
-        match halt {
-            Halt::Number => HaltCode { code: 0 },
-            Halt::Text => HaltCode { code: 1 },
-            Halt::Depth => HaltCode { code: 2 },
-            Halt::Meter => HaltCode { code: 3 },
-            Halt::Outside => HaltCode { code: 4 },
-        }
+/// The number of an end, as a `Mode` has it: a word of its own. (A single byte next to the number of the mode would be read together with that, and what is written in two pieces and read in one waits for both.)
+pub fn halt_number(halt: Halt) -> u32
+    ensures { result ≡ halt_number halt }
+{
+    match halt {
+        Halt::Number => 0,
+        Halt::Text => 1,
+        Halt::Depth => 2,
+        Halt::Meter => 3,
+        Halt::Outside => 4,
     }
+}
 
-    /// The halt.
-    pub fn halt(self) -> Halt
-        ensures { result ≡ self }
-    {
-        if self.code == 0 {
-            Halt::Number
-        } else if self.code == 1 {
-            Halt::Text
-        } else if self.code == 2 {
-            Halt::Depth
-        } else if self.code == 3 {
-            Halt::Meter
-        } else {
-            Halt::Outside
-        }
+/// The end of a number.
+pub fn halt_coded(number: u32) -> Halt
+    ensures { result ≡ halt_coded number }
+{
+    if number == 0 {
+        Halt::Number
+    } else if number == 1 {
+        Halt::Text
+    } else if number == 2 {
+        Halt::Depth
+    } else if number == 3 {
+        Halt::Meter
+    } else {
+        Halt::Outside
     }
 }
 
@@ -98,7 +74,8 @@ pub enum Mode {
     Return,
     Break(u32),
     Continue(u32),
-    End(HaltCode),
+    /// The run ends, by this number of a `Halt`.
+    End(u32),
     /// So much and one is to be paid, before undefined is given.
     Pay(u32),
     /// So much and one is to be paid for an ask that came from another party.

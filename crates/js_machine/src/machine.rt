@@ -156,6 +156,20 @@ impl Machine {
         self.wait(frame, at)
     }
 
+    /// A form is begun, and a frame waits for it that has the newest value, which stays where it is.
+    #[inline]
+    #[tactic(auto, using(crate::proofs::Over::none_over, crate::proofs::Over::some_over))]
+    pub fn wait_over(&mut self, frame: Frame, at: u32) -> Result<Mode, OutOfMemory>
+        ensures { let value = top self.old.values in
+            let rest = record self.old { values = below self.old.values } in
+            IfOk result (WaitsWith value frame at rest self.new) }
+    {
+        if self.values.len() == 0 {
+            return self.wait_with(Value::Undefined, frame, at);
+        }
+        self.wait(frame, at)
+    }
+
     /// A completion that has a value comes.
     #[tactic(auto, using(crate::proofs::Leads::ended))]
     pub fn end_with(&mut self, value: Value, mode: Mode) -> Result<Mode, OutOfMemory>

@@ -23,7 +23,7 @@ use lava_base::memory::OutOfMemory;
 
 /// The left operand of a binary operator comes.
 #[inline]
-#[tactic(auto, using(crate::proofs::Coming::comes))]
+#[tactic(auto, using(crate::proofs::Coming::stays_there))]
 fn left_comes(
     machine: &mut Machine,
     operator: BinaryOperator,
@@ -32,8 +32,7 @@ fn left_comes(
     ensures { let frame = frame_kind.BinaryLeft operator right in
         IfOk result (IsDelivered frame mode.Value machine.old machine.new) }
 {
-    let value = machine.take();
-    machine.wait_with(value, Frame::BinaryRight { operator }, right)
+    machine.wait_over(Frame::BinaryRight { operator }, right)
 }
 
 /// Its right operand comes.
@@ -49,7 +48,6 @@ fn right_comes(machine: &mut Machine, operator: BinaryOperator) -> Result<Mode, 
 
 /// The left operand of a logical operator comes.
 #[inline]
-#[tactic(auto, using(crate::proofs::Coming::comes))]
 fn short_comes(
     machine: &mut Machine,
     operator: LogicalOperator,
@@ -64,7 +62,6 @@ fn short_comes(
 
 /// The test of a branch without an alternate comes.
 #[inline]
-#[tactic(auto, using(crate::proofs::Coming::comes))]
 fn test_comes(machine: &mut Machine, consequent: u32) -> Result<Mode, OutOfMemory>
     ensures { let frame = frame_kind.If consequent in
         IfOk result (IsDelivered frame mode.Value machine.old machine.new) }
@@ -75,7 +72,6 @@ fn test_comes(machine: &mut Machine, consequent: u32) -> Result<Mode, OutOfMemor
 
 /// The test of a branch comes.
 #[inline]
-#[tactic(auto, using(crate::proofs::Coming::comes))]
 fn choice_comes(machine: &mut Machine, consequent: u32, alternate: u32) -> Result<Mode, OutOfMemory>
     ensures { let frame = frame_kind.IfElse consequent alternate in
         IfOk result (IsDelivered frame mode.Value machine.old machine.new) }
@@ -86,7 +82,6 @@ fn choice_comes(machine: &mut Machine, consequent: u32, alternate: u32) -> Resul
 
 /// The value for a slot comes.
 #[inline]
-#[tactic(auto, using(crate::proofs::Coming::comes))]
 fn local_comes(
     machine: &mut Machine,
     hops: u32,
@@ -102,7 +97,6 @@ fn local_comes(
 
 /// The first value of a slot comes.
 #[inline]
-#[tactic(auto, using(crate::proofs::Coming::comes))]
 fn first_comes(machine: &mut Machine, hops: u32, slot: u32) -> Result<Mode, OutOfMemory>
     ensures { let frame = frame_kind.Init hops slot in
         IfOk result (IsDelivered frame mode.Value machine.old machine.new) }
@@ -113,7 +107,6 @@ fn first_comes(machine: &mut Machine, hops: u32, slot: u32) -> Result<Mode, OutO
 
 /// The test of a loop's turn comes.
 #[inline]
-#[tactic(auto, using(crate::proofs::Coming::comes))]
 fn turn_comes(machine: &mut Machine, turns: u32) -> Result<Mode, OutOfMemory>
     ensures { let frame = frame_kind.Tested turns in
         IfOk result (IsDelivered frame mode.Value machine.old machine.new) }
@@ -124,7 +117,6 @@ fn turn_comes(machine: &mut Machine, turns: u32) -> Result<Mode, OutOfMemory>
 
 /// What is returned comes.
 #[inline]
-#[tactic(auto, using(crate::proofs::Coming::comes))]
 fn returned_comes(machine: &mut Machine) -> Result<Mode, OutOfMemory>
     ensures { IfOk result (IsDelivered frame_kind.Return mode.Value machine.old machine.new) }
 {
@@ -134,51 +126,46 @@ fn returned_comes(machine: &mut Machine) -> Result<Mode, OutOfMemory>
 
 /// The object of a property comes.
 #[inline]
-#[tactic(auto, using(crate::proofs::Coming::comes))]
+#[tactic(auto, using(crate::proofs::Coming::stays_there))]
 fn object_comes(machine: &mut Machine, key: u32) -> Result<Mode, OutOfMemory>
     ensures { let frame = frame_kind.GetObject key in
         IfOk result (IsDelivered frame mode.Value machine.old machine.new) }
 {
-    let value = machine.take();
-    machine.wait_with(value, Frame::GetKey, key)
+    machine.wait_over(Frame::GetKey, key)
 }
 
 /// The object of a property that is to be set comes.
 #[inline]
-#[tactic(auto, using(crate::proofs::Coming::comes))]
+#[tactic(auto, using(crate::proofs::Coming::stays_there))]
 fn target_comes(machine: &mut Machine, key: u32, at: u32) -> Result<Mode, OutOfMemory>
     ensures { let frame = frame_kind.PutObject key at in
         IfOk result (IsDelivered frame mode.Value machine.old machine.new) }
 {
-    let value = machine.take();
-    machine.wait_with(value, Frame::PutKey { value: at }, key)
+    machine.wait_over(Frame::PutKey { value: at }, key)
 }
 
 /// Its key comes.
 #[inline]
-#[tactic(auto, using(crate::proofs::Coming::comes))]
+#[tactic(auto, using(crate::proofs::Coming::stays_there))]
 fn key_comes(machine: &mut Machine, at: u32) -> Result<Mode, OutOfMemory>
     ensures { let frame = frame_kind.PutKey at in
         IfOk result (IsDelivered frame mode.Value machine.old machine.new) }
 {
-    let value = machine.take();
-    machine.wait_with(value, Frame::PutValue, at)
+    machine.wait_over(Frame::PutValue, at)
 }
 
 /// The object of a method comes.
 #[inline]
-#[tactic(auto, using(crate::proofs::Coming::comes))]
+#[tactic(auto, using(crate::proofs::Coming::stays_there))]
 fn receiver_comes(machine: &mut Machine, key: u32, arguments: u32) -> Result<Mode, OutOfMemory>
     ensures { let frame = frame_kind.CallObject key arguments in
         IfOk result (IsDelivered frame mode.Value machine.old machine.new) }
 {
-    let value = machine.take();
-    machine.wait_with(value, Frame::CallKey { arguments }, key)
+    machine.wait_over(Frame::CallKey { arguments }, key)
 }
 
 /// The operand of an operator comes.
 #[inline]
-#[tactic(auto, using(crate::proofs::Coming::comes))]
 fn operand_comes(machine: &mut Machine, operator: UnaryOperator) -> Result<Mode, OutOfMemory>
     ensures { let frame = frame_kind.Unary operator in
         IfOk result (IsDelivered frame mode.Value machine.old machine.new) }
@@ -189,7 +176,6 @@ fn operand_comes(machine: &mut Machine, operator: UnaryOperator) -> Result<Mode,
 
 /// What a loop does after a turn is done.
 #[inline]
-#[tactic(auto, using(crate::proofs::Coming::comes))]
 fn update_comes(machine: &mut Machine, turns: u32) -> Result<Mode, OutOfMemory>
     ensures { let frame = frame_kind.Updated turns in
         IfOk result (IsDelivered frame mode.Value machine.old machine.new) }
@@ -200,7 +186,6 @@ fn update_comes(machine: &mut Machine, turns: u32) -> Result<Mode, OutOfMemory>
 
 /// A form that others follow is done.
 #[inline]
-#[tactic(auto, using(crate::proofs::Coming::comes))]
 fn others_follow(machine: &mut Machine, start: u32, count: u32) -> Result<Mode, OutOfMemory>
     ensures { let frame = frame_kind.Seq start count in
         IfOk result (IsDelivered frame mode.Value machine.old machine.new) }
@@ -233,7 +218,6 @@ fn property_comes(machine: &mut Machine) -> Result<Mode, OutOfMemory>
 
 /// What is called comes.
 #[inline]
-#[tactic(auto, using(crate::proofs::Coming::comes))]
 fn function_comes(machine: &mut Machine, arguments: u32) -> Result<Mode, OutOfMemory>
     ensures { let frame = frame_kind.Callee arguments in
         IfOk result (IsDelivered frame mode.Value machine.old machine.new) }
@@ -244,7 +228,6 @@ fn function_comes(machine: &mut Machine, arguments: u32) -> Result<Mode, OutOfMe
 
 /// The method that is called comes.
 #[inline]
-#[tactic(auto, using(crate::proofs::Coming::comes))]
 fn found_comes(machine: &mut Machine, arguments: u32) -> Result<Mode, OutOfMemory>
     ensures { let frame = frame_kind.CallMethod arguments in
         IfOk result (IsDelivered frame mode.Value machine.old machine.new) }
@@ -255,7 +238,6 @@ fn found_comes(machine: &mut Machine, arguments: u32) -> Result<Mode, OutOfMemor
 
 /// An argument comes.
 #[inline]
-#[tactic(auto, using(crate::proofs::Coming::comes))]
 fn next_comes(
     machine: &mut Machine,
     purpose: Purpose,
