@@ -62,3 +62,33 @@ pub returns-in-Native : goal.returns-in-Native
 unfolding native_on
 returns-in-Native c =
     begun_ok c.begin_native.result c.args.at (node.Native c.in-Native.native c.in-Native.start c.in-Native.count) c.args.machine.now c.begin_native.new.machine c.in-Native.ensures c.begin_native.ensures
+
+pub returns-in-Undefined : goal.returns-in-Undefined
+returns-in-Undefined c = begun_ok c.give_undefined.result c.args.at node.Undefined c.args.machine.now c.give_undefined.new.machine c.in-Undefined.ensures c.give_undefined.ensures
+
+pub returns-in-Null : goal.returns-in-Null
+returns-in-Null c = begun_ok c.give_null.result c.args.at node.Null c.args.machine.now c.give_null.new.machine c.in-Null.ensures c.give_null.ensures
+
+pub returns-in-Iterator : goal.returns-in-Iterator
+returns-in-Iterator c = begun_ok c.give_iterator.result c.args.at node.Iterator c.args.machine.now c.give_iterator.new.machine c.in-Iterator.ensures c.give_iterator.ensures
+
+pub returns-in-SetLocal : goal.returns-in-SetLocal
+returns-in-SetLocal c = begun_ok c.wait_local.result c.args.at (node.SetLocal c.in-SetLocal.hops c.in-SetLocal.slot c.in-SetLocal.constant c.in-SetLocal.value) c.args.machine.now c.wait_local.new.machine c.in-SetLocal.ensures c.wait_local.ensures
+
+pub returns-in-Init : goal.returns-in-Init
+returns-in-Init c = begun_ok c.wait_first.result c.args.at (node.Init c.in-Init.hops c.in-Init.slot c.in-Init.value) c.args.machine.now c.wait_first.new.machine c.in-Init.ensures c.wait_first.ensures
+
+pub returns-in-Short : goal.returns-in-Short
+returns-in-Short c = begun_ok c.wait_short.result c.args.at (node.Short c.in-Short.operator c.in-Short.left c.in-Short.right) c.args.machine.now c.wait_short.new.machine c.in-Short.ensures c.wait_short.ensures
+
+pub returns-in-If : goal.returns-in-If
+returns-in-If c = begun_ok c.wait_test.result c.args.at (node.If c.in-If.test c.in-If.consequent) c.args.machine.now c.wait_test.new.machine c.in-If.ensures c.wait_test.ensures
+
+pub returns-in-IfElse : goal.returns-in-IfElse
+returns-in-IfElse c = begun_ok c.wait_choice.result c.args.at (node.IfElse c.in-IfElse.test c.in-IfElse.consequent c.in-IfElse.alternate) c.args.machine.now c.wait_choice.new.machine c.in-IfElse.ensures c.wait_choice.ensures
+
+pub returns-in-Label : goal.returns-in-Label
+returns-in-Label c = begun_ok c.wait_label.result c.args.at (node.Label c.in-Label.label c.in-Label.body) c.args.machine.now c.wait_label.new.machine c.in-Label.ensures c.wait_label.ensures
+
+pub returns-in-Throw : goal.returns-in-Throw
+returns-in-Throw c = begun_ok c.wait_thrown.result c.args.at (node.Throw c.in-Throw.value) c.args.machine.now c.wait_thrown.new.machine c.in-Throw.ensures c.wait_thrown.ensures
