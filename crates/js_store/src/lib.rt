@@ -18,6 +18,8 @@ pub mod frozen;
 pub mod laws;
 mod named;
 mod object;
+pub mod places;
 mod properties;
 pub mod slot;
 pub mod store;
+mod table_index;
