@@ -1,5 +1,5 @@
 -- What keyed collections decide that a native looks into.
-use Rattle.std.proofs.Common.{◌≡◌, ℕ, zero, suc, ◌<◌, Bool, List, [], ◌∷◌, length, map, slice_set, Option, Some, None, refl, sym, ap, ◌∙◌, subst, arith, Result, Ok, Err, IfOk, OnOk}
+use Rattle.std.proofs.Common.{◌≡◌, Bool, List, Option, Some, sym, ap, ◌∙◌, subst, Result, Ok, Err, IfOk}
 use Rattle.std.specs.Option.{option_map}
 use Rattle.lava_base.specs.declared.ids.MadeSymbol.{MadeSymbol}
 use Rattle.lava_base.specs.declared.ids.Ref.{Ref}
@@ -14,7 +14,6 @@ use Rattle.js_run.specs.Acts.{as_it_is}
 use Rattle.js_run.specs.Collections.{follows_table, with_table}
 use Rattle.js_run.specs.Decisions.{decides_by_slot, decides_object}
 use Rattle.js_run.specs.Following.{follows_by}
-use Rattle.js_run.specs.Runs.{answered}
 use Rattle.js_slot_natives.specs.SlotNatives.{table_given}
 use Rattle.js_slots.specs.declared.entry.TableEntry.{TableEntry}
 use Rattle.js_store.specs.Frozen.{CommonObject, common_ref}
@@ -25,8 +24,8 @@ use Rattle.js_store.specs.declared.slot.Held.TheVariants as held
 use Rattle.js_store.specs.declared.slot.Slot.{Slot}
 use Rattle.js_store.specs.declared.slot.Slot.TheVariants as slot
 use Rattle.js_machine.specs.Collecting.{collected, table_by, with_entries}
-use Rattle.js_machine.specs.Steps.{LeadsTo, settles}
-use Rattle.js_machine.specs.Views.{View, fitting, party_of}
+use Rattle.js_machine.specs.Steps.{LeadsTo}
+use Rattle.js_machine.specs.Views.{View, party_of}
 use Rattle.js_machine.specs.Ways.{object_in, way_asked, way_called, way_collected, way_here, way_of}
 use Rattle.js_machine.specs.declared.frame.Mode.{Mode}
 use Rattle.js_machine.specs.declared.ways.Way.{Way}

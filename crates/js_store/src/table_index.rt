@@ -1,10 +1,10 @@
 // The index beside a table's places, and what a table with an index answers to a native.
 
-ghost use Rattle.std.specs.Prelude.{◌≡◌, ◌+◌, ◌<◌, ◌^◌, ◌++◌, ◌∷◌, [], length, map, take, IfOk, IfSome, OnOk, OnErr, Some, None};
+ghost use Rattle.std.specs.Prelude.{◌≡◌, ◌+◌, ◌<◌, ◌++◌, ◌∷◌, [], length, map, take, IfOk, IfSome, OnOk, OnErr, Some, None};
 ghost use Rattle.lava_base.specs.Ids.{same_ref, same_made_symbol};
 ghost use Rattle.js_text.specs.Values.{same_value};
 ghost use Rattle.js_slots.specs.TableAnswers.{answer_clear, answer_delete, answer_get, answer_has, answer_set, answer_size, table_answer};
-ghost use Rattle.js_slots.specs.Tables.{dead_entry, live_entry, map_clear, map_delete, map_get, map_has, map_set, map_size, place_of};
+ghost use Rattle.js_slots.specs.Tables.{dead_entry, live_entry, map_clear, map_delete, map_get, map_has, map_set};
 ghost use Rattle.js_store.specs.Indexed.{IsIndexOf, noted};
 ghost use Rattle.js_store.specs.Tables.{store_entry, table_entry};
 
