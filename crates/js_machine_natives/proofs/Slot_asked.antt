@@ -42,13 +42,14 @@ use Rattle.js_proxy.specs.Traps.{decided_by_proxy}
 use Rattle.js_slot_natives.specs.Collections.{collection_class, is_of_class}
 use Rattle.js_slot_natives.specs.SlotNatives.{SlotDecision, ask_collection, slot_native, table_given, takes}
 use Rattle.js_slot_natives.specs.declared.next.Next.TheVariants as slot_next
+use Rattle.js_store.specs.Tables.{entries_of}
 use Rattle.js_store.specs.declared.slot.Entry.{Entry}
 use Rattle.js_store.specs.declared.slot.Slot.{Slot}
 use Rattle.js_store.specs.declared.slot.Slot.TheVariants as slot
 use Rattle.js_traps.specs.TrapDecisions.{ProxyDecision}
 use Rattle.js_traps.specs.declared.next.Next.{Next as ProxyNext}
 use Rattle.js_traps.specs.declared.next.Next.TheVariants as proxy_next
-use Rattle.js_machine.specs.Collecting.{collected, entries_of, table_by}
+use Rattle.js_machine.specs.Collecting.{collected, table_by}
 use Rattle.js_machine.specs.Decisions.{object_of_value}
 use Rattle.js_machine.specs.Looks.{foreign_at}
 use Rattle.js_machine.specs.Natives.{asks_slots}

@@ -1,8 +1,8 @@
 -- The walk goes on as it began.
 use Rattle.std.proofs.Common.{◌≡◌, ◌-◌, length, map}
 use Rattle.js_slots.specs.Tables.{map_next}
-use Rattle.js_run.specs.Collections.{table_entry}
-use Rattle.js_collections.proofs.places.next_live.Given as goal
+use Rattle.js_store.specs.Tables.{table_entry}
+use Rattle.js_store.proofs.places.next_live.Given as goal
 
 abbrev pub invariant-loop-at : goal.invariant-loop-at
 invariant-loop-at l = map_next l.at (map table_entry l.entries) ≡ map_next l.fn.from (map table_entry l.entries)
