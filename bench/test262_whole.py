@@ -1,13 +1,13 @@
 #!/usr/bin/env python3
 """Gives each file of test262 to `lava run` and to `lava tree`, and counts what they answer.
 
-usage: bench/test262_whole.py FOLDER [PROGRAM] [PROCESSES]
+usage: bench/test262_whole.py FOLDER [PROGRAM] [PROCESSES] [FILE]
 
 FOLDER is a checkout of test262 (or of the part of it that another engine's sources have); PROGRAM the built program,
 crates/lava/out/lava unless given. Each file is the one module of an application, as it stands: its harness is not there, so most
 end by a name that is not found. Counted are the answers (the status, and the first words of the line on the errors), those of
 files that have to be refused by their front matter and were read, and those that should be read and were refused, by the reason.
-A crash is an answer that is none of the program's own: another status than its own, a signal, or more than a minute.
+FILE gets a line for each file: its answers, and what its front matter says. A crash is an answer that is none of the program's own: another status than its own, a signal, or more than a minute.
 It is no test of the gate.
 """
 import collections
@@ -64,10 +64,14 @@ def main():
     folder = pathlib.Path(sys.argv[1])
     program = os.path.abspath(sys.argv[2] if len(sys.argv) > 2 else TOP / "crates/lava/out/lava")
     many = int(sys.argv[3]) if len(sys.argv) > 3 else os.cpu_count()
+    each = open(sys.argv[4], "w", encoding="utf-8") if len(sys.argv) > 4 else None
     paths = sorted(folder.rglob("*.js"))
     runs, trees, read, refused, crashes = (collections.Counter() for _ in range(5))
     with concurrent.futures.ThreadPoolExecutor(many) as pool:
         for path, negative, sloppy, ran, tree in pool.map(lambda it: one(program, it), paths):
+            if each:
+                said = "negative" if negative else "sloppy" if sloppy else "positive"
+                each.write(f"{path.relative_to(folder)}\t{ran}\t{tree}\t{said}\n")
             runs[ran] += 1
             trees[" ".join(tree.split()[:4])] += 1
             is_refused = ran.startswith("3 lava: syntax")
