@@ -4,3 +4,4 @@ pub mod Proxied_laws
 pub mod Wanted_numbers
 pub mod Collected
 pub mod Slot_asked
+pub mod Kind_told

@@ -1,6 +1,6 @@
 use Rattle.std.proofs.Common.{◌∙◌}
 use Rattle.js_machine_natives.proofs.Native_deeds.{acted}
-use Rattle.js_machine_natives.proofs.natives.act_native.Goals as goal
+use Rattle.js_machine_natives.proofs.natives.act_decided.Goals as goal
 
 pub returns : goal.returns
 returns c =
