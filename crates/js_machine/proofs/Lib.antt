@@ -3,7 +3,6 @@ pub mod Dropped
 pub mod Standing
 pub mod Passes
 pub mod Leads
-pub mod Over
 pub mod Faulted
 pub mod Exits
 pub mod Created
@@ -28,5 +27,5 @@ pub mod Operated
 pub mod Instance_laws
 pub mod Converted
 pub mod Defined
-pub mod In_cases
+pub mod Native_deeds
 pub mod Defaulted

@@ -1,4 +1,3 @@
-pub mod Halts
 pub mod Bodies
 pub mod Packages
 pub mod Views

@@ -1,3 +1,6 @@
+pub mod Shows
+pub mod Leads
+pub mod Newest
 pub mod Worlds
 pub mod Crossings
 pub mod Ends

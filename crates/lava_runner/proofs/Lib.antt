@@ -1,2 +1,3 @@
+pub mod In_range
 pub mod Calling
 pub mod Reported

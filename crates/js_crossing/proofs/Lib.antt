@@ -1,3 +1,0 @@
-pub mod Shown_laws
-pub mod Reversed
-pub mod Newest_laws

@@ -1,2 +1,0 @@
-pub mod In_range
-pub mod Firsts

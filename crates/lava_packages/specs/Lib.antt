@@ -1,4 +1,0 @@
-pub mod Commons
-pub mod Modules
-pub mod Packages
-pub mod Uncaught
