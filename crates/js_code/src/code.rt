@@ -63,6 +63,7 @@ impl Model for Code {
 }
 
 /// The row at a place, and another one where there is none.
+#[inline]
 fn row_at<T: Copy>(table: &[T], at: u32, none: T) -> T
     ensures { result ≡ get_or table.now at none }
 {
@@ -74,6 +75,7 @@ fn row_at<T: Copy>(table: &[T], at: u32, none: T) -> T
 }
 
 /// So many rows from one on, or those of them that are there.
+#[inline]
 #[tactic(auto, using(std::proofs::lemmas::List::drop_all, std::proofs::lemmas::List::take_all))]
 fn rows_from<T: Copy>(table: &[T], start: u32, count: u32) -> &[T]
     ensures { result.now ≡ part_of start count table.now }
@@ -125,6 +127,7 @@ impl Code {
     }
 
     /// The row of a place: one level of its term. A place without a row is `Outside`.
+    #[inline]
     #[tactic(auto, using(crate::proofs::Founded::opens))]
     pub fn node(&self, at: u32) -> Node
         ensures row { result ≡ node_at self.now at }
@@ -145,6 +148,7 @@ impl Code {
     }
 
     /// A number of a list: the place of a node or of a label, or a slot. 0 where there is none.
+    #[inline]
     pub fn number(&self, at: u32) -> u32
         ensures { result ≡ get_or self.now.numbers at 0 }
     {
@@ -153,6 +157,7 @@ impl Code {
     }
 
     /// So many numbers of a list from one on, or those of them that are there.
+    #[inline]
     pub fn numbers(&self, start: u32, count: u32) -> &[u32]
         ensures { result.now ≡ part_of start count self.now.numbers }
     {

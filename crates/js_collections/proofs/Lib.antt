@@ -1,3 +1,2 @@
 pub mod Places_found
 pub mod Places_walked
-pub mod Places_changed

@@ -5,7 +5,7 @@ use Rattle.js_text.specs.declared.value.Value.{Value}
 use Rattle.js_text.specs.declared.value.Value.TheVariants as value
 use Rattle.js_store.specs.declared.slot.Entry.{Entry}
 use Rattle.js_slots.specs.Tables.{has_key, map_get, place_of}
-use Rattle.js_run.specs.Collections.{table_entry}
+use Rattle.js_store.specs.Tables.{table_entry}
 
 plus_suc : (n : ℕ) (o : Option ℕ) → option_map (λ i. suc n + i) o ≡ option_map (λ i. n + i) (option_map suc o)
 plus_suc n None = refl

@@ -1,11 +1,10 @@
-// The places of a collection: those of keys, the live ones, and what stands there.
+// The places of a collection: those of keys, what stands there, and how many are live.
 
 ghost use Rattle.std.specs.Prelude.{◌≡◌, IfOk, map, if◌then◌else◌};
 ghost use Rattle.lava_base.specs.Ids.{same_ref, same_made_symbol};
 ghost use Rattle.js_text.specs.Values.{same_value};
-ghost use Rattle.js_text.specs.declared.value.Value.TheVariants as value;
-ghost use Rattle.js_slots.specs.Tables.{has_key, map_get, map_has, map_key_at, map_next, map_size, place_of};
-ghost use Rattle.js_run.specs.Collections.{table_entry};
+ghost use Rattle.js_slots.specs.Tables.{has_key, map_get, map_has, map_size, place_of};
+ghost use Rattle.js_store.specs.Tables.{table_entry};
 
 use js_store::slot::Entry;
 use js_text::copy::copy_value;
@@ -55,44 +54,6 @@ pub fn value_at(entries: &[Entry], key: &Value) -> Result<Value, OutOfMemory>
         None => Ok(Value::Undefined),
         Some(at) => copy_value(&entries[at].value),
     }
-}
-
-/// The least live place at a place or after it, if there is one (ECMA-262, %MapIteratorPrototype%.next).
-#[tactic(auto, using(crate::proofs::Places_walked::passes, crate::proofs::Places_walked::stops, crate::proofs::Places_walked::ends))]
-pub fn next_live(entries: &[Entry], from: usize) -> Option<usize>
-    ensures { result ≡ map_next from (map table_entry entries.now) }
-{
-    let mut at = from;
-    while at < entries.len() {
-        if entries[at].live {
-            return Some(at);
-        }
-        at += 1;
-    }
-    None
-}
-
-/// The key of a place; undefined where it is dead.
-fn live_key(entry: &Entry) -> Result<Value, OutOfMemory>
-    ensures { IfOk result (λ key.
-        key ≡ (if entry.now.live then entry.now.key else value.Undefined)) }
-{
-    if entry.live {
-        copy_value(&entry.key)
-    } else {
-        Ok(Value::Undefined)
-    }
-}
-
-/// The key at a live place, and undefined at any other.
-#[tactic(auto, using(crate::proofs::Places_walked::key_within, crate::proofs::Places_walked::key_past))]
-pub fn key_at(entries: &[Entry], at: usize) -> Result<Value, OutOfMemory>
-    ensures { IfOk result (λ key. key ≡ map_key_at at (map table_entry entries.now)) }
-{
-    if at >= entries.len() {
-        return Ok(Value::Undefined);
-    }
-    live_key(&entries[at])
 }
 
 /// One for a live place.

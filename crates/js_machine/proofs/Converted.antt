@@ -17,9 +17,9 @@ use Rattle.js_run.specs.Faults.{faults}
 use Rattle.js_run.specs.Operators.{to_primitive}
 use Rattle.js_run.specs.Parties.{Party, Shared}
 use Rattle.js_run.specs.Properties.{has_set}
-use Rattle.js_operators.specs.Deeds.{Does, act_of, becomes_key, rest_deed}
-use Rattle.js_operators.specs.declared.operation.Operation.{Operation}
-use Rattle.js_operators.specs.declared.operation.Rest.{Rest}
+use Rattle.js_operation.specs.Deeds.{Does, act_of, becomes_key, rest_deed}
+use Rattle.js_operation.specs.declared.operation.Operation.{Operation}
+use Rattle.js_operation.specs.declared.operation.Rest.{Rest}
 use Rattle.js_machine.specs.Conversions.{BecomesBy, BecomesKey, CallsMethod, Converts, GoesOnWithMethod, GoesOnWithResult, KeyReaches, Reaches, callable_in, past_goal}
 use Rattle.js_machine.specs.Decisions.{object_of_value}
 use Rattle.js_machine.specs.Keys.{plain_key}

@@ -1,5 +1,5 @@
 -- What comes out of scopes and labels.
-use Rattle.std.proofs.Common.{◌≡◌, ℕ, Bool, true, false, None, replicate, refl, sym, ◌∙◌, subst, Result, Ok, Err, IfOk, if◌then◌else◌}
+use Rattle.std.proofs.Common.{◌≡◌, ℕ, Bool, true, false, None, replicate, refl, sym, ap, ◌∙◌, subst, Result, Ok, Err, IfOk, if◌then◌else◌}
 use Rattle.js_text.specs.Texts.{same_units}
 use Rattle.js_text.specs.declared.value.Value.TheVariants as value
 use Rattle.js_code.specs.Decoded.{term_at, text_at}
@@ -7,11 +7,14 @@ use Rattle.js_run.specs.Acts.{End, Give, give}
 use Rattle.js_run.specs.Completions.{Breaks, Continues}
 use Rattle.js_run.specs.Control.{inside}
 use Rattle.js_run.specs.Parties.{refreshed}
+use Rattle.js_run.specs.Runs.{Ended}
 use Rattle.js_machine.specs.Bodies.{scope_of, stood_in}
+use Rattle.js_machine.specs.Halts.{halt_coded, halt_number}
 use Rattle.js_machine.specs.Steps.{IsDelivered, LeadsTo, Waits}
 use Rattle.js_machine.specs.Views.{halt_of, View, is_completion, party_of, with_copy, with_scope}
 use Rattle.js_machine.specs.declared.frame.Frame.TheVariants as frame
 use Rattle.js_machine.specs.declared.frame.Halt.{Halt}
+use Rattle.js_machine.specs.declared.frame.Halt.TheVariants as halt
 use Rattle.js_machine.specs.declared.frame.Mode.{Mode}
 use Rattle.js_machine.specs.declared.frame.Mode.TheVariants as mode
 
@@ -91,5 +94,14 @@ breaks_out l old = record { leads = λ a. refl; keeps = (refl, (refl, (refl, (re
 pub continues_out : (l : ℕ) (old : View) → LeadsTo (λ a. Give (Continues (text_at old.code l)) (party_of a old)) old old (mode.Continue l)
 continues_out l old = record { leads = λ a. refl; keeps = (refl, (refl, (refl, (refl, refl)))) }
 
-pub halts : (h : Halt) (old : View) → LeadsTo (λ a. End (halt_of h)) old old (mode.End h)
-halts h old = record { leads = λ a. refl; keeps = (refl, (refl, (refl, (refl, refl)))) }
+coded : (h : Halt) → halt_coded (halt_number h) ≡ h
+coded halt.Number = refl
+coded halt.Text = refl
+coded halt.Depth = refl
+coded halt.Meter = refl
+coded halt.Outside = refl
+
+pub halts : (h : Halt) (n : ℕ) (old : View) → n ≡ halt_number h → LeadsTo (λ a. End (halt_of h)) old old (mode.End n)
+halts h n old e =
+    let there : halt_coded n ≡ h = ap halt_coded e ∙ coded h in
+    record { leads = λ a. ap (λ k. Ended (halt_of k)) there; keeps = (refl, (refl, (refl, (refl, refl)))) }

@@ -23,6 +23,7 @@ use Rattle.js_desc.specs.declared.descriptor.Change.TheVariants as change
 use Rattle.js_desc.specs.declared.descriptor.Descriptor.TheVariants.{Data}
 use Rattle.js_store.specs.declared.slot.Slot.TheVariants as slot
 use Rattle.js_store.specs.Objects.{Object, at_place, fresh, object_at, with_change}
+use Rattle.js_machine.specs.Halts.{halt_number}
 use Rattle.js_machine.specs.Steps.{LeadsTo, error_with, message_key, with_error}
 use Rattle.js_machine.proofs.Leads.{led}
 use Rattle.js_machine.specs.Views.{Around, View, party_of}
@@ -53,9 +54,9 @@ abbrev Acts : Bool → FaultText → View → View → Mode → Type 0
 Acts b f old new m = LeadsTo (act b f old) old new m
 
 -- the text is too long
-pub too_long : (f : FaultText) (old : View) (m : Mode) → MAX_UNITS < length (fault_text f) → m ≡ mode.End halt.Text → LeadsTo (λ a. faults (naming_of old.me) f (party_of a old)) old old m
+pub too_long : (f : FaultText) (old : View) (m : Mode) → MAX_UNITS < length (fault_text f) → m ≡ mode.End (halt_number halt.Text) → LeadsTo (λ a. faults (naming_of old.me) f (party_of a old)) old old m
 too_long f old m l e =
-    let ended : Acts true f old old (mode.End halt.Text) = record { leads = λ a. refl; keeps = (refl, (refl, (refl, (refl, refl)))) } in
+    let ended : Acts true f old old (mode.End (halt_number halt.Text)) = record { leads = λ a. refl; keeps = (refl, (refl, (refl, (refl, refl)))) } in
     subst (λ b. Acts b f old old m) (sym (lt-ltb _ _ l)) (subst (λ k. Acts true f old old k) (sym e) ended)
 
 pub faulted : (f : FaultText) (old new : View) (m : Mode) → length (fault_text f) ≤ MAX_UNITS

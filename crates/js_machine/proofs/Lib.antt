@@ -3,6 +3,7 @@ pub mod Dropped
 pub mod Standing
 pub mod Passes
 pub mod Leads
+pub mod Over
 pub mod Faulted
 pub mod Exits
 pub mod Created
@@ -27,5 +28,5 @@ pub mod Operated
 pub mod Instance_laws
 pub mod Converted
 pub mod Defined
-pub mod Native_deeds
+pub mod In_cases
 pub mod Defaulted

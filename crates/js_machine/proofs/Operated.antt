@@ -16,8 +16,8 @@ use Rattle.js_run.specs.Completions as halt
 use Rattle.js_run.specs.Operators.{binary_value, given_text, pays}
 use Rattle.js_run.specs.Parties.{Party, Shared}
 use Rattle.js_run.specs.Runs.{answered}
-use Rattle.js_operators.specs.Deeds.{Does, MachineAct, MachineNaming, MachineParty, act_of}
-use Rattle.js_operators.specs.declared.operation.Operation.{Operation}
+use Rattle.js_operation.specs.Deeds.{Does, MachineAct, MachineNaming, MachineParty, act_of}
+use Rattle.js_operation.specs.declared.operation.Operation.{Operation}
 use Rattle.js_machine.specs.Looks.{marks_in}
 use Rattle.js_machine.specs.Steps.{IsDelivered, LeadsTo, Pays, deed_with, settles, under, with_top, without_top}
 use Rattle.js_machine.specs.Views.{Around, View, fitting, has_value, is_completion, party_of, top, values_without}

@@ -8,20 +8,14 @@ use Rattle.js_text.specs.Values.{same_value}
 use Rattle.js_text.specs.declared.value.Value.{Value}
 use Rattle.js_desc.specs.declared.ask.Ask.{Ask}
 use Rattle.js_desc.specs.declared.ask.Ask.TheVariants as ask
-use Rattle.js_run.specs.Collections.{store_entry, table_entry}
 use Rattle.js_slots.specs.TableAnswers.{table_answer}
 use Rattle.js_slots.specs.declared.entry.TableEntry.{TableEntry}
-use Rattle.js_store.specs.Objects.{Object, at_place, object_at, with_slot}
+use Rattle.js_store.specs.Objects.{Object, at_place, with_slot}
+use Rattle.js_store.specs.Tables.{entries_of, store_entry, table_entry}
 use Rattle.js_store.specs.declared.slot.Entry.{Entry}
-use Rattle.js_store.specs.declared.slot.Slot.{Slot}
 use Rattle.js_store.specs.declared.slot.Slot.TheVariants as slot
 use Rattle.js_machine.specs.Views.{View}
 use Rattle.js_machine.specs.Ways.{object_in}
-
--- the places of a collection
-abbrev pub entries_of : Slot Ref MadeSymbol → List (Entry Ref MadeSymbol)
-entries_of (slot.Table es) = es
-entries_of s = []
 
 -- what a list of places answers to a native, and the table after it
 abbrev pub table_by : List (Entry Ref MadeSymbol) → Ask Ref MadeSymbol → Option (Value Ref MadeSymbol) × List (TableEntry Ref MadeSymbol)

@@ -1,3 +1,4 @@
+pub mod Halts
 pub mod Bodies
 pub mod Packages
 pub mod Views

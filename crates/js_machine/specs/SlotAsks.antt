@@ -17,9 +17,9 @@ use Rattle.js_desc.specs.declared.reply.Reply.TheVariants as reply
 use Rattle.js_maker_natives.specs.Kinds.{is_array}
 use Rattle.js_maker_natives.specs.MakerDecisions.{MakerDecision}
 use Rattle.js_maker_natives.specs.declared.next.Next.TheVariants as maker
-use Rattle.js_natives.specs.Steps.{waits_as}
-use Rattle.js_natives.specs.declared.next.NativeNext.{NativeNext}
-use Rattle.js_natives.specs.declared.next.NativeNext.TheVariants as native_next
+use Rattle.js_native_steps.specs.Steps.{waits_as}
+use Rattle.js_native_steps.specs.declared.next.NativeNext.{NativeNext}
+use Rattle.js_native_steps.specs.declared.next.NativeNext.TheVariants as native_next
 use Rattle.js_run.specs.Acts.{Act, give}
 use Rattle.js_run.specs.Asking.{object_here, open_one}
 use Rattle.js_run.specs.Faults.{faults}

@@ -24,6 +24,7 @@ use Rattle.js_run.specs.Rows.{row, row_at}
 use Rattle.js_run.specs.Runs.{Asks, Imports, Begins, Decides, Due, Ended, Gives, Move, Nothing, Point, Sends, answered, settle}
 use Rattle.js_store.specs.Objects.{Object}
 use Rattle.js_store.specs.declared.slot.Slot.TheVariants as slot
+use Rattle.js_machine.specs.Halts.{halt_coded}
 use Rattle.js_machine.specs.Views.{Around, Values, View, below, completion_with, fitting, halt_of, knows, next_of_wait, next_over, nexts_of, party_of, reply_of_answer, rest_of, top, values_without, waits_under}
 use Rattle.js_machine.specs.declared.asked.Wait.{Wait}
 use Rattle.js_machine.specs.declared.frame.Frame.{Frame}
@@ -57,7 +58,7 @@ abbrev pub point_of : Around → View → Mode → Point Ref MadeSymbol
 point_of a w (mode.Eval at) = Due 0 (Begins (term_at w.code at)) (party_of a w) (nexts_of (naming_of w.me) a.shared w.code w.frames w.values w.waits)
 point_of a w mode.Ask = asked_at (naming_of w.me) w.asked.target w.asked.ask (party_of a w) (nexts_of (naming_of w.me) a.shared w.code w.frames w.values w.waits)
 point_of a w mode.Answer = settles a w w.values (Gives (Replied (reply_of_answer w.answer)) (party_of a w))
-point_of a w (mode.End h) = Ended (halt_of h)
+point_of a w (mode.End n) = Ended (halt_of (halt_coded n))
 point_of a w (mode.Pay n) = Due n Nothing (party_of a w) (nexts_of (naming_of w.me) a.shared w.code w.frames w.values w.waits)
 point_of a w (mode.Serve n) = Due n (Decides w.asked.target w.asked.ask) (party_of a w) (nexts_of (naming_of w.me) a.shared w.code w.frames w.values w.waits)
 point_of a w mode.Import = Sends (Imports w.imported.link w.imported.path) (party_of a w) (nexts_of (naming_of w.me) a.shared w.code w.frames w.values w.waits)

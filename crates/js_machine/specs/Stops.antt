@@ -7,6 +7,7 @@ use Rattle.js_run.specs.Completions as halt_kind
 use Rattle.js_run.specs.Parties.{Shared}
 use Rattle.js_run.specs.Runs as runs
 use Rattle.js_run.specs.Runs.{Asks, Imports, Charged, Due, Env, Gave, Lacks, Point, Sent, Short, Stopped, Stops, answered, at_steps, run, run_for, settle, work}
+use Rattle.js_machine.specs.Halts.{halt_coded}
 use Rattle.js_machine.specs.Looks.{foreign_in}
 use Rattle.js_machine.specs.Steps.{Keeps, point_of}
 use Rattle.js_machine.specs.Views.{Around, View, completion_of, fitting, halt_of, nexts_of, party_of}
@@ -62,7 +63,7 @@ ask_stop (Some r) n = stop.Sent r n
 abbrev pub stop_at : View → Mode → Pause → stop_type.Stop
 stop_at w (mode.Eval at) p = stop.Short p.steps
 stop_at w mode.Ask p = ask_stop (foreign_in (naming_of w.me) w.asked.target) p.steps
-stop_at w (mode.End h) p = stop.Stopped h p.steps
+stop_at w (mode.End n) p = stop.Stopped (halt_coded n) p.steps
 stop_at w (mode.Pay i) p = stop.Short p.steps
 stop_at w (mode.Serve i) p = stop.Short p.steps
 stop_at w mode.Import p = stop.Imports p.steps

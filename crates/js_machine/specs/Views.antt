@@ -51,13 +51,13 @@ use Rattle.js_run.specs.Truth.{is_nullish, to_boolean}
 use Rattle.js_conversions.specs.Primitives.{ReadsNumbers}
 use Rattle.js_native.specs.TextNatives.{FindsFirst}
 use Rattle.js_run.specs.Natives.{native_acts, runs_native}
-use Rattle.js_natives.specs.Steps.{waits_as}
+use Rattle.js_native_steps.specs.Steps.{waits_as}
 use Rattle.js_tree.specs.declared.operator.LogicalOperator.{LogicalOperator}
 use Rattle.js_tree.specs.declared.operator.LogicalOperator.TheVariants as logical
 use Rattle.js_machine.specs.Packages.{Package, loaded_in}
 use Rattle.js_desc.specs.declared.ask.Ask.TheVariants as ask
 use Rattle.js_run.specs.Conversions.{method_called, ordinary_to_primitive, primitive_or, primitive_to_key}
-use Rattle.js_operators.specs.Deeds.{becomes_key, rest_deed}
+use Rattle.js_operation.specs.Deeds.{becomes_key, rest_deed}
 use Rattle.js_machine.specs.SlotAsks.{asks_first, refusal}
 use Rattle.js_machine.specs.Wanting.{number_method_gave, number_method_got}
 use Rattle.js_machine.specs.declared.asked.Answer.{Answer}

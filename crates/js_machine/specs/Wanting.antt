@@ -6,8 +6,8 @@ use Rattle.js_text.specs.Naming.{Naming}
 use Rattle.js_text.specs.declared.value.Value.{Value}
 use Rattle.js_text.specs.declared.value.Value.TheVariants as value
 use Rattle.js_desc.specs.declared.reply.Reply.TheVariants as reply
-use Rattle.js_operators.specs.declared.operation.Computed.{Computed}
-use Rattle.js_operators.specs.declared.operation.Computed.TheVariants as computed
+use Rattle.js_operation.specs.declared.operation.Computed.{Computed}
+use Rattle.js_operation.specs.declared.operation.Computed.TheVariants as computed
 use Rattle.js_run.specs.Acts.{Act, End, with_value}
 use Rattle.js_run.specs.Asking.{waits_for}
 use Rattle.js_run.specs.Conversions.{method_called, ordinary_to_primitive, primitive_or, primitive_to_number}

@@ -3,7 +3,7 @@
 use js_desc::ask::Ask;
 use js_desc::descriptor::Descriptor;
 use js_exotic::next::Next as ExoticNext;
-use js_natives::next::NativeNext;
+use js_native_steps::next::NativeNext;
 use js_text::native::Native;
 use js_text::text::Text;
 use js_text::value::{Key, Value};

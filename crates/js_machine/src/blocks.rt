@@ -7,7 +7,7 @@ ghost use Rattle.js_machine.specs.Bodies.{scope_of, stood_in};
 ghost use Rattle.js_machine.specs.Steps.{LeadsTo};
 ghost use Rattle.js_machine.specs.Views.{halt_of};
 
-use crate::frame::{Halt, Mode};
+use crate::frame::{Halt, Mode, halt_number};
 use crate::machine::Machine;
 use lava_base::memory::OutOfMemory;
 
@@ -17,6 +17,6 @@ impl Machine {
     pub fn end_run(&mut self, halt: Halt) -> Result<Mode, OutOfMemory>
         ensures { IfOk result (LeadsTo (λ a. End (halt_of halt)) self.old self.new) }
     {
-        Ok(Mode::End(halt))
+        Ok(Mode::End(halt_number(halt)))
     }
 }

@@ -7,7 +7,7 @@ ghost use Rattle.js_machine.specs.Steps.{error_with, message_key, LeadsTo, with_
 ghost use Rattle.js_machine.specs.Views.{party_of};
 ghost use Rattle.js_machine.specs.declared.frame.Mode.TheVariants as mode;
 
-use crate::frame::{Halt, Mode};
+use crate::frame::{Halt, Mode, halt_number};
 use crate::machine::Machine;
 use js_desc::descriptor::{Change, Descriptor};
 use js_desc::fault::{FaultText, NativeError};
@@ -115,7 +115,7 @@ impl Machine {
     {
         match fault.message(self.alloc) {
             Ok(message) => self.throw_error(fault.error(), message),
-            Err(TextFault::TooLong) => Ok(Mode::End(Halt::Text)),
+            Err(TextFault::TooLong) => Ok(Mode::End(halt_number(Halt::Text))),
             Err(_) => Err(OutOfMemory),
         }
     }

@@ -1,9 +1,10 @@
 // What waits for a completion, and what is next. A frame's own values stand on the stack of values.
 
 ghost use Rattle.std.specs.Prelude.{◌≡◌};
+ghost use Rattle.js_machine.specs.Halts.{halt_coded, halt_number};
 ghost use Rattle.js_machine.specs.Views.{has_value, is_completion, is_handed, owned, takes_answers, takes_values, held, is_throw, as_text, goal_held, key_held};
 
-use js_operators::operation::Rest;
+use js_operation::operation::Rest;
 use js_text::native::Native;
 use js_tree::operator::{BinaryOperator, LogicalOperator, UnaryOperator};
 
@@ -15,6 +16,36 @@ pub enum Halt {
     Depth,
     Meter,
     Outside,
+}
+
+/// The number of an end, as a `Mode` has it: a word of its own. (A single byte next to the number of the mode would be read together with that, and what is written in two pieces and read in one waits for both.)
+pub fn halt_number(halt: Halt) -> u32
+    ensures { result ≡ halt_number halt }
+{
+    match halt {
+        Halt::Number => 0,
+        Halt::Text => 1,
+        Halt::Depth => 2,
+        Halt::Meter => 3,
+        Halt::Outside => 4,
+    }
+}
+
+/// The end of a number.
+pub fn halt_coded(number: u32) -> Halt
+    ensures { result ≡ halt_coded number }
+{
+    if number == 0 {
+        Halt::Number
+    } else if number == 1 {
+        Halt::Text
+    } else if number == 2 {
+        Halt::Depth
+    } else if number == 3 {
+        Halt::Meter
+    } else {
+        Halt::Outside
+    }
 }
 
 /// What the arguments of a call are for. It has values on the stack, below the arguments.
@@ -43,7 +74,8 @@ pub enum Mode {
     Return,
     Break(u32),
     Continue(u32),
-    End(Halt),
+    /// The run ends, by this number of a `Halt`.
+    End(u32),
     /// So much and one is to be paid, before undefined is given.
     Pay(u32),
     /// So much and one is to be paid for an ask that came from another party.

@@ -97,6 +97,7 @@ impl Model for Machine {
 
 impl Machine {
     /// A frame waits.
+    #[inline]
     #[tactic(auto, using(crate::proofs::Reversed::reverse_push))]
     pub fn push_frame(&mut self, frame: Frame) -> Result<(), OutOfMemory>
         ensures { OnOk result (self.new ≡ record self.old { frames = frame ∷ self.old.frames }) }
@@ -106,6 +107,7 @@ impl Machine {
     }
 
     /// A form is begun, and a frame waits for it.
+    #[inline]
     pub fn wait(&mut self, frame: Frame, at: u32) -> Result<Mode, OutOfMemory>
         ensures mode { IfOk result (λ m. m ≡ mode.Eval at) }
         ensures frame { OnOk result (self.new ≡ record self.old { frames = frame ∷ self.old.frames }) }
@@ -116,6 +118,7 @@ impl Machine {
     }
 
     /// A value comes on the stack.
+    #[inline]
     #[tactic(auto, using(crate::proofs::Reversed::reverse_push))]
     pub fn push(&mut self, value: Value) -> Result<(), OutOfMemory>
         ensures { OnOk result (self.new ≡ record self.old { values = value ∷ self.old.values }) }
@@ -125,6 +128,7 @@ impl Machine {
     }
 
     /// A value is given.
+    #[inline]
     pub fn give(&mut self, value: Value) -> Result<Mode, OutOfMemory>
         ensures mode { IfOk result (λ m. m ≡ mode.Value) }
         ensures value { OnOk result (self.new ≡ record self.old { values = value ∷ self.old.values }) }
@@ -144,10 +148,25 @@ impl Machine {
     }
 
     /// A form is begun, and a frame waits for it that may have a value.
+    #[inline]
     pub fn wait_with(&mut self, value: Value, frame: Frame, at: u32) -> Result<Mode, OutOfMemory>
         ensures { IfOk result (WaitsWith value frame at self.old self.new) }
     {
         self.push(value)?;
+        self.wait(frame, at)
+    }
+
+    /// A form is begun, and a frame waits for it that has the newest value, which stays where it is.
+    #[inline]
+    #[tactic(auto, using(crate::proofs::Over::none_over, crate::proofs::Over::some_over))]
+    pub fn wait_over(&mut self, frame: Frame, at: u32) -> Result<Mode, OutOfMemory>
+        ensures { let value = top self.old.values in
+            let rest = record self.old { values = below self.old.values } in
+            IfOk result (WaitsWith value frame at rest self.new) }
+    {
+        if self.values.len() == 0 {
+            return self.wait_with(Value::Undefined, frame, at);
+        }
         self.wait(frame, at)
     }
 
@@ -163,6 +182,7 @@ impl Machine {
     }
 
     /// The newest value is taken off; undefined where there is none.
+    #[inline]
     #[tactic(auto, using(crate::proofs::Reversed::reverse_push))]
     pub fn take(&mut self) -> Value
         ensures value { result ≡ top self.old.values }

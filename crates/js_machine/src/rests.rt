@@ -7,7 +7,7 @@ ghost use Rattle.js_machine.specs.Made.{next_own, with_object};
 ghost use Rattle.js_machine.specs.Opened.{with_rest};
 
 use crate::machine::Machine;
-use js_natives::arrays::add_array;
+use js_native_steps::arrays::add_array;
 use js_text::value::Value;
 use lava_base::ids::Ref;
 use lava_base::list::List;

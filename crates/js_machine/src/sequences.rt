@@ -8,6 +8,7 @@ use lava_base::memory::OutOfMemory;
 
 impl Machine {
     /// A number of a list; 0 where there is none.
+    #[inline]
     pub fn number(&self, at: u32) -> u32
         ensures { result ≡ get_or self.now.code.numbers at 0 }
     {
@@ -15,6 +16,7 @@ impl Machine {
     }
 
     /// How many there are of so many numbers from a place on.
+    #[inline]
     #[tactic(auto, using(crate::proofs::Listed::part_most))]
     pub fn listed(&self, start: u32, count: u32) -> Result<u32, OutOfMemory>
         ensures there { let part = part_of start count self.now.code.numbers in

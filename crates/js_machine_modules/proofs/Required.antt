@@ -33,6 +33,7 @@ use Rattle.js_run.specs.Parties.{Party, Shared, made}
 use Rattle.js_run.specs.Requests.{candidates, directory_of, not_found_text, first_module, first_of, joined_parts, module_at, module_of, parts_of, walked, whole_request}
 use Rattle.js_run.specs.Runs.{answered, settle}
 use Rattle.js_run.specs.declared.intrinsics.TheConstants.{ERROR_PROTOTYPE}
+use Rattle.js_machine.specs.Halts.{halt_number}
 use Rattle.js_machine.specs.Packages.{loaded_in, loaded_of}
 use Rattle.js_machine.specs.Evaluated.{IsImported, module_or, unbegun, waits_for_exports}
 use Rattle.js_machine.specs.Requested.{begun_at, first_place, first_text, imported_place, mapped_given, module_in, module_path, place_at, place_from, place_there, request_in, requires_given, with_plain_error}
@@ -98,9 +99,9 @@ act b t w a = if b then End halt_kind.Text else throws (value.Ref ((naming_of w.
 abbrev Acts : Bool → List ℕ → View → View → Mode → Type 0
 Acts b t old new m = LeadsTo (act b t old) old new m
 
-pub plain_too_long : (t : List ℕ) (old : View) (m : Mode) → MAX_UNITS < length t → m ≡ mode.End halt.Text → LeadsTo (λ a. throws_plain_error (naming_of old.me) t (party_of a old)) old old m
+pub plain_too_long : (t : List ℕ) (old : View) (m : Mode) → MAX_UNITS < length t → m ≡ mode.End (halt_number halt.Text) → LeadsTo (λ a. throws_plain_error (naming_of old.me) t (party_of a old)) old old m
 plain_too_long t old m l e =
-    let ended : Acts true t old old (mode.End halt.Text) = record { leads = λ a. refl; keeps = (refl, (refl, (refl, (refl, refl)))) } in
+    let ended : Acts true t old old (mode.End (halt_number halt.Text)) = record { leads = λ a. refl; keeps = (refl, (refl, (refl, (refl, refl)))) } in
     subst (λ b. Acts b t old old m) (sym (lt-ltb _ _ l)) (subst (λ k. Acts true t old old k) (sym e) ended)
 
 plain_fault : (t : List ℕ) (old new : View) (m : Mode) → length t ≤ MAX_UNITS → new ≡ with_plain_error t old → m ≡ mode.Throw → LeadsTo (λ a. throws_plain_error (naming_of old.me) t (party_of a old)) old new m

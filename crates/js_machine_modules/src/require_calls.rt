@@ -20,7 +20,7 @@ use crate::requests::{
 use js_desc::ask::Ask;
 use js_desc::fault::FaultText;
 use js_machine::faults::{add_error, message_key};
-use js_machine::frame::{Halt, Mode};
+use js_machine::frame::{Halt, Mode, halt_number};
 use js_machine::machine::Machine;
 use js_machine::package::Module;
 use js_ordinary::target::{find_target, slot};
@@ -110,7 +110,7 @@ pub fn throw_plain(machine: &mut Machine, message: &[u16]) -> Result<Mode, OutOf
 {
     match from_units(machine.alloc, message) {
         Ok(text) => throw_plain_text(machine, text),
-        Err(TextFault::TooLong) => Ok(Mode::End(Halt::Text)),
+        Err(TextFault::TooLong) => Ok(Mode::End(halt_number(Halt::Text))),
         Err(_) => Err(OutOfMemory),
     }
 }

@@ -1,5 +1,5 @@
 -- What keyed collections decide that a native looks into.
-use Rattle.std.proofs.Common.{◌≡◌, ℕ, zero, suc, ◌<◌, Bool, List, [], ◌∷◌, length, map, slice_set, Option, Some, None, refl, sym, ap, ◌∙◌, subst, arith, Result, Ok, Err, IfOk, OnOk}
+use Rattle.std.proofs.Common.{◌≡◌, Bool, List, Option, Some, sym, ap, ◌∙◌, subst, Result, Ok, Err, IfOk}
 use Rattle.std.specs.Option.{option_map}
 use Rattle.lava_base.specs.declared.ids.MadeSymbol.{MadeSymbol}
 use Rattle.lava_base.specs.declared.ids.Ref.{Ref}
@@ -11,21 +11,21 @@ use Rattle.js_ordinary.specs.Origins.{object_of, there}
 use Rattle.js_ordinary.specs.Targets.{object_seen, origin_of_target}
 use Rattle.js_ordinary.specs.declared.target.Target.{Target}
 use Rattle.js_run.specs.Acts.{as_it_is}
-use Rattle.js_run.specs.Collections.{follows_table, store_entry, table_entry, with_table}
+use Rattle.js_run.specs.Collections.{follows_table, with_table}
 use Rattle.js_run.specs.Decisions.{decides_by_slot, decides_object}
 use Rattle.js_run.specs.Following.{follows_by}
-use Rattle.js_run.specs.Runs.{answered}
 use Rattle.js_slot_natives.specs.SlotNatives.{table_given}
 use Rattle.js_slots.specs.declared.entry.TableEntry.{TableEntry}
 use Rattle.js_store.specs.Frozen.{CommonObject, common_ref}
-use Rattle.js_store.specs.Objects.{Object, at_place, object_at, with_slot}
+use Rattle.js_store.specs.Objects.{Object}
+use Rattle.js_store.specs.Tables.{entries_of}
 use Rattle.js_store.specs.declared.slot.Entry.{Entry}
 use Rattle.js_store.specs.declared.slot.Held.TheVariants as held
 use Rattle.js_store.specs.declared.slot.Slot.{Slot}
 use Rattle.js_store.specs.declared.slot.Slot.TheVariants as slot
-use Rattle.js_machine.specs.Collecting.{collected, entries_of, table_by, with_entries}
-use Rattle.js_machine.specs.Steps.{LeadsTo, settles}
-use Rattle.js_machine.specs.Views.{View, fitting, party_of}
+use Rattle.js_machine.specs.Collecting.{collected, table_by, with_entries}
+use Rattle.js_machine.specs.Steps.{LeadsTo}
+use Rattle.js_machine.specs.Views.{View, party_of}
 use Rattle.js_machine.specs.Ways.{object_in, way_asked, way_called, way_collected, way_here, way_of}
 use Rattle.js_machine.specs.declared.frame.Mode.{Mode}
 use Rattle.js_machine.specs.declared.ways.Way.{Way}
@@ -40,35 +40,6 @@ Entries = List (Entry Ref MadeSymbol)
 
 abbrev Told : Type 0
 Told = Option (Value Ref MadeSymbol) × List (TableEntry Ref MadeSymbol)
-
--- places as those of a table, and back
-there_back : (es : Entries) → map store_entry (map table_entry es) ≡ es
-there_back [] = refl
-there_back (e ∷ es) = ap (λ l. e ∷ l) (there_back es)
-
--- a slot is put in place twice
-twice : (os : Objects) (i : ℕ) (s t : Slot Ref MadeSymbol) → i < length os → at_place (at_place os i (with_slot s)) i (with_slot t) ≡ at_place os i (with_slot t)
-twice [] i s t l = absurd (omega arith)
-twice (o ∷ os) zero s t l = refl
-twice (o ∷ os) (suc i) s t l = ap (λ r. o ∷ r) (twice os i s t (omega arith))
-
-pub within : (os : Objects) (i : ℕ) (o : Object Ref MadeSymbol) → i < length os → i < length (slice_set os i o)
-within [] i o l = absurd (omega arith)
-within (p ∷ os) zero o l = omega arith
-within (p ∷ os) (suc i) o l = omega (arith, within os i o (omega arith))
-
--- what a native made of the places of an own collection
-pub changed_taken : {A E : Type 0} (r : Result A E) (os new : Objects) (i : ℕ) (es fs : Entries) (x : Ask Ref MadeSymbol) → new ≡ at_place os i (with_slot (slot.Table fs)) → OnOk r (map table_entry fs ≡ (table_by es x).1)
-    → OnOk r (new ≡ with_entries os (Own i) (table_by es x).1)
-changed_taken (Ok y) os new i es fs x n h = n ∙ ap (λ (k : Entries). at_place os i (with_slot (slot.Table k))) (sym (there_back fs) ∙ ap (map store_entry) h)
-changed_taken (Err y) os new i es fs x n h = tt
-
-pub changed_own : {A E : Type 0} (r : Result A E) (os mid new : Objects) (i : ℕ) (s : Slot Ref MadeSymbol) (es : Entries) (x : Ask Ref MadeSymbol) → i < length os → mid ≡ at_place os i (with_slot slot.Plain) → s ≡ (object_at os i).slot → s ≡ slot.Table es
-    → OnOk r (new ≡ with_entries mid (Own i) (table_by es x).1) → OnOk r (new ≡ with_entries os (Own i) (table_by (entries_of (object_at os i).slot) x).1)
-changed_own (Ok y) os mid new i s es x l e f g h =
-    let here : es ≡ entries_of (object_at os i).slot = ap entries_of (sym g ∙ f) in
-    h ∙ ap (λ (m : Objects). with_entries m (Own i) (table_by es x).1) e ∙ twice os i slot.Plain (slot.Table (map store_entry (table_by es x).1)) l ∙ ap (λ (k : Entries). with_entries os (Own i) (table_by k x).1) here
-changed_own (Err y) os mid new i s es x l e f g h = tt
 
 pub answer_there : {E : Type 0} (r : Result (Option (Value Ref MadeSymbol)) E) (os : Objects) (cs : List CommonObject) (p : Origin) (o : Option Target) (t : Target) (s : Slot Ref MadeSymbol) (x : Ask Ref MadeSymbol)
     → option_map origin_of_target o ≡ there os cs p → o ≡ Some t → s ≡ (object_seen os cs t).slot

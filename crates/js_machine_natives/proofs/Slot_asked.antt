@@ -20,8 +20,8 @@ use Rattle.js_desc.specs.declared.reply.Reply.{Reply}
 use Rattle.js_maker_natives.specs.Kinds.{array_of_class, is_array}
 use Rattle.js_maker_natives.specs.MakerDecisions.{MakerDecision}
 use Rattle.js_native.specs.Costs.{native_cost}
-use Rattle.js_natives.specs.Steps.{waits_as}
-use Rattle.js_natives.specs.declared.next.NativeNext.{NativeNext}
+use Rattle.js_native_steps.specs.Steps.{waits_as}
+use Rattle.js_native_steps.specs.declared.next.NativeNext.{NativeNext}
 use Rattle.js_operations.specs.Lists.{list_items}
 use Rattle.js_operations.specs.Looks.{marks_seen}
 use Rattle.js_run.specs.Acts as acts
@@ -42,18 +42,19 @@ use Rattle.js_proxy.specs.Traps.{decided_by_proxy}
 use Rattle.js_slot_natives.specs.Collections.{collection_class, is_of_class}
 use Rattle.js_slot_natives.specs.SlotNatives.{SlotDecision, ask_collection, slot_native, table_given, takes}
 use Rattle.js_slot_natives.specs.declared.next.Next.TheVariants as slot_next
+use Rattle.js_store.specs.Tables.{entries_of}
 use Rattle.js_store.specs.declared.slot.Entry.{Entry}
 use Rattle.js_store.specs.declared.slot.Slot.{Slot}
 use Rattle.js_store.specs.declared.slot.Slot.TheVariants as slot
 use Rattle.js_traps.specs.TrapDecisions.{ProxyDecision}
 use Rattle.js_traps.specs.declared.next.Next.{Next as ProxyNext}
 use Rattle.js_traps.specs.declared.next.Next.TheVariants as proxy_next
-use Rattle.js_machine.specs.Collecting.{collected, entries_of, table_by}
+use Rattle.js_machine.specs.Collecting.{collected, table_by}
 use Rattle.js_machine.specs.Decisions.{object_of_value}
 use Rattle.js_machine.specs.Looks.{foreign_at}
 use Rattle.js_machine.specs.Natives.{asks_slots}
 use Rattle.js_machine.specs.Proxying.{known_if, known_of, marks_if, proxy_decided, target_of}
-use Rattle.js_machine.specs.SlotAsks.{asks_by, asks_first, asks_foreign, charged_by, first_object, is_foreign, refusal, slot_leads, slot_step, slot_wait, step_of_maker, step_of_slot, tells_here}
+use Rattle.js_machine.specs.SlotAsks.{asks_by, asks_first, asks_foreign, charged_by, first_object, is_foreign, refusal, slot_leads, slot_step, slot_wait, step_of_maker, step_of_slot}
 use Rattle.js_machine.specs.SlotSteps.{first_step}
 use Rattle.js_machine.specs.Steps.{IsDelivered, LeadsTo, Pays, Wakes, settles, without_top}
 use Rattle.js_machine.specs.Views.{Around, Values, View, args_on, fitting, next_of_wait, next_of_want, next_slot_of, party_of}
@@ -67,10 +68,11 @@ use Rattle.js_machine.specs.declared.slot_asks.SlotStep.{SlotStep}
 use Rattle.js_machine.specs.declared.slot_asks.SlotStep.TheVariants as step
 use Rattle.js_machine.specs.declared.ways.Way.{Way}
 use Rattle.js_machine.specs.declared.ways.Way.TheVariants as way
+use Rattle.js_machine_natives.specs.Telling.{tells_waiting}
 use Rattle.js_machine_natives.proofs.Collected.{not_asked}
 use Rattle.js_machine.proofs.Leads.{delivered}
 use Rattle.js_machine.proofs.Looked.{looked}
-use Rattle.js_machine.proofs.Native_deeds.{RunsNative}
+use Rattle.js_machine_natives.proofs.Native_deeds.{RunsNative}
 use Rattle.js_machine_natives.proofs.Proxied_laws.{as_decided, is_proxy, proxied_in, seen_as_known, target_looked}
 
 abbrev V : Type 0
@@ -101,7 +103,7 @@ module _ (marks : Ref → Marks) (m : Marks) where
   step_alike which v vs e = ap step_of_slot (class_alike which v vs e)
 
 -- what is decided by marks that are known, as the machine knows them
-known_there : (w : View) (o : Option Ref) (known nothing : List (Ref × Marks)) → nothing ≡ [] → known ≡ known_if (naming_of w.me) w.known nothing o → known ≡ known_of w o
+pub known_there : (w : View) (o : Option Ref) (known nothing : List (Ref × Marks)) → nothing ≡ [] → known ≡ known_if (naming_of w.me) w.known nothing o → known ≡ known_of w o
 known_there w o known nothing e f = f ∙ ap (λ l. known_if (naming_of w.me) w.known l o) e
 
 other_step : (marks : Ref → Marks) (which : Native) (vs : Values) → (which ≡ native.IsArray → ⊥) → step_of_slot (slot_native marks which vs) ≡ slot_step marks which vs
@@ -122,7 +124,7 @@ collection_step w which o vs known nothing d s e f g h k =
     k ∙ ap step_of_slot (h ∙ ap (λ (l : List (Ref × Marks)). slot_native (marks_seen (naming_of w.me) w.objects w.common l) which vs) there) ∙ other_step (marks_seen (naming_of w.me) w.objects w.common (known_of w o)) which vs e
 
 -- what the marks that are known say
-first_of : (v : V) (vs : Values) → first_object (v ∷ vs) ≡ object_of_value v
+pub first_of : (v : V) (vs : Values) → first_object (v ∷ vs) ≡ object_of_value v
 first_of (value.Ref r) vs = refl
 first_of v vs = refl
 
@@ -205,7 +207,7 @@ module _ (names : Naming Ref MadeSymbol) (shared : Shared) (p : P) where
   runs_none native.MapSize e = refl
   runs_none which e = cc
 
-value_looked : (v : V) (w : View) (a : Around) (go : Marks → Act Ref MadeSymbol)
+pub value_looked : (v : V) (w : View) (a : Around) (go : Marks → Act Ref MadeSymbol)
     → (let b = fitting w a in answered (naming_of w.me) b.env (see_value (naming_of w.me) b.shared v (party_of b w) go) ≡ answered (naming_of w.me) b.env (go (marks_if w (object_of_value v))))
 value_looked (value.Ref r) w a go = looked r w a go
 value_looked v w a go = refl
@@ -357,79 +359,82 @@ pub by_first : {E : Type 0} (r : Result Mode E) (which : Native) (vs xs : Values
     → IfOk r (LeadsTo (λ a. asks_first (naming_of old.me) a.shared which vs (party_of a old)) old new)
 by_first r which vs xs o q old new d e f h = subst (λ y. IfOk r (LeadsTo (λ a. asks_by (naming_of old.me) a.shared which vs y (party_of a old)) old new)) (sym f ∙ e ∙ ap first_object d) h
 
-module _ (names : Naming Ref MadeSymbol) (shared : Shared) (which : Native) (r : Ref) (x : Ask Ref MadeSymbol) (p : P) where
-  away : (o : Origin) (s : Ref) → names.origin r ≡ o → foreign_at r o ≡ Some s → waits_for names r x p (Native_decides which (waits_as (slot_wait which))) ≡ asks_slot names shared o r x which (waits_as (slot_wait which)) p
+module _ (names : Naming Ref MadeSymbol) (shared : Shared) (which : Native) (wt : acts.NativeNext Ref MadeSymbol) (r : Ref) (x : Ask Ref MadeSymbol) (p : P) where
+  away : (o : Origin) (s : Ref) → names.origin r ≡ o → foreign_at r o ≡ Some s → waits_for names r x p (Native_decides which wt) ≡ asks_slot names shared o r x which wt p
   away (Own i) s e f = cc
   away (Common c) s e f = cc
-  away Foreign s e f = ap (λ o. open_one p (λ q. ask_there o r x q (Closes (Native_decides which (waits_as (slot_wait which)))))) e
+  away Foreign s e f = ap (λ o. open_one p (λ q. ask_there o r x q (Closes (Native_decides which wt)))) e
 
-  here : (o : Origin) → foreign_at r o ≡ None → tells_here names shared which r x p ≡ asks_slot names shared o r x which (waits_as (slot_wait which)) p
+  here : (o : Origin) → foreign_at r o ≡ None → tells_waiting names shared which wt r x p ≡ asks_slot names shared o r x which wt p
   here (Own i) f = refl
   here (Common c) f = refl
   here Foreign f = cc
 
-abbrev AsksSlot : Ref → Native → Values → View → View → Mode → Type 0
-AsksSlot o which vs old new m = LeadsTo (λ a. asks_slot (naming_of old.me) a.shared ((naming_of old.me).origin o) o (ask.Slot which vs) which (waits_as (slot_wait which)) (party_of a old)) old new m
+abbrev AsksSlot : Ref → Native → acts.NativeNext Ref MadeSymbol → Ask Ref MadeSymbol → View → View → Mode → Type 0
+AsksSlot o which wt x old new m = LeadsTo (λ a. asks_slot (naming_of old.me) a.shared ((naming_of old.me).origin o) o x which wt (party_of a old)) old new m
 
-pub slot_sent : {E : Type 0} (r : Result Mode E) (o s : Ref) (q : Option Ref) (which : Native) (vs xs : Values) (old new : View) → xs ≡ vs → q ≡ foreign_at o ((naming_of old.me).origin o) → q ≡ Some s
-    → IfOk r (LeadsTo (λ a. waits_for (naming_of old.me) o (ask.Slot which xs) (party_of a old) (Native_decides which (waits_as (slot_wait which)))) old new) → IfOk r (AsksSlot o which vs old new)
-slot_sent (Ok m) o s q which vs xs old new d e f h =
-    let w = subst (λ ys. LeadsTo (λ a. waits_for (naming_of old.me) o (ask.Slot which ys) (party_of a old) (Native_decides which (waits_as (slot_wait which)))) old new m) d h in
+pub slot_sent : {E : Type 0} (r : Result Mode E) (o s : Ref) (q : Option Ref) (which : Native) (wt : acts.NativeNext Ref MadeSymbol) (x : Ask Ref MadeSymbol) (old new : View) → q ≡ foreign_at o ((naming_of old.me).origin o) → q ≡ Some s
+    → IfOk r (LeadsTo (λ a. waits_for (naming_of old.me) o x (party_of a old) (Native_decides which wt)) old new) → IfOk r (AsksSlot o which wt x old new)
+slot_sent (Ok m) o s q which wt x old new e f h =
     record {
       leads = λ a. (let b = fitting old a in
-          w.leads a ∙ ap (λ act. settles b old old.values (answered (naming_of old.me) b.env act)) (away (naming_of old.me) b.shared which o (ask.Slot which vs) (party_of b old) ((naming_of old.me).origin o) s refl (sym e ∙ f)));
-      keeps = w.keeps;
+          h.leads a ∙ ap (λ act. settles b old old.values (answered (naming_of old.me) b.env act)) (away (naming_of old.me) b.shared which wt o x (party_of b old) ((naming_of old.me).origin o) s refl (sym e ∙ f)));
+      keeps = h.keeps;
     }
-slot_sent (Err x) o s q which vs xs old new d e f h = tt
+slot_sent (Err y) o s q which wt x old new e f h = tt
 
-pub slot_here : {E : Type 0} (r : Result Mode E) (o : Ref) (q : Option Ref) (which : Native) (vs xs : Values) (old new : View) → xs ≡ vs → q ≡ foreign_at o ((naming_of old.me).origin o) → q ≡ None
-    → IfOk r (LeadsTo (λ a. tells_here (naming_of old.me) a.shared which o (ask.Slot which xs) (party_of a old)) old new) → IfOk r (AsksSlot o which vs old new)
-slot_here (Ok m) o q which vs xs old new d e f h =
-    let w = subst (λ ys. LeadsTo (λ a. tells_here (naming_of old.me) a.shared which o (ask.Slot which ys) (party_of a old)) old new m) d h in
+pub slot_here : {E : Type 0} (r : Result Mode E) (o : Ref) (q : Option Ref) (which : Native) (wt : acts.NativeNext Ref MadeSymbol) (x : Ask Ref MadeSymbol) (old new : View) → q ≡ foreign_at o ((naming_of old.me).origin o) → q ≡ None
+    → IfOk r (LeadsTo (λ a. tells_waiting (naming_of old.me) a.shared which wt o x (party_of a old)) old new) → IfOk r (AsksSlot o which wt x old new)
+slot_here (Ok m) o q which wt x old new e f h =
     record {
       leads = λ a. (let b = fitting old a in
-          w.leads a ∙ ap (λ act. settles b old old.values (answered (naming_of old.me) b.env act)) (here (naming_of old.me) b.shared which o (ask.Slot which vs) (party_of b old) ((naming_of old.me).origin o) (sym e ∙ f)));
-      keeps = w.keeps;
+          h.leads a ∙ ap (λ act. settles b old old.values (answered (naming_of old.me) b.env act)) (here (naming_of old.me) b.shared which wt o x (party_of b old) ((naming_of old.me).origin o) (sym e ∙ f)));
+      keeps = h.keeps;
     }
-slot_here (Err x) o q which vs xs old new d e f h = tt
+slot_here (Err y) o q which wt x old new e f h = tt
+
+-- the operands behind the first one are asked with
+pub slot_asked : {E : Type 0} (r : Result Mode E) (o : Ref) (which : Native) (vs xs : Values) (old new : View) → xs ≡ vs → IfOk r (AsksSlot o which (waits_as (slot_wait which)) (ask.Slot which xs) old new)
+    → IfOk r (AsksSlot o which (waits_as (slot_wait which)) (ask.Slot which vs) old new)
+slot_asked r o which vs xs old new e h = subst (λ ys. IfOk r (AsksSlot o which (waits_as (slot_wait which)) (ask.Slot which ys) old new)) e h
 
 -- AN OBJECT THAT IS NOT FOREIGN
 
-abbrev Tells : Native → Ref → Ask Ref MadeSymbol → View → View → Mode → Type 0
-Tells which o x old new m = LeadsTo (λ a. tells_here (naming_of old.me) a.shared which o x (party_of a old)) old new m
+abbrev Tells : Native → acts.NativeNext Ref MadeSymbol → Ref → Ask Ref MadeSymbol → View → View → Mode → Type 0
+Tells which wt o x old new m = LeadsTo (λ a. tells_waiting (naming_of old.me) a.shared which wt o x (party_of a old)) old new m
 
-abbrev TellsSlot : Native → Ref → Slot Ref MadeSymbol → Ask Ref MadeSymbol → View → View → Mode → Type 0
-TellsSlot which o s x old new m = LeadsTo (λ a. slot_tells (naming_of old.me) a.shared o s x which (waits_as (slot_wait which)) (party_of a old)) old new m
+abbrev TellsSlot : Native → acts.NativeNext Ref MadeSymbol → Ref → Slot Ref MadeSymbol → Ask Ref MadeSymbol → View → View → Mode → Type 0
+TellsSlot which wt o s x old new m = LeadsTo (λ a. slot_tells (naming_of old.me) a.shared o s x which wt (party_of a old)) old new m
 
-abbrev OpenedSlot : Bool → Native → Ref → Ask Ref MadeSymbol → View → View → Mode → Type 0
-OpenedSlot b which o x old new m =
-    LeadsTo (λ a. if b then slot_tells (naming_of old.me) a.shared o (object_in old o).slot x which (waits_as (slot_wait which)) (party_of a (record old { depth = suc old.depth })) else End halt_kind.Depth) old new m
+abbrev OpenedSlot : Bool → Native → acts.NativeNext Ref MadeSymbol → Ref → Ask Ref MadeSymbol → View → View → Mode → Type 0
+OpenedSlot b which wt o x old new m =
+    LeadsTo (λ a. if b then slot_tells (naming_of old.me) a.shared o (object_in old o).slot x which wt (party_of a (record old { depth = suc old.depth })) else End halt_kind.Depth) old new m
 
 -- what stands around has the common objects that the machine knows
-as_opened : (which : Native) (o : Ref) (x : Ask Ref MadeSymbol) (old new : View) (m : Mode) → OpenedSlot (nat_lt old.depth MAX_DEPTH) which o x old new m → Tells which o x old new m
-as_opened which o x old new m h = record { leads = λ a. h.leads a; keeps = h.keeps }
+as_opened : (which : Native) (wt : acts.NativeNext Ref MadeSymbol) (o : Ref) (x : Ask Ref MadeSymbol) (old new : View) (m : Mode) → OpenedSlot (nat_lt old.depth MAX_DEPTH) which wt o x old new m → Tells which wt o x old new m
+as_opened which wt o x old new m h = record { leads = λ a. h.leads a; keeps = h.keeps }
 
-pub tells_too_deep : {E : Type 0} (r : Result Mode E) (b : Bool) (which : Native) (o : Ref) (x : Ask Ref MadeSymbol) (old mid new : View) → b ≡ nat_lt old.depth MAX_DEPTH → b ≡ false → mid ≡ old → IfOk r (LeadsTo (λ a. End halt_kind.Depth) mid new)
-    → IfOk r (Tells which o x old new)
-tells_too_deep (Ok m) b which o x old mid new e f s h =
+pub tells_too_deep : {E : Type 0} (r : Result Mode E) (b : Bool) (which : Native) (wt : acts.NativeNext Ref MadeSymbol) (o : Ref) (x : Ask Ref MadeSymbol) (old mid new : View) → b ≡ nat_lt old.depth MAX_DEPTH → b ≡ false → mid ≡ old → IfOk r (LeadsTo (λ a. End halt_kind.Depth) mid new)
+    → IfOk r (Tells which wt o x old new)
+tells_too_deep (Ok m) b which wt o x old mid new e f s h =
     let l = subst (λ w. LeadsTo (λ a. End halt_kind.Depth) w new m) s h in
-    as_opened which o x old new m (subst (λ c. OpenedSlot c which o x old new m) (sym f ∙ e) l)
-tells_too_deep (Err z) b which o x old mid new e f s h = tt
+    as_opened which wt o x old new m (subst (λ c. OpenedSlot c which wt o x old new m) (sym f ∙ e) l)
+tells_too_deep (Err z) b which wt o x old mid new e f s h = tt
 
-pub tells_opened : {E : Type 0} (r : Result Mode E) (b : Bool) (which : Native) (o : Ref) (x : Ask Ref MadeSymbol) (t : Asked) (old mid low new : View) → b ≡ nat_lt old.depth MAX_DEPTH → b ≡ true → mid ≡ record old { depth = old.depth + 1 } → t.ask ≡ x
-    → low ≡ record mid { asked = t } → IfOk r (TellsSlot which o (object_in low o).slot low.asked.ask low new) → IfOk r (Tells which o x old new)
-tells_opened (Ok m) b which o x t old mid low new e f s y d h =
+pub tells_opened : {E : Type 0} (r : Result Mode E) (b : Bool) (which : Native) (wt : acts.NativeNext Ref MadeSymbol) (o : Ref) (x : Ask Ref MadeSymbol) (t : Asked) (old mid low new : View) → b ≡ nat_lt old.depth MAX_DEPTH → b ≡ true → mid ≡ record old { depth = old.depth + 1 } → t.ask ≡ x
+    → low ≡ record mid { asked = t } → IfOk r (TellsSlot which wt o (object_in low o).slot low.asked.ask low new) → IfOk r (Tells which wt o x old new)
+tells_opened (Ok m) b which wt o x t old mid low new e f s y d h =
     let one : old.depth + 1 ≡ suc old.depth = omega arith in
-    let w = subst (λ (z : View). TellsSlot which o (object_in z o).slot z.asked.ask z new m) (d ∙ ap (λ (z : View). record z { asked = t }) s ∙ ap (λ n. record old { depth = n; asked = t }) one) h in
-    let u = subst (λ z. TellsSlot which o (object_in old o).slot z (record old { depth = suc old.depth; asked = t }) new m) y w in
-    let v : OpenedSlot true which o x old new m = record { leads = λ a. u.leads a; keeps = u.keeps } in
-    as_opened which o x old new m (subst (λ c. OpenedSlot c which o x old new m) (sym f ∙ e) v)
-tells_opened (Err z) b which o x t old mid low new e f s y d h = tt
+    let w = subst (λ (z : View). TellsSlot which wt o (object_in z o).slot z.asked.ask z new m) (d ∙ ap (λ (z : View). record z { asked = t }) s ∙ ap (λ n. record old { depth = n; asked = t }) one) h in
+    let u = subst (λ z. TellsSlot which wt o (object_in old o).slot z (record old { depth = suc old.depth; asked = t }) new m) y w in
+    let v : OpenedSlot true which wt o x old new m = record { leads = λ a. u.leads a; keeps = u.keeps } in
+    as_opened which wt o x old new m (subst (λ c. OpenedSlot c which wt o x old new m) (sym f ∙ e) v)
+tells_opened (Err z) b which wt o x t old mid low new e f s y d h = tt
 
 -- it tells by its slot
-pub told_by_proxy : {E : Type 0} (r : Result Mode E) (which : Native) (me : Ref) (k : Way) (old new : View) → k ≡ way_here old me → k ≡ way.Proxy
-    → IfOk r (LeadsTo (λ a. proxy_tells (naming_of old.me) a.shared which (waits_as (slot_wait which)) (proxy_decided old me) (party_of a old)) old new) → IfOk r (TellsSlot which me (object_in old me).slot old.asked.ask old new)
-told_by_proxy (Ok m) which me k old new e f h =
+pub told_by_proxy : {E : Type 0} (r : Result Mode E) (which : Native) (wt : acts.NativeNext Ref MadeSymbol) (me : Ref) (k : Way) (old new : View) → k ≡ way_here old me → k ≡ way.Proxy
+    → IfOk r (LeadsTo (λ a. proxy_tells (naming_of old.me) a.shared which wt (proxy_decided old me) (party_of a old)) old new) → IfOk r (TellsSlot which wt me (object_in old me).slot old.asked.ask old new)
+told_by_proxy (Ok m) which wt me k old new e f h =
     let o = object_in old me in
     let q = proxied_in o.slot in
     let s = is_proxy o.slot o.marks.callable old.asked.ask (sym e ∙ f) in
@@ -437,43 +442,43 @@ told_by_proxy (Ok m) which me k old new e f h =
       leads = λ a. (
           let b = fitting old a in
           let names = naming_of old.me in
-          let n = waits_as (slot_wait which) in
+          let n = wt in
           h.leads a
           ∙ ap (λ d. settles b old old.values (answered names b.env (proxy_tells names b.shared which n d (party_of b old)))) (as_decided old me q s)
           ∙ ap (settles b old old.values) (sym (target_looked q old a (λ k. proxy_tells names b.shared which n (decided_by_proxy (λ o. k) q old.asked.ask) (party_of b old))))
           ∙ ap (λ z. settles b old old.values (answered names b.env (slot_tells names b.shared me z old.asked.ask which n (party_of b old)))) (sym s));
       keeps = h.keeps;
     }
-told_by_proxy (Err x) which me k old new e f h = tt
+told_by_proxy (Err x) which wt me k old new e f h = tt
 
 -- a collection
-table_told : (s : Slot Ref MadeSymbol) (c : Bool) (x : Ask Ref MadeSymbol) (which : Native) (me : Ref) (old new : View) (m : Mode) → way_of s c x ≡ way.Collection
-    → LeadsTo (λ a. follows_table (naming_of old.me) me (table_given (table_by (entries_of s) x).0, (table_by (entries_of s) x).1) (shallower (party_of a old))) old new m → TellsSlot which me s x old new m
-table_told (slot.Table es) c (ask.Slot n args) which me old new m e h = record { leads = λ a. h.leads a; keeps = h.keeps }
-table_told (slot.Table es) c x which me old new m e h = cc
-table_told (slot.Proxy q) c x which me old new m e h = cc
-table_told s c x which me old new m e h = absurd (not_asked s c x e)
+table_told : (s : Slot Ref MadeSymbol) (c : Bool) (x : Ask Ref MadeSymbol) (which : Native) (wt : acts.NativeNext Ref MadeSymbol) (me : Ref) (old new : View) (m : Mode) → way_of s c x ≡ way.Collection
+    → LeadsTo (λ a. follows_table (naming_of old.me) me (table_given (table_by (entries_of s) x).0, (table_by (entries_of s) x).1) (shallower (party_of a old))) old new m → TellsSlot which wt me s x old new m
+table_told (slot.Table es) c (ask.Slot n args) which wt me old new m e h = record { leads = λ a. h.leads a; keeps = h.keeps }
+table_told (slot.Table es) c x which wt me old new m e h = cc
+table_told (slot.Proxy q) c x which wt me old new m e h = cc
+table_told s c x which wt me old new m e h = absurd (not_asked s c x e)
 
-pub told_by_table : {E : Type 0} (r : Result Mode E) (which : Native) (me : Ref) (k : Way) (old mid new : View) → k ≡ way_here old me → k ≡ way.Collection → mid ≡ record old { depth = old.depth - 1 }
-    → IfOk r (LeadsTo (λ a. follows_table (naming_of mid.me) me (table_given (collected mid me).0, (collected mid me).1) (party_of a mid)) mid new) → IfOk r (TellsSlot which me (object_in old me).slot old.asked.ask old new)
-told_by_table (Ok m) which me k old mid new e f s h =
+pub told_by_table : {E : Type 0} (r : Result Mode E) (which : Native) (wt : acts.NativeNext Ref MadeSymbol) (me : Ref) (k : Way) (old mid new : View) → k ≡ way_here old me → k ≡ way.Collection → mid ≡ record old { depth = old.depth - 1 }
+    → IfOk r (LeadsTo (λ a. follows_table (naming_of mid.me) me (table_given (collected mid me).0, (collected mid me).1) (party_of a mid)) mid new) → IfOk r (TellsSlot which wt me (object_in old me).slot old.asked.ask old new)
+told_by_table (Ok m) which wt me k old mid new e f s h =
     let o = object_in old me in
     let w = subst (λ (x : View). LeadsTo (λ a. follows_table (naming_of x.me) me (table_given (collected x me).0, (collected x me).1) (party_of a x)) x new m) s h in
-    table_told o.slot o.marks.callable old.asked.ask which me old new m (sym e ∙ f) (record { leads = λ a. w.leads a; keeps = w.keeps })
-told_by_table (Err x) which me k old mid new e f s h = tt
+    table_told o.slot o.marks.callable old.asked.ask which wt me old new m (sym e ∙ f) (record { leads = λ a. w.leads a; keeps = w.keeps })
+told_by_table (Err x) which wt me k old mid new e f s h = tt
 
 -- any other one has no answer
-wrong_told : (s : Slot Ref MadeSymbol) (c : Bool) (x : Ask Ref MadeSymbol) (which : Native) (me : Ref) (old new : View) (m : Mode) → (way_of s c x ≡ way.Proxy → ⊥) → (way_of s c x ≡ way.Collection → ⊥)
-    → LeadsTo (λ a. faults (naming_of old.me) fault.WrongKind (shallower (party_of a old))) old new m → TellsSlot which me s x old new m
-wrong_told (slot.Proxy q) c x which me old new m f g h = absurd (f refl)
-wrong_told (slot.Table es) c (ask.Slot n args) which me old new m f g h = absurd (g refl)
-wrong_told (slot.Table es) c x which me old new m f g h = record { leads = λ a. h.leads a; keeps = h.keeps }
-wrong_told s c x which me old new m f g h = record { leads = λ a. h.leads a; keeps = h.keeps }
+wrong_told : (s : Slot Ref MadeSymbol) (c : Bool) (x : Ask Ref MadeSymbol) (which : Native) (wt : acts.NativeNext Ref MadeSymbol) (me : Ref) (old new : View) (m : Mode) → (way_of s c x ≡ way.Proxy → ⊥) → (way_of s c x ≡ way.Collection → ⊥)
+    → LeadsTo (λ a. faults (naming_of old.me) fault.WrongKind (shallower (party_of a old))) old new m → TellsSlot which wt me s x old new m
+wrong_told (slot.Proxy q) c x which wt me old new m f g h = absurd (f refl)
+wrong_told (slot.Table es) c (ask.Slot n args) which wt me old new m f g h = absurd (g refl)
+wrong_told (slot.Table es) c x which wt me old new m f g h = record { leads = λ a. h.leads a; keeps = h.keeps }
+wrong_told s c x which wt me old new m f g h = record { leads = λ a. h.leads a; keeps = h.keeps }
 
-pub told_by_none : {E : Type 0} (r : Result Mode E) (which : Native) (me : Ref) (k : Way) (old new : View) → k ≡ way_here old me → (k ≡ way.Proxy → ⊥) → (k ≡ way.Collection → ⊥)
-    → IfOk r (LeadsTo (λ a. faults (naming_of old.me) fault.WrongKind (shallower (party_of a old))) old new) → IfOk r (TellsSlot which me (object_in old me).slot old.asked.ask old new)
-told_by_none (Ok m) which me k old new e f g h = let o = object_in old me in wrong_told o.slot o.marks.callable old.asked.ask which me old new m (λ p. f (e ∙ p)) (λ p. g (e ∙ p)) h
-told_by_none (Err x) which me k old new e f g h = tt
+pub told_by_none : {E : Type 0} (r : Result Mode E) (which : Native) (wt : acts.NativeNext Ref MadeSymbol) (me : Ref) (k : Way) (old new : View) → k ≡ way_here old me → (k ≡ way.Proxy → ⊥) → (k ≡ way.Collection → ⊥)
+    → IfOk r (LeadsTo (λ a. faults (naming_of old.me) fault.WrongKind (shallower (party_of a old))) old new) → IfOk r (TellsSlot which wt me (object_in old me).slot old.asked.ask old new)
+told_by_none (Ok m) which wt me k old new e f g h = let o = object_in old me in wrong_told o.slot o.marks.callable old.asked.ask which wt me old new m (λ p. f (e ∙ p)) (λ p. g (e ∙ p)) h
+told_by_none (Err x) which wt me k old new e f g h = tt
 
 -- WHAT FOLLOWS WHAT A PROXY TELLS
 
@@ -482,29 +487,29 @@ pub after_closing : {E : Type 0} (r : Result Mode E) (deed : (w : View) → Arou
     → IfOk r (LeadsTo (deed (record old { depth = old.depth - 1 })) (record old { depth = old.depth - 1 }) new)
 after_closing r deed old mid new s h = subst (λ w. IfOk r (LeadsTo (deed w) w new)) s h
 
-abbrev Told : Native → ProxyDecision Ref MadeSymbol → View → View → Mode → Type 0
-Told which d old new m = LeadsTo (λ a. proxy_tells (naming_of old.me) a.shared which (waits_as (slot_wait which)) d (party_of a old)) old new m
+abbrev Told : Native → acts.NativeNext Ref MadeSymbol → ProxyDecision Ref MadeSymbol → View → View → Mode → Type 0
+Told which wt d old new m = LeadsTo (λ a. proxy_tells (naming_of old.me) a.shared which wt d (party_of a old)) old new m
 
-pub told_done : {E : Type 0} (r : Result Mode E) (which : Native) (next : NativeNext) (y : Reply Ref MadeSymbol) (d : ProxyDecision Ref MadeSymbol) (old mid new : View) → d ≡ decision.Done y → next ≡ slot_wait which → mid ≡ record old { depth = old.depth - 1 }
-    → IfOk r (LeadsTo (λ a. native_goes_on (naming_of mid.me) a.shared which (waits_as next) y (party_of a mid)) mid new) → IfOk r (Told which d old new)
-told_done (Ok m) which next y d old mid new e f s h =
+pub told_done : {E : Type 0} (r : Result Mode E) (which : Native) (wt : acts.NativeNext Ref MadeSymbol) (next : NativeNext) (y : Reply Ref MadeSymbol) (d : ProxyDecision Ref MadeSymbol) (old mid new : View) → d ≡ decision.Done y → waits_as next ≡ wt → mid ≡ record old { depth = old.depth - 1 }
+    → IfOk r (LeadsTo (λ a. native_goes_on (naming_of mid.me) a.shared which (waits_as next) y (party_of a mid)) mid new) → IfOk r (Told which wt d old new)
+told_done (Ok m) which wt next y d old mid new e f s h =
     let w = subst (λ (x : View). LeadsTo (λ a. native_goes_on (naming_of x.me) a.shared which (waits_as next) y (party_of a x)) x new m) s h in
     let low = record old { depth = old.depth - 1 } in
-    let u = subst (λ n. LeadsTo (λ a. native_goes_on (naming_of old.me) a.shared which (waits_as n) y (party_of a low)) low new m) f w in
-    let v : Told which (decision.Done y) old new m = record { leads = λ a. u.leads a; keeps = u.keeps } in
-    subst (λ x. Told which x old new m) (sym e) v
-told_done (Err x) which next y d old mid new e f s h = tt
+    let u = subst (λ n. LeadsTo (λ a. native_goes_on (naming_of old.me) a.shared which n y (party_of a low)) low new m) f w in
+    let v : Told which wt (decision.Done y) old new m = record { leads = λ a. u.leads a; keeps = u.keeps } in
+    subst (λ x. Told which wt x old new m) (sym e) v
+told_done (Err x) which wt next y d old mid new e f s h = tt
 
-pub told_fault : {E : Type 0} (r : Result Mode E) (which : Native) (t : FaultText) (d : ProxyDecision Ref MadeSymbol) (old mid new : View) → d ≡ decision.Fault t → mid ≡ record old { depth = old.depth - 1 }
-    → IfOk r (LeadsTo (λ a. faults (naming_of mid.me) t (party_of a mid)) mid new) → IfOk r (Told which d old new)
-told_fault (Ok m) which t d old mid new e s h =
+pub told_fault : {E : Type 0} (r : Result Mode E) (which : Native) (wt : acts.NativeNext Ref MadeSymbol) (t : FaultText) (d : ProxyDecision Ref MadeSymbol) (old mid new : View) → d ≡ decision.Fault t → mid ≡ record old { depth = old.depth - 1 }
+    → IfOk r (LeadsTo (λ a. faults (naming_of mid.me) t (party_of a mid)) mid new) → IfOk r (Told which wt d old new)
+told_fault (Ok m) which wt t d old mid new e s h =
     let w = subst (λ (x : View). LeadsTo (λ a. faults (naming_of x.me) t (party_of a x)) x new m) s h in
-    let v : Told which (decision.Fault t) old new m = record { leads = λ a. w.leads a; keeps = w.keeps } in
-    subst (λ x. Told which x old new m) (sym e) v
-told_fault (Err x) which t d old mid new e s h = tt
+    let v : Told which wt (decision.Fault t) old new m = record { leads = λ a. w.leads a; keeps = w.keeps } in
+    subst (λ x. Told which wt x old new m) (sym e) v
+told_fault (Err x) which wt t d old mid new e s h = tt
 
-pub told_by : {E : Type 0} (r : Result Mode E) (which : Native) (d e : ProxyDecision Ref MadeSymbol) (old new : View) → d ≡ e → IfOk r (Told which e old new) → IfOk r (Told which d old new)
-told_by r which d e old new f h = subst (λ x. IfOk r (Told which x old new)) (sym f) h
+pub told_by : {E : Type 0} (r : Result Mode E) (which : Native) (wt : acts.NativeNext Ref MadeSymbol) (d e : ProxyDecision Ref MadeSymbol) (old new : View) → d ≡ e → IfOk r (Told which wt e old new) → IfOk r (Told which wt d old new)
+told_by r which wt d e old new f h = subst (λ x. IfOk r (Told which wt x old new)) (sym f) h
 
 abbrev Wrong : View → View → Mode → Type 0
 Wrong old new m = LeadsTo (λ a. faults (naming_of old.me) fault.WrongKind (shallower (party_of a old))) old new m
@@ -515,25 +520,24 @@ told_wrong (Ok m) old mid new s h =
     record { leads = λ a. w.leads a; keeps = w.keeps }
 told_wrong (Err x) old mid new s h = tt
 
-pub no_target : {E : Type 0} (r : Result Mode E) (which : Native) (o : Option Ref) (x : Ask Ref MadeSymbol) (n : ProxyNext Ref MadeSymbol) (old new : View) → o ≡ None → IfOk r (Wrong old new) → IfOk r (Told which (decision.Ask o x n) old new)
-no_target r which o x n old new e h = subst (λ y. IfOk r (Told which (decision.Ask y x n) old new)) (sym e) h
+pub no_target : {E : Type 0} (r : Result Mode E) (which : Native) (wt : acts.NativeNext Ref MadeSymbol) (o : Option Ref) (x : Ask Ref MadeSymbol) (n : ProxyNext Ref MadeSymbol) (old new : View) → o ≡ None → IfOk r (Wrong old new) → IfOk r (Told which wt (decision.Ask o x n) old new)
+no_target r which wt o x n old new e h = subst (λ y. IfOk r (Told which wt (decision.Ask y x n) old new)) (sym e) h
 
-pub a_target : {E : Type 0} (r : Result Mode E) (which : Native) (o : Option Ref) (t : Ref) (x : Ask Ref MadeSymbol) (n : ProxyNext Ref MadeSymbol) (old new : View) → o ≡ Some t → IfOk r (Told which (decision.Ask (Some t) x n) old new)
-    → IfOk r (Told which (decision.Ask o x n) old new)
-a_target r which o t x n old new e h = subst (λ y. IfOk r (Told which (decision.Ask y x n) old new)) (sym e) h
+pub a_target : {E : Type 0} (r : Result Mode E) (which : Native) (wt : acts.NativeNext Ref MadeSymbol) (o : Option Ref) (t : Ref) (x : Ask Ref MadeSymbol) (n : ProxyNext Ref MadeSymbol) (old new : View) → o ≡ Some t → IfOk r (Told which wt (decision.Ask (Some t) x n) old new)
+    → IfOk r (Told which wt (decision.Ask o x n) old new)
+a_target r which wt o t x n old new e h = subst (λ y. IfOk r (Told which wt (decision.Ask y x n) old new)) (sym e) h
 
-pub told_waits : {E : Type 0} (r : Result Mode E) (which : Native) (next : NativeNext) (t : Ref) (x : Ask Ref MadeSymbol) (n : ProxyNext Ref MadeSymbol) (old new : View) → n ≡ proxy_next.Answer → next ≡ slot_wait which
-    → IfOk r (LeadsTo (λ a. waits_for (naming_of old.me) t x (party_of a old) (next_of_wait (naming_of old.me) a.shared old.code (wait.SlotTold which next))) old new) → IfOk r (Told which (decision.Ask (Some t) x n) old new)
+pub told_waits : {E : Type 0} (r : Result Mode E) (which : Native) (wt : acts.NativeNext Ref MadeSymbol) (next : NativeNext) (t : Ref) (x : Ask Ref MadeSymbol) (n : ProxyNext Ref MadeSymbol) (old new : View) → n ≡ proxy_next.Answer → waits_as next ≡ wt
+    → IfOk r (LeadsTo (λ a. waits_for (naming_of old.me) t x (party_of a old) (next_of_wait (naming_of old.me) a.shared old.code (wait.SlotTold which next))) old new) → IfOk r (Told which wt (decision.Ask (Some t) x n) old new)
 unfolding next_of_want
-told_waits (Ok m) which next t x n old new e f h =
-    let w = subst (λ k. LeadsTo (λ a. waits_for (naming_of old.me) t x (party_of a old) (next_of_wait (naming_of old.me) a.shared old.code (wait.SlotTold which k))) old new m) f h in
-    let v : Told which (decision.Ask (Some t) x proxy_next.Answer) old new m = record { leads = λ a. w.leads a; keeps = w.keeps } in
-    subst (λ k. Told which (decision.Ask (Some t) x k) old new m) (sym e) v
-told_waits (Err y) which next t x n old new e f h = tt
+told_waits (Ok m) which wt next t x n old new e f h =
+    let v : Told which (waits_as next) (decision.Ask (Some t) x proxy_next.Answer) old new m = record { leads = λ a. h.leads a; keeps = h.keeps } in
+    subst (λ k. Told which wt (decision.Ask (Some t) x k) old new m) (sym e) (subst (λ k. Told which k (decision.Ask (Some t) x proxy_next.Answer) old new m) f v)
+told_waits (Err y) which wt next t x n old new e f h = tt
 
-pub other_next : {E : Type 0} (r : Result Mode E) (which : Native) (t : Ref) (x : Ask Ref MadeSymbol) (n : ProxyNext Ref MadeSymbol) (old new : View) → (n ≡ proxy_next.Answer → ⊥) → IfOk r (Wrong old new) → IfOk r (Told which (decision.Ask (Some t) x n) old new)
-other_next r which t x proxy_next.Answer old new f h = absurd (f refl)
-other_next r which t x n old new f h = h
+pub other_next : {E : Type 0} (r : Result Mode E) (which : Native) (wt : acts.NativeNext Ref MadeSymbol) (t : Ref) (x : Ask Ref MadeSymbol) (n : ProxyNext Ref MadeSymbol) (old new : View) → (n ≡ proxy_next.Answer → ⊥) → IfOk r (Wrong old new) → IfOk r (Told which wt (decision.Ask (Some t) x n) old new)
+other_next r which wt t x proxy_next.Answer old new f h = absurd (f refl)
+other_next r which wt t x n old new f h = h
 
 -- the answer comes to the native
 pub told_comes : {E : Type 0} (r : Result Mode E) (which : Native) (n : NativeNext) (y : Reply Ref MadeSymbol) (old mid new : View) → mid ≡ record old { depth = old.depth - 1 }
@@ -562,5 +566,5 @@ refused_comes (Ok m) b t old mid new f e h =
     delivered (frame.Refused b) old new m (record { leads = λ a. u.leads a; keeps = u.keeps })
 refused_comes (Err x) b t old mid new f e h = tt
 
-pub told_from : {E : Type 0} (r : Result Mode E) (which : Native) (d : ProxyDecision Ref MadeSymbol) (me : Ref) (old new : View) → d ≡ proxy_decided old me → IfOk r (Told which d old new) → IfOk r (Told which (proxy_decided old me) old new)
-told_from r which d me old new e h = subst (λ x. IfOk r (Told which x old new)) e h
+pub told_from : {E : Type 0} (r : Result Mode E) (which : Native) (wt : acts.NativeNext Ref MadeSymbol) (d : ProxyDecision Ref MadeSymbol) (me : Ref) (old new : View) → d ≡ proxy_decided old me → IfOk r (Told which wt d old new) → IfOk r (Told which wt (proxy_decided old me) old new)
+told_from r which wt d me old new e h = subst (λ x. IfOk r (Told which wt x old new)) e h

@@ -20,9 +20,9 @@ use Rattle.js_conversions.specs.Primitives.{ReadsNumbers}
 use Rattle.js_conversions.specs.declared.next.Wanted.TheVariants as wanted
 use Rattle.js_exotic.specs.Verdicts.{ExoticDecision}
 use Rattle.js_exotic.specs.declared.next.Next.{Next as ExoticNext}
-use Rattle.js_operators.specs.Computing.{number_converted, number_of}
-use Rattle.js_operators.specs.declared.operation.Computed.{Computed}
-use Rattle.js_operators.specs.declared.operation.Computed.TheVariants as computed
+use Rattle.js_operation.specs.Computing.{number_converted, number_of}
+use Rattle.js_operation.specs.declared.operation.Computed.{Computed}
+use Rattle.js_operation.specs.declared.operation.Computed.TheVariants as computed
 use Rattle.js_run.specs.Acts.{Act, Give, on_value}
 use Rattle.js_run.specs.Asking.{waits_for}
 use Rattle.js_run.specs.Completions.{Replied}

@@ -4,7 +4,7 @@ ghost use Rattle.std.specs.Prelude.{◌≡◌, Bool, IfOk, OnOk, drop};
 ghost use Rattle.js_text.specs.Naming.{naming_of};
 ghost use Rattle.js_native.specs.Costs.{makes_text, native_cost};
 ghost use Rattle.js_natives.specs.Deeds.{Does, acts_with, goes_on_with};
-ghost use Rattle.js_natives.specs.Steps.{waits_as};
+ghost use Rattle.js_native_steps.specs.Steps.{waits_as};
 ghost use Rattle.js_operations.specs.Lists.{list_items};
 ghost use Rattle.js_run.specs.NativeTurns.{charged, follows_native, gives_text, listed_units, native_gives, native_goes_on};
 ghost use Rattle.js_run.specs.Natives.{native_acts, runs_native};
@@ -17,6 +17,7 @@ ghost use Rattle.js_machine.specs.Views.{args_on, is_completion, party_of};
 ghost use Rattle.js_machine.specs.declared.frame.Frame.TheVariants as frame_kind;
 ghost use Rattle.js_machine.specs.declared.frame.Mode.TheVariants as mode_kind;
 
+use crate::kinds::act_kind;
 use crate::slot_asks::run_slot_native;
 use js_desc::ask::Ask;
 use js_desc::decision::Decision;
@@ -26,9 +27,9 @@ use js_machine::asked::{Answer, Wait};
 use js_machine::frame::{Frame, Mode};
 use js_machine::machine::Machine;
 use js_native::costs::{makes_text, unit_steps};
+use js_native_steps::next::NativeNext;
 use js_natives::costs::cost;
 use js_natives::natives::native;
-use js_natives::next::NativeNext;
 use js_natives::resume::resume;
 use js_text::native::Native;
 use js_text::text::Text;
@@ -125,7 +126,7 @@ fn ask_native(
 }
 
 /// Follows the decision of a native.
-fn follow_native(
+pub(crate) fn follow_native(
     machine: &mut Machine,
     which: Native,
     decision: Decision<NativeNext>,
@@ -164,8 +165,8 @@ fn native_decision(
     )
 }
 
-/// A native that is charged does what it does with the newest values, its operands.
-fn act_native(machine: &mut Machine, which: Native, count: u32) -> Result<Mode, OutOfMemory>
+/// A native that asks no `Slot` does what it does with the newest values, its operands.
+fn act_decided(machine: &mut Machine, which: Native, count: u32) -> Result<Mode, OutOfMemory>
     ensures { let args = args_on count machine.old.values in
         let rest = record machine.old { values = drop count machine.old.values } in
         IfOk result (LeadsTo (λ a. native_acts (naming_of machine.old.me) a.shared which args
@@ -174,6 +175,19 @@ fn act_native(machine: &mut Machine, which: Native, count: u32) -> Result<Mode, 
     let args = machine.take_arguments(count)?;
     let decision = native_decision(machine, which, args.as_slice())?;
     follow_native(machine, which, decision)
+}
+
+/// A native that is charged does what it does with the newest values, its operands.
+fn act_native(machine: &mut Machine, which: Native, count: u32) -> Result<Mode, OutOfMemory>
+    ensures { let args = args_on count machine.old.values in
+        let rest = record machine.old { values = drop count machine.old.values } in
+        IfOk result (LeadsTo (λ a. native_acts (naming_of machine.old.me) a.shared which args
+        (party_of a machine.old)) rest machine.new) }
+{
+    match which {
+        Native::ClassOf => act_kind(machine, count),
+        _ => act_decided(machine, which, count),
+    }
 }
 
 /// So many newest values, the oldest of them first.

@@ -6,7 +6,7 @@ ghost use Rattle.js_desc.specs.declared.ask.Ask.TheVariants as ask_kind;
 ghost use Rattle.js_desc.specs.declared.decision.Decision.TheVariants as decision_kind;
 ghost use Rattle.js_desc.specs.declared.fault.FaultText.TheVariants as fault_kind;
 ghost use Rattle.js_native.specs.Costs.{native_cost};
-ghost use Rattle.js_natives.specs.Steps.{waits_as};
+ghost use Rattle.js_native_steps.specs.Steps.{waits_as};
 ghost use Rattle.js_operations.specs.Lists.{list_items};
 ghost use Rattle.js_operations.specs.Looks.{marks_seen};
 ghost use Rattle.js_run.specs.Acts.{Native_decides};
@@ -18,7 +18,8 @@ ghost use Rattle.js_run.specs.Parties.{shallower};
 ghost use Rattle.js_run.specs.SlotNatives.{asks_slot, proxy_tells, slot_tells};
 ghost use Rattle.js_machine.specs.Natives.{asks_slots};
 ghost use Rattle.js_machine.specs.Proxying.{known_of, proxy_decided};
-ghost use Rattle.js_machine.specs.SlotAsks.{asks_first, asks_foreign, first_object, refusal, slot_leads, slot_step, slot_wait, step_of_maker, step_of_slot, tells_here};
+ghost use Rattle.js_machine.specs.SlotAsks.{asks_first, asks_foreign, first_object, refusal, slot_leads, slot_step, slot_wait, step_of_maker, step_of_slot};
+ghost use Rattle.js_machine_natives.specs.Telling.{tells_waiting, wait_of};
 ghost use Rattle.js_machine.specs.SlotSteps.{first_step};
 ghost use Rattle.js_machine.specs.Steps.{IsDelivered, LeadsTo, Wakes};
 ghost use Rattle.js_machine.specs.Views.{args_on, is_completion, party_of};
@@ -43,7 +44,7 @@ use js_machine::slot_asks::SlotStep;
 use js_machine::ways::Way;
 use js_maker_natives::kinds::is_array;
 use js_maker_natives::next::Next as MakerNext;
-use js_natives::next::NativeNext;
+use js_native_steps::next::NativeNext;
 use js_slot_natives::next::Next as SlotNext;
 use js_slot_natives::slot_natives::slot_native;
 use js_store::foreign::Foreign;
@@ -93,6 +94,16 @@ fn slot_wait(which: Native) -> NativeNext
     }
 }
 
+/// What a native waits for whose object tells: `classOf` remembers whether that can be called.
+fn wait_of(which: Native, kind: Option<bool>) -> NativeNext
+    ensures { result ≡ wait_of which kind }
+{
+    match kind {
+        None => slot_wait(which),
+        Some(callable) => NativeNext::Maker(MakerNext::KindTold { callable }),
+    }
+}
+
 /// The fault of a native that is refused.
 fn refusal(converts: bool) -> FaultText
     ensures { result ≡ refusal converts }
@@ -105,7 +116,7 @@ fn refusal(converts: bool) -> FaultText
 }
 
 /// The first operand, where it is an object.
-fn first_object(args: &[Value]) -> Option<Ref>
+pub(crate) fn first_object(args: &[Value]) -> Option<Ref>
     ensures { result ≡ first_object args.now }
 {
     match args {
@@ -334,59 +345,82 @@ fn ask_slot(
         return Err(OutOfMemory);
     }
     args.drop_first(1);
+    ask_object(machine, object, which, None, Ask::Slot { which, args })
+}
+
+/// An object is asked for a native, which waits for the answer.
+pub fn ask_object(
+    machine: &mut Machine,
+    object: Ref,
+    which: Native,
+    kind: Option<bool>,
+    ask: Ask,
+) -> Result<Mode, OutOfMemory>
+    ensures { let names = naming_of machine.old.me in
+        let origin = names.origin object in
+        let next = waits_as (wait_of which kind) in
+        IfOk result (LeadsTo (λ a. asks_slot names a.shared origin object ask which
+        next (party_of a machine.old)) machine.old machine.new) }
+{
     match machine.foreign_of(object) {
-        Some(_) => send_slot(machine, object, which, args),
-        None => ask_slot_here(machine, object, which, args),
+        Some(_) => send_slot(machine, object, which, kind, ask),
+        None => ask_object_here(machine, object, which, kind, ask),
     }
 }
 
-/// A foreign object is asked a `Slot`.
+/// A foreign object is asked.
 fn send_slot(
     machine: &mut Machine,
     object: Ref,
     which: Native,
-    args: List<Value>,
+    kind: Option<bool>,
+    ask: Ask,
 ) -> Result<Mode, OutOfMemory>
     ensures { let names = naming_of machine.old.me in
-        let ask = ask_kind.Slot which args in
-        let next = Native_decides which (waits_as (slot_wait which)) in
+        let next = Native_decides which (waits_as (wait_of which kind)) in
         IfOk result (LeadsTo (λ a. waits_for names object ask (party_of a machine.old)
         next) machine.old machine.new) }
 {
     let wait = Wait::Native {
         which,
-        next: slot_wait(which),
+        next: wait_of(which, kind),
     };
-    machine.wait_for(object, Ask::Slot { which, args }, wait)
+    machine.wait_for(object, ask, wait)
 }
 
-/// An object that is not foreign is asked a `Slot`. The native is open meanwhile.
-fn ask_slot_here(
+/// An object that is not foreign is asked. The native is open meanwhile.
+fn ask_object_here(
     machine: &mut Machine,
     object: Ref,
     which: Native,
-    args: List<Value>,
+    kind: Option<bool>,
+    ask: Ask,
 ) -> Result<Mode, OutOfMemory>
-    ensures { let ask = ask_kind.Slot which args in
-        IfOk result (LeadsTo (λ a. tells_here (naming_of machine.old.me) a.shared which object ask
-        (party_of a machine.old)) machine.old machine.new) }
+    ensures { let next = waits_as (wait_of which kind) in
+        IfOk result (LeadsTo (λ a. tells_waiting (naming_of machine.old.me) a.shared which next
+        object ask (party_of a machine.old)) machine.old machine.new) }
 {
     if !machine.open_one() {
         return machine.end_run(Halt::Depth);
     }
-    machine.set_asked(Value::Ref(object), Ask::Slot { which, args });
-    tell_slot(machine, object, which)
+    machine.set_asked(Value::Ref(object), ask);
+    tell_slot(machine, object, which, kind)
 }
 
 /// An object tells what it is asked, for a native that is open.
-fn tell_slot(machine: &mut Machine, object: Ref, which: Native) -> Result<Mode, OutOfMemory>
+fn tell_slot(
+    machine: &mut Machine,
+    object: Ref,
+    which: Native,
+    kind: Option<bool>,
+) -> Result<Mode, OutOfMemory>
     ensures { let slot = (object_in machine.old object).slot in
-        let next = waits_as (slot_wait which) in
+        let next = waits_as (wait_of which kind) in
         IfOk result (LeadsTo (λ a. slot_tells (naming_of machine.old.me) a.shared object slot
         machine.old.asked.ask which next (party_of a machine.old)) machine.old machine.new) }
 {
     match machine.way(object) {
-        Way::Proxy => ask_proxy(machine, object, which),
+        Way::Proxy => ask_proxy(machine, object, which, kind),
         Way::Collection => {
             machine.close_one();
             decide_collection(machine, object)
@@ -406,34 +440,42 @@ fn tell_wrong_kind(machine: &mut Machine) -> Result<Mode, OutOfMemory>
 }
 
 /// A proxy tells what it is asked, for a native that is open.
-fn ask_proxy(machine: &mut Machine, object: Ref, which: Native) -> Result<Mode, OutOfMemory>
+fn ask_proxy(
+    machine: &mut Machine,
+    object: Ref,
+    which: Native,
+    kind: Option<bool>,
+) -> Result<Mode, OutOfMemory>
     ensures { let names = naming_of machine.old.me in
         let decision = proxy_decided machine.old object in
-        let next = waits_as (slot_wait which) in
+        let next = waits_as (wait_of which kind) in
         IfOk result (LeadsTo (λ a. proxy_tells names a.shared which next decision
         (party_of a machine.old)) machine.old machine.new) }
 {
     let decision = proxy_decision(machine, object)?;
-    follow_told(machine, which, decision)
+    follow_told(machine, which, kind, decision)
 }
 
 /// Follows what a proxy tells a native that is open.
 fn follow_told(
     machine: &mut Machine,
     which: Native,
+    kind: Option<bool>,
     decision: Decision<ProxyNext>,
 ) -> Result<Mode, OutOfMemory>
     ensures { let names = naming_of machine.old.me in
-        let next = waits_as (slot_wait which) in
+        let next = waits_as (wait_of which kind) in
         IfOk result (LeadsTo (λ a. proxy_tells names a.shared which next decision
         (party_of a machine.old)) machine.old machine.new) }
 {
     match decision {
         Decision::Done(reply) => {
             machine.close_one();
-            resume_native(machine, which, slot_wait(which), reply)
+            resume_native(machine, which, wait_of(which, kind), reply)
         }
-        Decision::Ask { target, ask, next } => follow_told_ask(machine, which, target, ask, next),
+        Decision::Ask { target, ask, next } => follow_told_ask(
+            machine, which, kind, target, ask, next,
+        ),
         Decision::Fault(fault) => {
             machine.close_one();
             machine.fault(fault)
@@ -448,18 +490,19 @@ fn follow_told(
 fn follow_told_ask(
     machine: &mut Machine,
     which: Native,
+    kind: Option<bool>,
     target: Option<Ref>,
     ask: Ask,
     next: ProxyNext,
 ) -> Result<Mode, OutOfMemory>
     ensures { let names = naming_of machine.old.me in
         let decision = decision_kind.Ask target ask next in
-        let next = waits_as (slot_wait which) in
+        let next = waits_as (wait_of which kind) in
         IfOk result (LeadsTo (λ a. proxy_tells names a.shared which next decision
         (party_of a machine.old)) machine.old machine.new) }
 {
     match target {
-        Some(target) => wait_told(machine, which, target, ask, next),
+        Some(target) => wait_told(machine, which, kind, target, ask, next),
         None => tell_wrong_kind(machine),
     }
 }
@@ -468,13 +511,14 @@ fn follow_told_ask(
 fn wait_told(
     machine: &mut Machine,
     which: Native,
+    kind: Option<bool>,
     target: Ref,
     ask: Ask,
     next: ProxyNext,
 ) -> Result<Mode, OutOfMemory>
     ensures { let names = naming_of machine.old.me in
         let decision = decision_kind.Ask (Some target) ask next in
-        let next = waits_as (slot_wait which) in
+        let next = waits_as (wait_of which kind) in
         IfOk result (LeadsTo (λ a. proxy_tells names a.shared which next decision
         (party_of a machine.old)) machine.old machine.new) }
 {
@@ -482,7 +526,7 @@ fn wait_told(
         ProxyNext::Answer => {
             let wait = Wait::SlotTold {
                 which,
-                next: slot_wait(which),
+                next: wait_of(which, kind),
             };
             machine.wait_for(target, ask, wait)
         }

@@ -8,7 +8,7 @@ ghost use Rattle.js_native.specs.declared.costs.TheConstants.{UNITS_A_STEP as un
 ghost use Rattle.js_run.specs.Acts.{give};
 ghost use Rattle.js_run.specs.Asking.{see_callable};
 ghost use Rattle.js_run.specs.Operators.{binary_value, given_text, to_primitive, unary_value};
-ghost use Rattle.js_operators.specs.Deeds.{Does, act_of, becomes_key, look_deed, rest_deed};
+ghost use Rattle.js_operation.specs.Deeds.{Does, act_of, becomes_key, look_deed, rest_deed};
 ghost use Rattle.js_machine.specs.Conversions.{Reaches};
 ghost use Rattle.js_machine.specs.Operands.{type_name};
 ghost use Rattle.js_machine.specs.Steps.{IsDelivered, LeadsTo, deed_with, under};
@@ -22,10 +22,10 @@ use js_desc::fault::FaultText;
 use js_machine::frame::{Frame, Goal, Mode};
 use js_machine::machine::Machine;
 use js_native::costs::UNITS_A_STEP;
+use js_operation::operation::{Look, Operation, Rest};
 use js_operations::names::ascii_text;
 use js_operators::binary::binary_operation;
 use js_operators::integers::integer_operation;
-use js_operators::operation::{Look, Operation, Rest};
 use js_operators::rests::converted;
 use js_operators::unary::unary_operation;
 use js_text::text::Text;
@@ -60,6 +60,7 @@ fn operation_on_number(
 }
 
 /// What a binary operator does with its operands.
+#[inline]
 fn operation_on(
     alloc: Global,
     operator: BinaryOperator,
@@ -159,8 +160,8 @@ fn convert_operand(
     machine.convert_object(object, Goal::Operand(rest))
 }
 
-/// Does what an operation says.
-pub fn operate(machine: &mut Machine, operation: Operation) -> Result<Mode, OutOfMemory>
+/// Does what an operation says, whatever it is.
+fn operate_any(machine: &mut Machine, operation: Operation) -> Result<Mode, OutOfMemory>
     ensures { IfOk result (LeadsTo (λ a. act_of (naming_of machine.old.me) a.shared operation
         (party_of a machine.old)) machine.old machine.new) }
 {
@@ -180,6 +181,18 @@ pub fn operate(machine: &mut Machine, operation: Operation) -> Result<Mode, OutO
     }
 }
 
+/// Does what an operation says. (A value, which is what comes of most, is given at once: what the others move would be laid out for it, too.)
+#[inline]
+pub fn operate(machine: &mut Machine, operation: Operation) -> Result<Mode, OutOfMemory>
+    ensures { IfOk result (LeadsTo (λ a. act_of (naming_of machine.old.me) a.shared operation
+        (party_of a machine.old)) machine.old machine.new) }
+{
+    match operation {
+        Operation::Value(value) => machine.give(value),
+        _ => operate_any(machine, operation),
+    }
+}
+
 /// A unary operator has its operand (ECMA-262, Unary Operators).
 pub fn unary(
     machine: &mut Machine,
@@ -194,6 +207,7 @@ pub fn unary(
 }
 
 /// A binary operator has its operands (ECMA-262, EvaluateStringOrNumericBinaryExpression).
+#[inline]
 fn binary(
     machine: &mut Machine,
     operator: BinaryOperator,
@@ -209,6 +223,7 @@ fn binary(
 }
 
 /// The right operand comes to the frame that has the left one.
+#[inline]
 pub fn go_on_binary(
     machine: &mut Machine,
     operator: BinaryOperator,

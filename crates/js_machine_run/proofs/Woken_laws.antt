@@ -8,7 +8,7 @@ use Rattle.js_text.specs.declared.value.Value.TheVariants as value
 use Rattle.js_code.specs.Decoded.{template_at, term_at}
 use Rattle.js_code.specs.Tables.{Tables}
 use Rattle.js_desc.specs.declared.reply.Reply.TheVariants as reply
-use Rattle.js_natives.specs.Steps.{waits_as}
+use Rattle.js_native_steps.specs.Steps.{waits_as}
 use Rattle.js_run.specs.Acts.{Act, Give, give, on_value}
 use Rattle.js_run.specs.Completions.{Replied, reply_of}
 use Rattle.js_run.specs.Decisions.{goes_on}

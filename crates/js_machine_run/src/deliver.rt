@@ -41,7 +41,7 @@ pub fn deliver_value(machine: &mut Machine, frame: Frame) -> Result<Mode, OutOfM
 
 /// The key of a property comes to the frame that has the object.
 #[tactic(auto, using(js_machine::proofs::Operands::with_object))]
-fn go_on_key(machine: &mut Machine, key: Value) -> Result<Mode, OutOfMemory>
+pub(crate) fn go_on_key(machine: &mut Machine, key: Value) -> Result<Mode, OutOfMemory>
     ensures { IfOk result (LeadsTo (deed_with frame_kind.GetKey key machine.old)
         (under frame_kind.GetKey machine.old) machine.new) }
 {
@@ -51,7 +51,7 @@ fn go_on_key(machine: &mut Machine, key: Value) -> Result<Mode, OutOfMemory>
 
 /// The value for a property comes to the frame that has the object and the key.
 #[tactic(auto, using(js_machine::proofs::Operands::with_both))]
-fn go_on_put(machine: &mut Machine, value: Value) -> Result<Mode, OutOfMemory>
+pub(crate) fn go_on_put(machine: &mut Machine, value: Value) -> Result<Mode, OutOfMemory>
     ensures { IfOk result (LeadsTo (deed_with frame_kind.PutValue value machine.old)
         (under frame_kind.PutValue machine.old) machine.new) }
 {

@@ -8,6 +8,7 @@
 // - `deliver`: what the machine does where a completion comes to a frame.
 // - `listed_arguments`: the arguments of an array: its items, which are read directly.
 // - `methods`: methods that are called on values, where the key is a form.
+// - `newest`: what the commonest frames do with the newest value.
 // - `primitives`: what a value that is no object decides of an ask.
 // - `proxies`: what proxies decide, and what follows.
 // - `run`: runs: charges, and what each leads to.
@@ -26,6 +27,7 @@ pub mod decisions;
 pub mod deliver;
 pub mod listed_arguments;
 pub mod methods;
+pub mod newest;
 pub mod primitives;
 pub mod proxies;
 pub mod run;

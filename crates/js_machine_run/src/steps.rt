@@ -11,6 +11,7 @@ use crate::answers::deliver_answer;
 use crate::begin::begin;
 use crate::decisions::{decide, resume_thrown};
 use crate::deliver::deliver_value;
+use crate::newest::deliver_newest;
 use crate::wakes::resume_jumped;
 use js_machine::frame::{Frame, Mode};
 use js_machine::machine::Machine;
@@ -96,6 +97,7 @@ fn deliver_any(machine: &mut Machine, frame: Frame, mode: Mode) -> Result<Mode, 
 }
 
 /// The newest frame is taken off, if there is one.
+#[inline]
 #[tactic(auto, using(js_machine::proofs::Reversed::reverse_push))]
 fn take_frame(machine: &mut Machine) -> Option<Frame>
     ensures frame { result ≡ newest machine.old.frames }
@@ -104,8 +106,19 @@ fn take_frame(machine: &mut Machine) -> Option<Frame>
     machine.frames.pop()
 }
 
+/// The newest value comes to the newest frame; where there is none, the body is over.
+#[inline]
+fn hand_value(machine: &mut Machine) -> Result<Mode, OutOfMemory>
+    ensures { IfOk result (Stays mode_kind.Value machine.old machine.new) }
+{
+    match take_frame(machine) {
+        Some(frame) => deliver_newest(machine, frame),
+        None => Ok(Mode::Value),
+    }
+}
+
 /// A completion or an answer comes to the newest frame; where there is none, the body is over.
-fn hand(machine: &mut Machine, mode: Mode) -> Result<Mode, OutOfMemory>
+fn hand_any(machine: &mut Machine, mode: Mode) -> Result<Mode, OutOfMemory>
     requires { is_handed mode ≡ true }
     ensures { IfOk result (Stays mode machine.old machine.new) }
 {
@@ -115,10 +128,23 @@ fn hand(machine: &mut Machine, mode: Mode) -> Result<Mode, OutOfMemory>
     }
 }
 
+/// A completion or an answer comes to the newest frame; where there is none, the body is over.
+#[inline]
+fn hand(machine: &mut Machine, mode: Mode) -> Result<Mode, OutOfMemory>
+    requires { is_handed mode ≡ true }
+    ensures { IfOk result (Stays mode machine.old machine.new) }
+{
+    match mode {
+        Mode::Value => hand_value(machine),
+        _ => hand_any(machine, mode),
+    }
+}
+
 /// Completions are handed on until there is something to do, or the run stops. Each takes one
 /// frame off, so as many as there are frames are enough.
+#[inline(never)]
 #[tactic(auto, using(crate::proofs::Handed::stays_so, crate::proofs::Handed::stays_further, crate::proofs::Handed::no_frames))]
-pub fn settle(machine: &mut Machine, mode: Mode) -> Result<Mode, OutOfMemory>
+fn settle_handed(machine: &mut Machine, mode: Mode) -> Result<Mode, OutOfMemory>
     ensures stays { IfOk result (Stays mode machine.old machine.new) }
     ensures settled { IfOk result (λ m. is_handed m ≡ true → machine.new.frames ≡ []) }
 {
@@ -131,6 +157,19 @@ pub fn settle(machine: &mut Machine, mode: Mode) -> Result<Mode, OutOfMemory>
     }
     if mode.is_handed() && machine.frames.len() != 0 {
         return Err(OutOfMemory);
+    }
+    Ok(mode)
+}
+
+/// Completions are handed on until there is something to do, or the run stops.
+#[inline(always)]
+#[tactic(auto, using(crate::proofs::Handed::stays_so))]
+pub fn settle(machine: &mut Machine, mode: Mode) -> Result<Mode, OutOfMemory>
+    ensures stays { IfOk result (Stays mode machine.old machine.new) }
+    ensures settled { IfOk result (λ m. is_handed m ≡ true → machine.new.frames ≡ []) }
+{
+    if mode.is_handed() {
+        return settle_handed(machine, mode);
     }
     Ok(mode)
 }

@@ -8,7 +8,7 @@ ghost use Rattle.js_text.specs.Naming.{naming_of};
 ghost use Rattle.js_machine.specs.Looks.{foreign_in};
 ghost use Rattle.js_machine.specs.Stops.{ask_stop, charge_of, cost_of, stop_at};
 
-use js_machine::frame::Mode;
+use js_machine::frame::{Mode, halt_coded};
 use js_machine::machine::Machine;
 use js_machine::stop::{Charge, Pause, Stop};
 
@@ -85,7 +85,10 @@ pub fn stop_at(machine: &Machine, mode: Mode, pause: Pause) -> Stop
     match mode {
         Mode::Eval(_) | Mode::Pay(_) | Mode::Serve(_) => Stop::Short { steps },
         Mode::Ask => stop_ask(machine, steps),
-        Mode::End(halt) => Stop::Stopped { halt, steps },
+        Mode::End(number) => Stop::Stopped {
+            halt: halt_coded(number),
+            steps,
+        },
         Mode::Import => Stop::Imports { steps },
         Mode::Outside => Stop::Outside(pause),
         _ => Stop::Gave { mode, steps },

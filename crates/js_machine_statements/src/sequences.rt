@@ -12,6 +12,7 @@ use js_text::value::Value;
 use lava_base::memory::OutOfMemory;
 
 /// Forms in their order; the last one takes the place of the list (ECMA-262, "Block").
+#[inline]
 pub fn in_order(machine: &mut Machine, start: u32, count: u32) -> Result<Mode, OutOfMemory>
     ensures { let terms = terms_of machine.old.code (term_at machine.old.code) start count in
         IfOk result (LeadsTo (λ a. in_order terms (party_of a machine.old)) machine.old machine.new) }

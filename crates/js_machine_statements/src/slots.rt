@@ -17,6 +17,7 @@ use js_text::value::Value;
 use lava_base::memory::OutOfMemory;
 
 /// The body that runs stands in another scope.
+#[inline]
 #[tactic(auto, using(js_machine::proofs::Standing::moved, js_machine::proofs::Standing::unmoved, js_machine::proofs::Standing::still_grounded))]
 pub fn stand_in(machine: &mut Machine, scope: u32)
     ensures { machine.new ≡ record machine.old { bodies = stood_in scope machine.old.bodies } }
@@ -27,6 +28,7 @@ pub fn stand_in(machine: &mut Machine, scope: u32)
 }
 
 /// The scope that is so many hops outwards.
+#[inline]
 pub fn reached(machine: &Machine, hops: u32) -> u32
     ensures { result ≡ outwards machine.now.scopes hops (scope_of machine.now.bodies) }
 {
@@ -34,6 +36,7 @@ pub fn reached(machine: &Machine, hops: u32) -> u32
 }
 
 /// The value of a slot so many hops outwards, if it is initialised.
+#[inline]
 pub fn local(machine: &Machine, hops: u32, slot: u32) -> Result<Option<Value>, OutOfMemory>
     ensures { let scope = outwards machine.now.scopes hops (scope_of machine.now.bodies) in
         IfOk result (λ v. v ≡ slot_of machine.now.scopes scope slot) }
@@ -61,6 +64,7 @@ pub fn write_local(machine: &mut Machine, hops: u32, slot: u32, value: Value)
 }
 
 /// Gives the value of a slot (ECMA-262, GetBindingValue).
+#[inline]
 #[tactic(auto, using(crate::proofs::Slotted::found_ok, crate::proofs::Slotted::not_found))]
 pub fn get_slot(machine: &mut Machine, hops: u32, slot: u32) -> Result<Mode, OutOfMemory>
     ensures { IfOk result (LeadsTo (λ a. get_slot (naming_of machine.old.me) hops slot (party_of a

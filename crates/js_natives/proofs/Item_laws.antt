@@ -32,7 +32,7 @@ use Rattle.js_run.specs.Runs.{answered}
 use Rattle.js_run.specs.Sorting.{sorted_places}
 use Rattle.js_natives.specs.Deeds.{Does, MachineAct, MachineNaming, MachineParty, acts_with, having, knowing, sharing}
 use Rattle.js_natives.specs.Items.{calls_items, from_items, has_object, item_step, items_have_object, places_made, reads_items, sorted_items, unit_of_conversion, unit_of_number, unit_taken, units_given}
-use Rattle.js_natives.specs.Steps.{MachineObjects, MachineValue, NativeStep, of_text, waits_as}
+use Rattle.js_native_steps.specs.Steps.{MachineObjects, MachineValue, NativeStep, of_text, waits_as}
 use Rattle.js_natives.proofs.Step_laws.{Says}
 
 nothing_left : (a b : ℕ) → nat_le a b ≡ false → nat_lt b a ≡ true

@@ -10,7 +10,7 @@ use Rattle.js_operations.specs.Lists.{list_items}
 use Rattle.js_store.specs.Frozen.{CommonObject}
 use Rattle.js_native.specs.TextNatives.{are_texts, is_text}
 use Rattle.js_natives.specs.Items.{from_items, has_object, is_object, item_step, unit_read, unit_taken, units_given, units_native}
-use Rattle.js_natives.specs.Steps.{MachineObjects, MachineValue, NativeStep}
+use Rattle.js_native_steps.specs.Steps.{MachineObjects, MachineValue, NativeStep}
 use Rattle.js_natives.specs.declared.items.UnitRead.{UnitRead}
 use Rattle.js_natives.specs.declared.items.UnitRead.TheVariants.{Read, Stop}
 use Rattle.js_natives.proofs.Step_laws.{Says}

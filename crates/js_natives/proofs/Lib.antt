@@ -3,6 +3,5 @@ pub mod Step_laws
 pub mod Native_laws
 pub mod Resumed_laws
 pub mod Item_lists
-pub mod Array_laws
 pub mod Sorted_once
 pub mod Item_laws

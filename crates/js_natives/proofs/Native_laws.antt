@@ -33,8 +33,8 @@ use Rattle.js_natives.specs.Decided.{native_step}
 use Rattle.js_natives.specs.Deeds.{Does, MachineAct, MachineParty, acts_with, asks_kind, having, knowing, sharing}
 use Rattle.js_natives.specs.Items.{reads_items}
 use Rattle.js_natives.specs.Seen.{all_are_there, is_there, value_is_there}
-use Rattle.js_natives.specs.Steps.{MachineObjects, MachineValue, NativeStep, of_maker, waits_as}
-use Rattle.js_natives.specs.declared.next.NativeNext.TheVariants as next
+use Rattle.js_native_steps.specs.Steps.{MachineObjects, MachineValue, NativeStep, of_maker, waits_as}
+use Rattle.js_native_steps.specs.declared.next.NativeNext.TheVariants as next
 use Rattle.js_natives.proofs.Seen_laws.{left_true, right_true, seen, value_marks, value_seen}
 use Rattle.js_natives.proofs.Step_laws.{Says, kind_step, same_step, text_step}
 

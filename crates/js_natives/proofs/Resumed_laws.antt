@@ -39,9 +39,9 @@ use Rattle.js_run.specs.Runs.{Env, answered}
 use Rattle.js_natives.specs.Decided.{step_resumed}
 use Rattle.js_natives.specs.Deeds.{Does, MachineAct, MachineNaming, MachineParty, goes_on_with, having, knowing, sharing}
 use Rattle.js_natives.specs.Seen.{reply_is_there}
-use Rattle.js_natives.specs.Steps.{MachineObjects, MachineValue, NativeStep, made_step, object_step, of_conversion, of_maker, of_object, waits_as}
-use Rattle.js_natives.specs.declared.next.NativeNext.{NativeNext}
-use Rattle.js_natives.specs.declared.next.NativeNext.TheVariants as next
+use Rattle.js_native_steps.specs.Steps.{MachineObjects, MachineValue, NativeStep, made_step, object_step, of_conversion, of_maker, of_object, waits_as}
+use Rattle.js_native_steps.specs.declared.next.NativeNext.{NativeNext}
+use Rattle.js_native_steps.specs.declared.next.NativeNext.TheVariants as next
 use Rattle.js_natives.proofs.Seen_laws.{value_marks, value_seen}
 use Rattle.js_natives.proofs.Step_laws.{Says, same_step}
 

@@ -15,7 +15,7 @@ use Rattle.js_run.specs.Runs as runs
 use Rattle.js_run.specs.Runs.{Env, answered}
 use Rattle.js_natives.specs.Deeds.{MachineAct, MachineParty, having, knowing, sharing}
 use Rattle.js_natives.specs.Seen.{is_there, value_is_there}
-use Rattle.js_natives.specs.Steps.{MachineObjects, MachineValue}
+use Rattle.js_native_steps.specs.Steps.{MachineObjects, MachineValue}
 
 pub left_true : (a b : Bool) → (a && b) ≡ true → a ≡ true
 left_true true b h = refl

@@ -22,10 +22,10 @@ use Rattle.lava_base.specs.declared.marks.Marks.{Marks}
 use Rattle.js_store.specs.Frozen.{CommonObject}
 use Rattle.js_natives.specs.Decided.{conversion_native, convert_value, family_step, text_native}
 use Rattle.js_natives.specs.Deeds.{MachineNaming, MachineParty, asks_here, having, is_here}
-use Rattle.js_natives.specs.Steps.{MachineObjects, MachineValue, NativeStep, of_maker, of_text, step_by, waits_as}
+use Rattle.js_native_steps.specs.Steps.{MachineObjects, MachineValue, NativeStep, of_maker, of_text, step_by, waits_as}
 use Rattle.js_natives.specs.declared.families.Family.{Family}
 use Rattle.js_natives.specs.declared.families.Family.TheVariants as family
-use Rattle.js_natives.specs.declared.next.NativeNext.{NativeNext}
+use Rattle.js_native_steps.specs.declared.next.NativeNext.{NativeNext}
 
 -- a decision, and the objects after it
 abbrev pub Says : NativeStep → MachineObjects → NativeStep × MachineObjects → Type 0

@@ -21,12 +21,12 @@ use Rattle.js_object_natives.specs.Resumed.{native_resumed}
 use Rattle.js_operations.specs.Lists.{list_items}
 use Rattle.js_slot_natives.specs.SlotNatives.{slot_native_resumed}
 use Rattle.js_store.specs.Frozen.{CommonObject}
-use Rattle.js_natives.specs.Steps.{MachineObjects, MachineValue, NativeStep, made_step, object_step, of_conversion, of_maker, of_object, of_slot, of_text}
+use Rattle.js_native_steps.specs.Steps.{MachineObjects, MachineValue, NativeStep, made_step, object_step, of_conversion, of_maker, of_object, of_slot, of_text}
 use Rattle.js_natives.specs.Families.{family_of}
 use Rattle.js_natives.specs.declared.families.Family.{Family}
 use Rattle.js_natives.specs.declared.families.Family.TheVariants as family
-use Rattle.js_natives.specs.declared.next.NativeNext.{NativeNext}
-use Rattle.js_natives.specs.declared.next.NativeNext.TheVariants as next
+use Rattle.js_native_steps.specs.declared.next.NativeNext.{NativeNext}
+use Rattle.js_native_steps.specs.declared.next.NativeNext.TheVariants as next
 
 -- ON TEXTS
 

@@ -19,8 +19,8 @@ use Rattle.js_run.specs.Natives.{native_acts}
 use Rattle.js_run.specs.Parties as parties
 use Rattle.js_run.specs.Parties.{Shared}
 use Rattle.js_run.specs.Runs.{Env, answered}
-use Rattle.js_natives.specs.Steps.{MachineObjects, MachineValue, NativeStep, waits_as}
-use Rattle.js_natives.specs.declared.next.NativeNext.{NativeNext}
+use Rattle.js_native_steps.specs.Steps.{MachineObjects, MachineValue, NativeStep, waits_as}
+use Rattle.js_native_steps.specs.declared.next.NativeNext.{NativeNext}
 
 abbrev pub MachineNaming : Type 0
 MachineNaming = Naming Ref MadeSymbol

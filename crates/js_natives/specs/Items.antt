@@ -17,7 +17,7 @@ use Rattle.js_operations.specs.Lists.{list_items}
 use Rattle.js_run.specs.Functions.{array_of}
 use Rattle.js_run.specs.Sorting.{sorted_places}
 use Rattle.js_store.specs.Frozen.{CommonObject}
-use Rattle.js_natives.specs.Steps.{MachineObjects, MachineValue, NativeStep, of_text}
+use Rattle.js_native_steps.specs.Steps.{MachineObjects, MachineValue, NativeStep, of_text}
 use Rattle.js_natives.specs.declared.items.UnitRead.{UnitRead}
 use Rattle.js_natives.specs.declared.items.UnitRead.TheVariants.{Read, Stop}
 

@@ -1,4 +1,3 @@
-pub mod Steps
 pub mod Seen
 pub mod Families
 pub mod Decided

@@ -9,16 +9,16 @@ ghost use Rattle.js_native.specs.TextNatives.{are_texts, is_text, text_of_value}
 ghost use Rattle.js_operations.specs.Lists.{list_items};
 ghost use Rattle.js_run.specs.Sorting.{sorted_places};
 ghost use Rattle.js_natives.specs.Items.{calls_items, calls_units, from_items, has_object, is_object, item_step, items_have_object, places_made, reads_items, sort_native, sorted_items, unit_of_conversion, unit_of_number, unit_read, units_given, units_native};
-ghost use Rattle.js_natives.specs.Steps.{of_text};
+ghost use Rattle.js_native_steps.specs.Steps.{of_text};
 
-use crate::arrays::add_array;
-use crate::next::NativeNext;
 use js_conversions::next::Next as ConversionNext;
 use js_conversions::primitives::to_number;
 use js_desc::decision::{Decision, EndKind};
 use js_desc::fault::FaultText;
 use js_desc::reply::Reply;
 use js_native::sorts::sorted_places;
+use js_native_steps::arrays::add_array;
+use js_native_steps::next::NativeNext;
 use js_operations::lists::list_items;
 use js_run_laws::places_are_sorted;
 use js_store::flat::FlatStore;

@@ -5,13 +5,13 @@ ghost use Rattle.js_text.specs.Naming.{naming_of};
 ghost use Rattle.js_operations.specs.Looks.{marks_seen};
 ghost use Rattle.js_natives.specs.Decided.{maker_native};
 
-use crate::next::{NativeNext, of_maker};
 use js_desc::decision::Decision;
 use js_desc::fault::FaultText;
 use js_maker_natives::makers::{
     bind, make_array, make_map, make_object, make_proxy, make_symbol, revoke,
 };
 use js_maker_natives::resume::make_error;
+use js_native_steps::next::{NativeNext, of_maker};
 use js_store::flat::FlatStore;
 use js_store::foreign::Foreign;
 use js_store::frozen::FrozenStore;

@@ -11,12 +11,12 @@ ghost use Rattle.js_natives.specs.Deeds.{Does, acts_with, asks_here, asks_kind, 
 use crate::families::{Family, family_of};
 use crate::items::{item_native, reads_items};
 use crate::makers::maker_native;
-use crate::next::NativeNext;
 use crate::objects::{call_native, telling_native};
 use crate::seen::all_are_there;
 use crate::texts::{conversion_native, text_native};
 use js_desc::decision::Decision;
 use js_desc::fault::FaultText;
+use js_native_steps::next::NativeNext;
 use js_store::flat::FlatStore;
 use js_store::foreign::Foreign;
 use js_store::frozen::FrozenStore;

@@ -7,12 +7,12 @@ ghost use Rattle.js_operations.specs.Looks.{marks_seen};
 ghost use Rattle.js_natives.specs.Decided.{step_resumed};
 ghost use Rattle.js_natives.specs.Deeds.{Does, goes_on_with};
 
-use crate::next::{NativeNext, of_conversion, of_maker, of_object, of_slot};
 use crate::seen::reply_is_there;
 use js_conversions::conversions::resume_conversion;
 use js_desc::decision::Decision;
 use js_desc::reply::Reply;
 use js_maker_natives::resume::resume_maker;
+use js_native_steps::next::{NativeNext, of_conversion, of_maker, of_object, of_slot};
 use js_object_natives::resume::resume_native;
 use js_slot_natives::slot_natives::resume_slot_native;
 use js_store::flat::FlatStore;

@@ -10,13 +10,13 @@ use Rattle.js_run.specs.Conversions.{number_read, primitive_to_key}
 use Rattle.js_run.specs.Operators.{number_of, text_of, to_primitive}
 use Rattle.js_run.specs.Parties.{Shared}
 use Rattle.js_conversions.specs.Primitives as primitives
-use Rattle.js_operators.specs.Computing as computing
-use Rattle.js_operators.specs.Computing.{key_computed, key_of, number_converted, numbers_of, texts_of, then_computed}
-use Rattle.js_operators.specs.Deeds.{MachineAct, MachineNaming, MachineParty, act_of}
-use Rattle.js_operators.specs.Operating.{MachineValue, number_value, object_of, then_operation}
-use Rattle.js_operators.specs.declared.operation.Computed.{Computed}
-use Rattle.js_operators.specs.declared.operation.Computed.TheVariants as computed
-use Rattle.js_operators.specs.declared.operation.Operation.{Operation}
+use Rattle.js_operation.specs.Computing as computing
+use Rattle.js_operation.specs.Computing.{key_computed, key_of, number_converted, numbers_of, texts_of, then_computed}
+use Rattle.js_operation.specs.Deeds.{MachineAct, MachineNaming, MachineParty, act_of}
+use Rattle.js_operation.specs.Operating.{MachineValue, number_value, object_of, then_operation}
+use Rattle.js_operation.specs.declared.operation.Computed.{Computed}
+use Rattle.js_operation.specs.declared.operation.Computed.TheVariants as computed
+use Rattle.js_operation.specs.declared.operation.Operation.{Operation}
 
 abbrev pub choose : {A : Type 0} → Bool → A → A → A
 choose b x y = if b then x else y

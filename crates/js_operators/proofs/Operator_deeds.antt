@@ -14,12 +14,12 @@ use Rattle.js_run.specs.Conversions.{primitive_to_key}
 use Rattle.js_run.specs.Operators as operators
 use Rattle.js_run.specs.Operators.{binary_value, is_in, is_instance, to_primitive, unary_value}
 use Rattle.js_run.specs.Parties.{Shared}
-use Rattle.js_operators.specs.Deeds.{MachineAct, Does, MachineNaming, MachineParty, act_of, asks_key, gives, has_key_value, left_value, primitive_binary_value, primitive_unary_value, rest_deed}
-use Rattle.js_operators.specs.Operating.{MachineValue, binary_operation, converted, in_by, in_object, instance_of, integer_operation, key_converted, left_by, left_operand, left_primitive, loose_equality, object_equality, object_of, primitive_unary, right_by, right_operand, takes_numbers, type_of, unary_by, unary_numeric, unary_operation}
-use Rattle.js_operators.specs.declared.operation.Operation.{Operation}
-use Rattle.js_operators.specs.declared.operation.Operation.TheVariants as operation
-use Rattle.js_operators.specs.declared.operation.Rest.{Rest}
-use Rattle.js_operators.specs.declared.operation.Rest.TheVariants as rest
+use Rattle.js_operation.specs.Deeds.{MachineAct, Does, MachineNaming, MachineParty, act_of, asks_key, gives, has_key_value, left_value, primitive_binary_value, primitive_unary_value, rest_deed}
+use Rattle.js_operation.specs.Operating.{MachineValue, binary_operation, converted, in_by, in_object, instance_of, integer_operation, key_converted, left_by, left_operand, left_primitive, loose_equality, object_equality, object_of, primitive_unary, right_by, right_operand, takes_numbers, type_of, unary_by, unary_numeric, unary_operation}
+use Rattle.js_operation.specs.declared.operation.Operation.{Operation}
+use Rattle.js_operation.specs.declared.operation.Operation.TheVariants as operation
+use Rattle.js_operation.specs.declared.operation.Rest.{Rest}
+use Rattle.js_operation.specs.declared.operation.Rest.TheVariants as rest
 use Rattle.js_operators.proofs.Converts.{choice_does, key_does, number_then, primitive_first, value_then}
 use Rattle.js_operators.proofs.Primitive_operators.{integers_are}
 use Rattle.js_operators.proofs.Primitive_deeds.{equal_does, primitive_does}

@@ -12,7 +12,7 @@ use Rattle.js_num.specs.Arithmetic.{IsPower}
 use Rattle.js_num.specs.SafeRange.{NoSafe}
 use Rattle.js_num.specs.declared.safe.NotSafe.{NotSafe}
 use Rattle.js_run.specs.Operators.{exponentiate}
-use Rattle.js_operators.specs.Computing.{number_or_end, safe_or_end}
+use Rattle.js_operation.specs.Computing.{number_or_end, safe_or_end}
 use Rattle.js_operators.proofs.Safe_numbers.{safe_given, size_safe, unsafe_ends}
 
 one_from_product : (x y : ℕ) → x * y ≡ 1 → y ≡ 1

@@ -14,11 +14,11 @@ use Rattle.js_run.specs.Completions as halt
 use Rattle.js_run.specs.Operators as operators
 use Rattle.js_run.specs.Operators.{either_is_text, given_number, given_text, is_safe, number_of, numeric, pays, primitive_is_less, primitives_are_equal}
 use Rattle.js_run.specs.Parties.{Shared}
-use Rattle.js_operators.specs.Computing.{calculate, is_less_than, is_loosely_equal, number_or_end, numbers_are_less, numbers_of, then_computed}
-use Rattle.js_operators.specs.Deeds.{MachineParty, act_of, gives, primitive_binary_value}
-use Rattle.js_operators.specs.Operating.{MachineValue, added, flag, flag_operation, joined, number_operation, primitive_binary, text_or_end}
-use Rattle.js_operators.specs.declared.operation.Computed.TheVariants as computed
-use Rattle.js_operators.specs.declared.operation.Operation.TheVariants as operation
+use Rattle.js_operation.specs.Computing.{calculate, is_less_than, is_loosely_equal, number_or_end, numbers_are_less, numbers_of, then_computed}
+use Rattle.js_operation.specs.Deeds.{MachineParty, act_of, gives, primitive_binary_value}
+use Rattle.js_operation.specs.Operating.{MachineValue, added, flag, flag_operation, joined, number_operation, primitive_binary, text_or_end}
+use Rattle.js_operation.specs.declared.operation.Computed.TheVariants as computed
+use Rattle.js_operation.specs.declared.operation.Operation.TheVariants as operation
 use Rattle.js_operators.proofs.Converts.{choice_does, numbers_then, texts_then, then_both}
 
 module _ (me : ℕ) (shared : Shared) where

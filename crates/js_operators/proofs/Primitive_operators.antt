@@ -4,7 +4,7 @@ use Rattle.std.specs.Prelude.{ℤ}
 use Rattle.js_text.specs.declared.value.Value.TheVariants as value
 use Rattle.js_tree.specs.declared.operator.BinaryOperator.{BinaryOperator}
 use Rattle.js_tree.specs.declared.operator.BinaryOperator.TheVariants as op
-use Rattle.js_operators.specs.Operating.{MachineValue, binary_operation, integer_operation, left_operand}
+use Rattle.js_operation.specs.Operating.{MachineValue, binary_operation, integer_operation, left_operand}
 
 pub binary_default : (read : List ℕ → Option ℤ) (o : BinaryOperator) (v w : MachineValue) → (o ≡ op.Instanceof → ⊥) → (o ≡ op.In → ⊥) → (o ≡ op.LooselyEqual → ⊥) → (o ≡ op.LooselyUnequal → ⊥) → (o ≡ op.StrictlyEqual → ⊥) → (o ≡ op.StrictlyUnequal → ⊥)
     → binary_operation read o v w ≡ left_operand read o v w

@@ -7,9 +7,9 @@ use Rattle.lava_base.specs.SafeIntegers.{IsSafe}
 use Rattle.lava_base.specs.declared.limits.TheConstants.{MAX_SAFE_INTEGER}
 use Rattle.js_num.specs.declared.safe.NotSafe.{NotSafe}
 use Rattle.js_run.specs.Operators.{is_safe}
-use Rattle.js_operators.specs.Computing.{number_or_end, safe_or_end}
-use Rattle.js_operators.specs.declared.operation.Computed.{Computed}
-use Rattle.js_operators.specs.declared.operation.Computed.TheVariants as computed
+use Rattle.js_operation.specs.Computing.{number_or_end, safe_or_end}
+use Rattle.js_operation.specs.declared.operation.Computed.{Computed}
+use Rattle.js_operation.specs.declared.operation.Computed.TheVariants as computed
 use Rattle.js_desc.specs.declared.decision.EndKind.TheVariants as end
 
 safe_size : (n : ℤ) → IsSafe n → unsigned_abs n ≤ MAX_SAFE_INTEGER

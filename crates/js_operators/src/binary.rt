@@ -3,17 +3,17 @@
 ghost use Rattle.std.specs.Prelude.{◌≡◌, ℕ, ℤ, List, Option, IfOk};
 ghost use Rattle.js_conversions.specs.Primitives.{ReadsNumbers};
 ghost use Rattle.js_run.specs.Operators.{binary_value};
-ghost use Rattle.js_operators.specs.Deeds.{Does};
-ghost use Rattle.js_operators.specs.Operating.{binary_operation, left_by, left_primitive, loose_by, object_by, primitive_binary, primitive_by, right_by, strict_equality, takes_numbers};
+ghost use Rattle.js_operation.specs.Deeds.{Does};
+ghost use Rattle.js_operation.specs.Operating.{binary_operation, left_by, left_primitive, loose_by, object_by, primitive_binary, primitive_by, right_by, strict_equality, takes_numbers};
 
 use crate::equality::{is_loosely_equal, is_nullish};
 use crate::numbers::{calculate, number_of};
 use crate::objects::{in_object, instance_of};
-use crate::operation::{
-    Computed, Operation, Rest, flag, flag_operation, number_operation, number_value, object_of,
-};
 use crate::order::is_less_than;
 use crate::sums::added;
+use js_operation::operation::{
+    Computed, Operation, Rest, flag, flag_operation, number_operation, number_value, object_of,
+};
 use js_text::same::is_same_value;
 use js_text::value::Value;
 use js_tree::operator::BinaryOperator;

@@ -4,11 +4,11 @@ ghost use Rattle.std.specs.Prelude.{◌≡◌, ℕ, ℤ, List, Option, IfOk};
 ghost use Rattle.js_conversions.specs.Primitives.{ReadsNumbers};
 ghost use Rattle.js_text.specs.Naming.{naming_of};
 ghost use Rattle.js_run.specs.Truth.{is_nullish, is_strictly_equal};
-ghost use Rattle.js_operators.specs.Computing.{is_loosely_equal, is_symbol, numbers_are_equal};
+ghost use Rattle.js_operation.specs.Computing.{is_loosely_equal, is_symbol, numbers_are_equal};
 
 use crate::numbers::numbers_of;
-use crate::operation::Computed;
 use crate::texts::both_texts;
+use js_operation::operation::Computed;
 use js_text::same::is_same_value;
 use js_text::value::Value;
 use lava_base::memory::OutOfMemory;

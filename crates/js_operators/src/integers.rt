@@ -3,16 +3,17 @@
 ghost use Rattle.std.specs.Prelude.{◌≡◌, IfOk};
 ghost use Rattle.js_text.specs.declared.value.Value.TheVariants.{Int};
 ghost use Rattle.js_run.specs.Operators.{binary_value};
-ghost use Rattle.js_operators.specs.Deeds.{Does};
-ghost use Rattle.js_operators.specs.Operating.{integer_operation};
+ghost use Rattle.js_operation.specs.Deeds.{Does};
+ghost use Rattle.js_operation.specs.Operating.{integer_operation};
 
 use crate::numbers::numeric;
-use crate::operation::{Operation, flag, number_operation};
 use js_desc::fault::FaultText;
+use js_operation::operation::{Operation, flag, number_operation};
 use js_tree::operator::BinaryOperator;
 use lava_base::memory::OutOfMemory;
 
 /// What a binary operator does with two numbers.
+#[inline]
 fn integer_step(operator: BinaryOperator, left: i64, right: i64) -> Result<Operation, OutOfMemory>
     ensures { IfOk result (λ o. o ≡ integer_operation operator left right) }
 {
@@ -34,6 +35,7 @@ fn integer_step(operator: BinaryOperator, left: i64, right: i64) -> Result<Opera
 }
 
 /// What a binary operator does with two numbers, in a constant number of steps but for `**` (ECMA-262, ApplyStringOrNumericBinaryOperator, IsLessThan, IsStrictlyEqual). Want of memory is answered too where one is no safe integer.
+#[inline]
 pub fn integer_operation(
     operator: BinaryOperator,
     left: i64,

@@ -3,10 +3,9 @@
 ghost use Rattle.std.specs.Prelude.{◌≡◌, ℕ, ℤ, List, Option, IfOk};
 ghost use Rattle.js_conversions.specs.Primitives.{ReadsNumbers};
 ghost use Rattle.js_run.specs.Operators.{divide, numeric, remainder};
-ghost use Rattle.js_operators.specs.Computing.{calculate, number_converted, number_of, number_or_end, numbers_of, safe_or_end};
+ghost use Rattle.js_operation.specs.Computing.{calculate, number_converted, number_of, number_or_end, numbers_of, safe_or_end};
 ghost use Rattle.lava_base.specs.SafeIntegers.{IsSafe};
 
-use crate::operation::Computed;
 use js_conversions::next::Next;
 use js_conversions::primitives::to_number;
 use js_desc::decision::{Decision, EndKind};
@@ -14,12 +13,14 @@ use js_desc::fault::FaultText;
 use js_desc::reply::Reply;
 use js_num::bits::BitOp;
 use js_num::safe::{NotSafe, Safe};
+use js_operation::operation::Computed;
 use js_text::value::Value;
 use js_tree::operator::BinaryOperator;
 use lava_base::memory::OutOfMemory;
 use std::alloc::Global;
 
 /// A number, where it is safe.
+#[inline]
 fn safe_or_end(number: Result<Safe, NotSafe>) -> Computed<i64>
     ensures { result ≡ safe_or_end number }
 {
@@ -83,6 +84,7 @@ fn operate(operator: BinaryOperator, left: Safe, right: Safe) -> Result<Safe, No
 }
 
 /// The number, which is a safe one. Want of memory is answered too where it is not.
+#[inline]
 pub(crate) fn safe(number: i64) -> Result<Safe, OutOfMemory>
     ensures { IfOk result (λ safe. safe ≡ number) }
 {
@@ -93,6 +95,7 @@ pub(crate) fn safe(number: i64) -> Result<Safe, OutOfMemory>
 }
 
 /// What an operator on two numbers gives; a result that is no safe integer ends the run (ECMA-262, ApplyStringOrNumericBinaryOperator). Want of memory is answered too where an operand is no safe integer.
+#[inline]
 pub fn numeric(
     operator: BinaryOperator,
     left: i64,

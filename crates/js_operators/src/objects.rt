@@ -2,13 +2,13 @@
 
 ghost use Rattle.std.specs.Prelude.{◌≡◌, IfOk};
 ghost use Rattle.js_run.specs.Operators.{has_instance_by, prototype_inherited};
-ghost use Rattle.js_operators.specs.Deeds.{Does, look_deed};
-ghost use Rattle.js_operators.specs.Operating.{has_instance, has_key, in_by, in_object, instance_of, looked, prototype_come};
+ghost use Rattle.js_operation.specs.Deeds.{Does, look_deed};
+ghost use Rattle.js_operation.specs.Operating.{has_instance, has_key, in_by, in_object, instance_of, looked, prototype_come};
 
-use crate::operation::{Computed, Look, Operation, Rest, object_of};
 use crate::texts::key_of;
 use crate::unary::given_name;
 use js_desc::fault::FaultText;
+use js_operation::operation::{Computed, Look, Operation, Rest, object_of};
 use js_text::value::Value;
 use lava_base::ids::Ref;
 use lava_base::memory::OutOfMemory;

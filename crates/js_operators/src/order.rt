@@ -2,11 +2,11 @@
 
 ghost use Rattle.std.specs.Prelude.{◌≡◌, ℕ, ℤ, List, Option, IfOk};
 ghost use Rattle.js_conversions.specs.Primitives.{ReadsNumbers};
-ghost use Rattle.js_operators.specs.Computing.{is_less_than, numbers_are_less};
+ghost use Rattle.js_operation.specs.Computing.{is_less_than, numbers_are_less};
 
 use crate::numbers::numbers_of;
-use crate::operation::Computed;
 use crate::texts::both_texts;
+use js_operation::operation::Computed;
 use js_text::value::Value;
 use lava_base::memory::OutOfMemory;
 use std::alloc::Global;

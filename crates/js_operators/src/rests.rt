@@ -2,15 +2,15 @@
 
 ghost use Rattle.std.specs.Prelude.{◌≡◌, ℕ, ℤ, List, Option, IfOk};
 ghost use Rattle.js_conversions.specs.Primitives.{ReadsNumbers};
-ghost use Rattle.js_operators.specs.Deeds.{Does, rest_deed};
-ghost use Rattle.js_operators.specs.Operating.{converted, key_converted};
+ghost use Rattle.js_operation.specs.Deeds.{Does, rest_deed};
+ghost use Rattle.js_operation.specs.Operating.{converted, key_converted};
 
 use crate::binary::{left_primitive, primitive_binary};
 use crate::equality::is_loosely_equal;
 use crate::objects::has_key;
-use crate::operation::{Operation, Rest, flag_operation};
 use crate::unary::primitive_unary;
 use js_desc::fault::FaultText;
+use js_operation::operation::{Operation, Rest, flag_operation};
 use js_text::value::Value;
 use lava_base::memory::OutOfMemory;
 use std::alloc::Global;

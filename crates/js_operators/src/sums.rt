@@ -3,12 +3,12 @@
 ghost use Rattle.std.specs.Prelude.{◌≡◌, ◌++◌, ℕ, ℤ, List, Option, IfOk};
 ghost use Rattle.js_conversions.specs.Primitives.{ReadsNumbers};
 ghost use Rattle.js_run.specs.Operators.{either_is_text};
-ghost use Rattle.js_operators.specs.Operating.{added, joined, text_or_end};
+ghost use Rattle.js_operation.specs.Operating.{added, joined, text_or_end};
 
 use crate::numbers::calculate;
-use crate::operation::{Computed, Operation, number_operation};
 use crate::texts::texts_of;
 use js_desc::decision::EndKind;
+use js_operation::operation::{Computed, Operation, number_operation};
 use js_text::fault::TextFault;
 use js_text::text::Text;
 use js_text::value::Value;

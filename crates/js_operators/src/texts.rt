@@ -1,14 +1,14 @@
 // Texts and property keys.
 
 ghost use Rattle.std.specs.Prelude.{◌≡◌, IfOk, option_map};
-ghost use Rattle.js_operators.specs.Computing.{both_texts, key_computed, key_of, text_converted, text_of, texts_of};
+ghost use Rattle.js_operation.specs.Computing.{both_texts, key_computed, key_of, text_converted, text_of, texts_of};
 
-use crate::operation::Computed;
 use js_conversions::next::Next;
 use js_conversions::primitives::to_string;
 use js_desc::decision::Decision;
 use js_desc::fault::FaultText;
 use js_desc::reply::Reply;
+use js_operation::operation::Computed;
 use js_text::copy::copy_symbol;
 use js_text::index::key_of_text;
 use js_text::text::Text;

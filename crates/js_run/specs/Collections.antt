@@ -7,18 +7,12 @@ use Rattle.js_text.specs.declared.value.Value.{Value}
 use Rattle.js_slot_natives.specs.SlotNatives.{SlotDecision, decided_by_table}
 use Rattle.js_slots.specs.declared.entry.TableEntry.{TableEntry}
 use Rattle.js_store.specs.Objects.{at_place, with_slot}
+use Rattle.js_store.specs.Tables.{store_entry, table_entry}
 use Rattle.js_store.specs.declared.slot.Entry.{Entry}
 use Rattle.js_store.specs.declared.slot.Slot.TheVariants as slot
 use Rattle.js_run.specs.Acts.{Act, as_it_is}
 use Rattle.js_run.specs.Following.{follows_by}
 use Rattle.js_run.specs.Parties.{Party}
-
--- a place of a table, as the store has it and as the natives read it: the same record
-abbrev pub table_entry : {R S : Type 0} → Entry R S → TableEntry R S
-table_entry e = record { key = e.key; value = e.value; live = e.live }
-
-abbrev pub store_entry : {R S : Type 0} → TableEntry R S → Entry R S
-store_entry e = record { key = e.key; value = e.value; live = e.live }
 
 -- the party with another table in its own object
 abbrev pub with_table : {R S : Type 0} → Origin → List (TableEntry R S) → Party R S → Party R S

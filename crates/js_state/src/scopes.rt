@@ -55,6 +55,7 @@ impl Scopes {
     }
 
     /// The scope in which one stands; 0 where there is no such scope.
+    #[inline]
     #[tactic(auto, using(crate::proofs::Laid_out::outer_found, crate::proofs::Laid_out::outer_missing))]
     pub fn outer(&self, scope: u32) -> u32
         ensures { result ≡ (scope_at self.now scope).outer }
@@ -67,6 +68,7 @@ impl Scopes {
     }
 
     /// The scope that is so many hops outwards.
+    #[inline]
     pub fn outward(&self, scope: u32, hops: u32) -> u32
         ensures { result ≡ outwards self.now hops scope }
     {
@@ -80,6 +82,7 @@ impl Scopes {
     }
 
     /// The value of a slot, if it is initialised.
+    #[inline]
     pub fn value(&self, scope: u32, slot: u32) -> Option<&Value>
         ensures { option_map (λ v. v.now) result ≡ slot_of self.now scope slot }
     {
@@ -90,6 +93,7 @@ impl Scopes {
     }
 
     /// Gives a slot a value; nothing happens where there is no such slot.
+    #[inline]
     pub fn write(&mut self, scope: u32, slot: u32, value: Value)
         ensures { self.new ≡ with_slot self.old scope slot value }
     {
@@ -244,6 +248,7 @@ fn put(slots: &mut Vec<Option<Value>>, at: usize, value: Value)
 }
 
 /// Where a slot stands among those of all scopes, if there is such a slot.
+#[inline]
 #[tactic(auto, using(crate::proofs::Laid_out::is_place, crate::proofs::Laid_out::no_slot, crate::proofs::Laid_out::no_head))]
 fn place_of(heads: &[Head], scope: u32, slot: u32) -> Option<usize>
     ensures { MatchOption result (IsNoPlace heads.now scope slot) (IsPlace heads.now scope slot) }

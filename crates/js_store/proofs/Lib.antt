@@ -5,9 +5,11 @@ pub mod Few_laws
 pub mod Fixed_laws
 pub mod Halves_laws
 pub mod Ids_laws
+pub mod Index_laws
 pub mod Keys_laws
 pub mod Marks_laws
 pub mod Moves
 pub mod Order_laws
 pub mod Own_laws
+pub mod Places_walked
 pub mod Renamed

@@ -4,7 +4,9 @@ pub mod Foreign
 pub mod Frozen
 pub mod Halves
 pub mod Identities
+pub mod Indexed
 pub mod Laws
 pub mod Maps
 pub mod Objects
 pub mod Order
+pub mod Tables

@@ -1,15 +1,21 @@
 // A store that keeps each object with a list of its properties.
 
-ghost use Rattle.std.specs.Prelude.{◌≡◌, ◌++◌, ◌∷◌, [], OnOk, OnErr, IfSome, Some};
+ghost use Rattle.std.specs.Prelude.{◌≡◌, ◌++◌, ◌∷◌, ◌<◌, [], length, map, IfOk, IfSome, OnOk, OnErr, Some};
 ghost use Rattle.js_text.specs.Length.{length_key};
+ghost use Rattle.lava_base.specs.Ids.{same_ref, same_made_symbol};
+ghost use Rattle.js_text.specs.Values.{same_value};
+ghost use Rattle.js_slots.specs.TableAnswers.{table_answer};
 ghost use Rattle.js_store.specs.Frozen.{bare};
+ghost use Rattle.js_store.specs.Objects.{at_place, object_at};
+ghost use Rattle.js_store.specs.Tables.{entries_of, table_entry, with_places};
 
 use crate::object::FlatObject;
 use crate::slot::Slot;
 use crate::store::{PLAIN_MARKS, Store};
 use js_desc::descriptor::{Change, Descriptor};
 use js_text::length::length_key;
-use js_text::value::Key;
+use js_text::native::Native;
+use js_text::value::{Key, Value};
 use lava_base::ids::{ObjId, PartyId, Ref};
 use lava_base::list::List;
 use lava_base::marks::Marks;
@@ -54,6 +60,27 @@ impl FlatStore {
         object.prevent();
         self.objects.push(object)?;
         Ok(())
+    }
+
+    /// What the table of an object answers to a native that looks into it, with the operands after the table, and what becomes of the table; no other object is touched. Want of memory is answered too where the object has no table; all is then as before. It takes amortised constant time, but for `mapNext`, which takes time linear in the dead places that it passes, and for `mapClear`, which takes time linear in all.
+    pub fn collect(
+        &mut self,
+        id: ObjId,
+        which: Native,
+        args: &[Value],
+    ) -> Result<Option<Value>, OutOfMemory>
+        requires { id.0 < length self.old.objects }
+        ensures answer { let same = same_value same_ref same_made_symbol in
+            let table = map table_entry (entries_of (object_at self.old.objects id.0).slot) in
+            IfOk result (λ v. v ≡ (table_answer same which args.now table).0) }
+        ensures objects { let same = same_value same_ref same_made_symbol in
+            let table = map table_entry (entries_of (object_at self.old.objects id.0).slot) in
+            let after = with_places (table_answer same which args.now table).1 in
+            OnOk result (self.new.objects ≡ at_place self.old.objects id.0 after) }
+        ensures err { OnErr result (self.new.objects ≡ self.old.objects) }
+        ensures party { self.new.party ≡ self.old.party }
+    {
+        self.objects[id.0 as usize].collect(self.alloc, which, args)
     }
 }
 

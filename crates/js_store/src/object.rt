@@ -1,15 +1,20 @@
 // One object of a flat store.
 
-ghost use Rattle.std.specs.Prelude.{◌≡◌, is_some, OnOk, OnErr, IfOk};
+ghost use Rattle.std.specs.Prelude.{◌≡◌, is_some, map, OnOk, OnErr, IfOk};
 ghost use Rattle.std.specs.Option.{option_map};
-ghost use Rattle.lava_base.specs.Ids.{same_made_symbol};
+ghost use Rattle.lava_base.specs.Ids.{same_ref, same_made_symbol};
+ghost use Rattle.js_text.specs.Values.{same_value};
+ghost use Rattle.js_slots.specs.TableAnswers.{table_answer};
 ghost use Rattle.js_store.specs.Objects.{fresh, ordinary_get_own_property, ordinary_own_property_keys, last_index, with_prototype, with_change, with_replaced, without_property, not_extensible, with_slot};
 ghost use Rattle.js_store.specs.Order.{IsInOrder};
+ghost use Rattle.js_store.specs.Tables.{entries_of, table_entry, with_places};
 
 use crate::properties::Properties;
 use crate::slot::Slot;
+use crate::table_index::{TableIndex, collect};
 use js_desc::descriptor::{Change, Descriptor};
-use js_text::value::Key;
+use js_text::native::Native;
+use js_text::value::{Key, Value};
 use lava_base::ids::Ref;
 use lava_base::list::List;
 use lava_base::marks::Marks;
@@ -18,19 +23,22 @@ use std::alloc::Global;
 use std::marker::Model;
 use std::mem;
 
-/// An object: its prototype, whether it is extensible, its own properties, its slot and its marks.
+/// An object: its prototype, whether it is extensible, its own properties, its slot and its marks. A table has an index beside its places once a native has looked into it.
 #[derive(Drop)]
 pub(crate) struct FlatObject {
     prototype: Option<Ref>,
     extensible: bool,
     properties: Properties,
     slot: Slot,
+    index: Option<Box<TableIndex>>,
     marks: Marks,
 }
 
 impl Model for FlatObject {
+    ghost use Rattle.std.specs.Prelude.{IfSome};
     ghost use Rattle.lava_base.specs.declared.ids.MadeSymbol.{MadeSymbol};
     ghost use Rattle.lava_base.specs.declared.ids.Ref.{Ref};
+    ghost use Rattle.js_store.specs.Indexed.{IsIndexedBy};
     ghost use Rattle.js_store.specs.Objects.{Object};
 
     ghost Value = { Object Ref MadeSymbol };
@@ -42,6 +50,8 @@ impl Model for FlatObject {
       slot = o.slot;
       marks = o.marks;
     } };
+
+    ghost invariant = { λ o. IfSome o.index (λ index. IsIndexedBy o.slot index.value) };
 }
 
 impl FlatObject {
@@ -54,6 +64,7 @@ impl FlatObject {
             extensible: true,
             properties: Properties::new(alloc),
             slot,
+            index: None,
             marks,
         }
     }
@@ -105,7 +116,31 @@ impl FlatObject {
         ensures given { result ≡ self.old.slot }
         ensures object { self.new ≡ with_slot slot self.old }
     {
+        self.index = None;
         mem::replace(&mut self.slot, slot)
+    }
+
+    /// What the object's table answers to a native that looks into it, and what becomes of the table. Want of memory is answered too where the object has no table.
+    pub(crate) fn collect(
+        &mut self,
+        alloc: Global,
+        which: Native,
+        args: &[Value],
+    ) -> Result<Option<Value>, OutOfMemory>
+        ensures answer { let same = same_value same_ref same_made_symbol in
+            let table = map table_entry (entries_of self.old.slot) in
+            IfOk result (λ v. v ≡ (table_answer same which args.now table).0) }
+        ensures object { let same = same_value same_ref same_made_symbol in
+            let table = map table_entry (entries_of self.old.slot) in
+            let changed = (table_answer same which args.now table).1 in
+            OnOk result (self.new ≡ with_places changed self.old) }
+        ensures err { OnErr result (self.new ≡ self.old) }
+    {
+        match &mut self.slot {
+            Slot::Table(entries) => collect(alloc, entries, &mut self.index, which, args),
+            // No other object is a collection.
+            _ => Err(OutOfMemory),
+        }
     }
 
     /// The own property of a key.

@@ -28,6 +28,7 @@ pub fn copy_key(key: &Key) -> Result<Key, OutOfMemory>
 }
 
 /// The same value once more.
+#[inline]
 pub fn copy_value(value: &Value) -> Result<Value, OutOfMemory>
     ensures { IfOk result (λ copy. copy ≡ value.now) }
 {

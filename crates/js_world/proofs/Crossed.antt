@@ -28,18 +28,18 @@ use Rattle.js_machine.specs.declared.stop.Pause.{Pause}
 use Rattle.js_machine.specs.declared.stop.Stop.{Stop}
 use Rattle.js_machine.specs.declared.stop.Stop.TheVariants as stop
 use Rattle.js_world.specs.Crossings.{Follows, GoesOn, HandsOver, HasGiven, IsResumed, IsSent, IsTaken, Rests, RunsHere, newest}
-use Rattle.js_world.specs.Newest.{ask_references, reply_references, traced_ask, traced_import, traced_reply}
-use Rattle.js_world.specs.Shows.{makes_none, shows_ask, shows_ref, with_table}
+use Rattle.js_crossing.specs.Newest.{ask_references, reply_references, traced_ask, traced_import, traced_reply}
+use Rattle.js_crossing.specs.Shows.{makes_none, shows_ask, shows_ref, with_table}
 use Rattle.js_world.specs.Worlds.{Counts, Crosses, HasNewest, HasOwn, HasAnswered, HasStopped, IsOver, IsTurnOf, KeepsAnswer, Suits, WorldView, aside, charged, ending_of, import_away, leads_to, noted, party_with, sent, steps_of, waits_of}
-use Rattle.js_world.specs.declared.ending.Ending.{Ending}
-use Rattle.js_world.specs.declared.ending.Ending.TheVariants as ending
-use Rattle.js_world.specs.declared.ending.Turn.{Turn}
-use Rattle.js_world.specs.declared.ending.Turn.TheVariants as turn
-use Rattle.js_world.specs.declared.newest.TracedCrossing.{TracedCrossing}
+use Rattle.js_crossing.specs.declared.ending.Ending.{Ending}
+use Rattle.js_crossing.specs.declared.ending.Ending.TheVariants as ending
+use Rattle.js_crossing.specs.declared.ending.Turn.{Turn}
+use Rattle.js_crossing.specs.declared.ending.Turn.TheVariants as turn
+use Rattle.js_crossing.specs.declared.newest.TracedCrossing.{TracedCrossing}
 use Rattle.js_world.specs.declared.waiting.Waiting.{Waiting}
 use Rattle.js_world.proofs.Kept.{left_spent, left_steps, ran, rests_left, written}
-use Rattle.js_world.proofs.Newest_laws.{in_ask, in_reply}
-use Rattle.js_world.proofs.Shown_laws.{ask_shows, reply_shows, shows_all}
+use Rattle.js_crossing.proofs.Newest_laws.{in_ask, in_reply}
+use Rattle.js_crossing.proofs.Shown_laws.{ask_shows, reply_shows, shows_all}
 use Rattle.js_world.proofs.Traced_laws.{answered_noted, goes_noted, hands_noted, newest_sent, newest_still}
 
 -- the party in the machine, as the application began it and with the things that it has now

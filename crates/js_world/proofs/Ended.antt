@@ -6,8 +6,8 @@ use Rattle.js_run.specs.Journal.{Application}
 use Rattle.js_machine.specs.declared.frame.Mode.{Mode}
 use Rattle.js_world.specs.Ends.{Ends, IsOn, after_crossings}
 use Rattle.js_world.specs.Worlds.{After, Crosses, Stands, WorldView}
-use Rattle.js_world.specs.declared.ending.Turn.{Turn}
-use Rattle.js_world.specs.declared.ending.Turn.TheVariants as turn
+use Rattle.js_crossing.specs.declared.ending.Turn.{Turn}
+use Rattle.js_crossing.specs.declared.ending.Turn.TheVariants as turn
 
 -- the crossings of a run from its beginning
 further : (app : Application) (b k n : ℕ) → after_crossings app b n (heap.heap app b k) ≡ heap.heap app b (k + n)

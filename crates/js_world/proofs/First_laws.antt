@@ -9,10 +9,10 @@ use Rattle.js_machine.specs.declared.asked.Imported.{Imported}
 use Rattle.js_machine.specs.declared.frame.Mode.{Mode}
 use Rattle.js_world.specs.Crossings.{IsTaken}
 use Rattle.js_world.specs.First.{IsBegun, RestsFirst, as_new}
-use Rattle.js_world.specs.Newest.{traced_import}
+use Rattle.js_crossing.specs.Newest.{traced_import}
 use Rattle.js_world.specs.Worlds.{WorldView, noted}
-use Rattle.js_world.specs.declared.leads.Lead.{Lead}
-use Rattle.js_world.specs.declared.newest.TracedCrossing.{TracedCrossing}
+use Rattle.js_crossing.specs.declared.leads.Lead.{Lead}
+use Rattle.js_crossing.specs.declared.newest.TracedCrossing.{TracedCrossing}
 use Rattle.js_world.proofs.Traced_laws.{rests_noted}
 
 all_zero : (n q : ℕ) → zero ≡ get_or (replicate n zero) q zero

@@ -7,7 +7,7 @@ use Rattle.js_desc.specs.declared.reply.Reply.{Reply}
 use Rattle.js_machine.specs.Views.{View}
 use Rattle.js_machine.specs.declared.asked.Answer.{Answer}
 use Rattle.js_world.specs.Crossings.{HasGiven}
-use Rattle.js_world.specs.Shows.{shows_reply}
+use Rattle.js_crossing.specs.Shows.{shows_reply}
 use Rattle.js_world.specs.Worlds.{WorldView, charged}
 
 pub given : (r : Reply Ref MadeSymbol) (n : ℕ) (vs : List (Value Ref MadeSymbol)) (a : Answer) (p : ℕ) (m : View) (x v now : WorldView) → x ≡ charged p n (record v { machine = m }) → p ≡ v.machine.me

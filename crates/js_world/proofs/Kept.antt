@@ -29,7 +29,7 @@ use Rattle.js_machine.specs.declared.stop.Stop.{Stop}
 use Rattle.js_world.specs.Crossings.{Rests, RunsHere}
 use Rattle.js_world.specs.Worlds.{Counts, HasOwn, HasStopped, Reads, Stands, Suits, WorldView, around, charged, no_own, own_here, party_with, steps_of, waits_of}
 use Rattle.js_world.specs.declared.waiting.Waiting.{Waiting}
-use Rattle.js_world.proofs.Shown_laws.{choose, found}
+use Rattle.js_crossing.proofs.Shown_laws.{choose, found}
 
 -- WHOSE THINGS
 

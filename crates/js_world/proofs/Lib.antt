@@ -1,8 +1,5 @@
-pub mod Shown_laws
-pub mod Reversed
 pub mod Given_laws
 pub mod Kept
-pub mod Newest_laws
 pub mod Traced_laws
 pub mod Turned_laws
 pub mod Crossed

@@ -17,7 +17,7 @@ use Rattle.js_machine.specs.declared.stop.Stop.TheVariants as stop
 use Rattle.js_world.specs.Asked_outside.{Answers, GoesOnAfter}
 use Rattle.js_world.specs.Crossings.{Follows}
 use Rattle.js_world.specs.Worlds.{Counts, HasNewest, HasOwn, HasStopped, Suits, WorldView, around}
-use Rattle.js_world.specs.declared.ending.Turn.{Turn}
+use Rattle.js_crossing.specs.declared.ending.Turn.{Turn}
 use Rattle.js_world.proofs.Kept.{fits_here, kept_counts, kept_own, kept_suits}
 
 -- the run of the party in the machine goes on after a pause as this mode says

@@ -14,11 +14,11 @@ use Rattle.js_run.specs.Runs.{Request}
 use Rattle.js_machine.specs.Looks.{marks_in}
 use Rattle.js_machine.specs.Views.{View}
 use Rattle.js_world.specs.Crossings.{GoesOn, HandsOver, Rests}
-use Rattle.js_world.specs.Newest.{crossing_of, newest_crossing, references_in, with_their_marks}
+use Rattle.js_crossing.specs.Newest.{crossing_of, newest_crossing, references_in, with_their_marks}
 use Rattle.js_world.specs.Worlds.{HasAnswered, HasNewest, WorldView, noted}
-use Rattle.js_world.specs.declared.newest.TracedCrossing.{TracedCrossing}
+use Rattle.js_crossing.specs.declared.newest.TracedCrossing.{TracedCrossing}
 use Rattle.js_world.specs.declared.waiting.Waiting.{Waiting}
-use Rattle.js_world.proofs.Newest_laws.{listed_so}
+use Rattle.js_crossing.proofs.Newest_laws.{listed_so}
 
 -- NOTHING ELSE CHANGES
 

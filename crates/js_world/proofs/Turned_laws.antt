@@ -25,7 +25,7 @@ use Rattle.js_world.specs.Crossings.{GoesOn, HandsOver, IsResumed, IsTaken, Repl
 use Rattle.js_world.specs.Worlds.{HasNewest, Stands, WorldView, around, exchanged, no_own, own_here, party_with, turned}
 use Rattle.js_world.specs.declared.waiting.Waiting.{Waiting}
 use Rattle.js_world.proofs.Kept.{at_home, fits_here, kept_counts, kept_own, kept_suits}
-use Rattle.js_world.proofs.Shown_laws.{choose}
+use Rattle.js_crossing.proofs.Shown_laws.{choose}
 
 -- EACH HAS ITS THINGS
 

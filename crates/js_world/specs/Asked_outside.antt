@@ -11,7 +11,7 @@ use Rattle.js_machine.specs.declared.stop.Pause.{Pause}
 use Rattle.js_machine.specs.declared.stop.Stop.{Stop}
 use Rattle.js_machine.specs.declared.stop.Stop.TheVariants as stop
 use Rattle.js_world.specs.Worlds.{After, HasStopped, WorldView}
-use Rattle.js_world.specs.declared.ending.Turn.{Turn}
+use Rattle.js_crossing.specs.declared.ending.Turn.{Turn}
 
 -- the machine has its answer, and has run on as far as this
 pub record GoesOnAfter (p : Pause) (x : HostAnswer) (old new : View) (s : Stop) : Type 0 where

@@ -19,9 +19,9 @@ use Rattle.js_machine.specs.declared.asked.Answer.{Answer}
 use Rattle.js_machine.specs.declared.frame.Mode.{Mode}
 use Rattle.js_machine.specs.declared.stop.Stop.{Stop}
 use Rattle.js_machine.specs.declared.stop.Stop.TheVariants as stop
-use Rattle.js_world.specs.Shows.{shows_reply}
+use Rattle.js_crossing.specs.Shows.{shows_reply}
 use Rattle.js_world.specs.Worlds.{After, Counts, HasNewest, HasOwn, HasStopped, Stands, Suits, WorldView, charged, steps_of, waits_of}
-use Rattle.js_world.specs.declared.ending.Turn.{Turn}
+use Rattle.js_crossing.specs.declared.ending.Turn.{Turn}
 use Rattle.js_world.specs.declared.waiting.Waiting.{Waiting}
 
 -- no party runs, and each has its own things as the world has them

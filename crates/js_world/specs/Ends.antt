@@ -5,8 +5,8 @@ use Rattle.js_run.specs.Heap.{cross}
 use Rattle.js_run.specs.Journal.{Application}
 use Rattle.js_machine.specs.declared.frame.Mode.{Mode}
 use Rattle.js_world.specs.Worlds.{After, Stands, WorldView}
-use Rattle.js_world.specs.declared.ending.Turn.{Turn}
-use Rattle.js_world.specs.declared.ending.Turn.TheVariants as turn
+use Rattle.js_crossing.specs.declared.ending.Turn.{Turn}
+use Rattle.js_crossing.specs.declared.ending.Turn.TheVariants as turn
 
 -- the world after so many crossings more
 abbrev pub after_crossings : Application → (budget crossings : ℕ) → heap.World → heap.World

@@ -7,7 +7,7 @@ use Rattle.js_machine.specs.Views.{View}
 use Rattle.js_world.specs.Crossings.{Rests}
 use Rattle.js_machine.specs.declared.frame.Mode.{Mode}
 use Rattle.js_world.specs.Worlds.{Stands, Suits, WorldView, own_here, party_with}
-use Rattle.js_world.specs.declared.leads.Lead.{Lead}
+use Rattle.js_crossing.specs.declared.leads.Lead.{Lead}
 
 -- a machine of all parties that has done nothing yet
 abbrev pub as_new : View → List Own → List (List Lead) → (budget : ℕ) → WorldView

@@ -1,6 +1,3 @@
-pub mod Shows
-pub mod Leads
-pub mod Newest
 pub mod Worlds
 pub mod Crossings
 pub mod Ends

@@ -24,15 +24,15 @@ use Rattle.js_machine.specs.Views.{Around, View, halt_of, nexts_of, templates_at
 use Rattle.js_machine.specs.declared.frame.Mode.{Mode}
 use Rattle.js_machine.specs.declared.stop.Stop.{Stop}
 use Rattle.js_machine.specs.declared.stop.Stop.TheVariants as stop
-use Rattle.js_world.specs.Leads.{leads_among}
-use Rattle.js_world.specs.Newest.{newest_crossing}
-use Rattle.js_world.specs.Shows.{shows_ask, shows_ref}
-use Rattle.js_world.specs.declared.ending.Ending.{Ending}
-use Rattle.js_world.specs.declared.ending.Ending.TheVariants as ending
-use Rattle.js_world.specs.declared.ending.Turn.{Turn}
-use Rattle.js_world.specs.declared.ending.Turn.TheVariants as turn
-use Rattle.js_world.specs.declared.leads.Lead.{Lead}
-use Rattle.js_world.specs.declared.newest.TracedCrossing.{TracedCrossing}
+use Rattle.js_crossing.specs.Leads.{leads_among}
+use Rattle.js_crossing.specs.Newest.{newest_crossing}
+use Rattle.js_crossing.specs.Shows.{shows_ask, shows_ref}
+use Rattle.js_crossing.specs.declared.ending.Ending.{Ending}
+use Rattle.js_crossing.specs.declared.ending.Ending.TheVariants as ending
+use Rattle.js_crossing.specs.declared.ending.Turn.{Turn}
+use Rattle.js_crossing.specs.declared.ending.Turn.TheVariants as turn
+use Rattle.js_crossing.specs.declared.leads.Lead.{Lead}
+use Rattle.js_crossing.specs.declared.newest.TracedCrossing.{TracedCrossing}
 use Rattle.js_world.specs.declared.waiting.Waiting.{Waiting}
 
 -- the party that runs has its own things in the machine, and each other one has them in its place of the list. Where the links of each party lead stands in a list, too. What waits stands with the newest first. The answer to the host's import is kept, once there is one, and where crossings are traced the newest of them

@@ -8,15 +8,15 @@ ghost use Rattle.js_machine.specs.Served.{IsServed};
 ghost use Rattle.js_machine.specs.Views.{completion_of};
 ghost use Rattle.js_machine.specs.declared.stop.Stop.TheVariants as stop;
 ghost use Rattle.js_world.specs.Crossings.{Follows, HasGiven, IsResumed, IsTaken, Replies, RunsHere, newest};
-ghost use Rattle.js_world.specs.Newest.{traced_reply};
-ghost use Rattle.js_world.specs.Shows.{makes_none};
+ghost use Rattle.js_crossing.specs.Newest.{traced_reply};
+ghost use Rattle.js_crossing.specs.Shows.{makes_none};
 ghost use Rattle.js_world.specs.Worlds.{Crosses, IsTurnOf, ending_of, noted, sent};
 
-use crate::ending::{Ending, Turn};
-use crate::newest::owner_of;
-use crate::shows::{show_ask, show_reply};
 use crate::waiting::Waiting;
 use crate::world::World;
+use js_crossing::ending::{Ending, Turn};
+use js_crossing::newest::owner_of;
+use js_crossing::shows::{show_ask, show_reply};
 use js_desc::ask::Ask;
 use js_desc::reply::Reply;
 use js_machine::frame::{Halt, Mode};
@@ -105,7 +105,7 @@ impl World {
     }
 
     /// The newest body that waits is taken off.
-    #[tactic(auto, using(crate::proofs::Reversed::reverse_push))]
+    #[tactic(auto, using(js_crossing::proofs::Reversed::reverse_push))]
     fn take_waiting(&mut self) -> Option<Waiting>
         ensures body { result ≡ newest self.old.stack }
         ensures rest { self.new ≡ record self.old { stack = drop 1 self.old.stack } }

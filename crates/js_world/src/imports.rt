@@ -5,12 +5,12 @@ ghost use Rattle.js_run.specs.Runs.{Imports};
 ghost use Rattle.js_machine.specs.Evaluated.{IsImported};
 ghost use Rattle.js_machine.specs.declared.stop.Stop.TheVariants as stop;
 ghost use Rattle.js_world.specs.Crossings.{Follows, IsTaken};
-ghost use Rattle.js_world.specs.Leads.{leads_among};
+ghost use Rattle.js_crossing.specs.Leads.{leads_among};
 ghost use Rattle.js_world.specs.Worlds.{import_away, leads_to};
 
-use crate::ending::Turn;
-use crate::leads::{Lead, lead_of};
 use crate::world::World;
+use js_crossing::ending::Turn;
+use js_crossing::leads::{Lead, lead_of};
 use js_machine::asked::Imported;
 use js_machine::frame::Mode;
 use js_machine_modules::imports::{import, sent_import};

@@ -3,8 +3,8 @@
 ghost use Rattle.std.specs.Prelude.{◌≡◌, ◌<◌, length, IfOk, OnOk};
 ghost use Rattle.js_world.specs.Asked_outside.{Answers, GoesOnAfter};
 
-use crate::ending::Turn;
 use crate::world::World;
+use js_crossing::ending::Turn;
 use js_machine::outside::HostAnswer;
 use js_machine::stop::{Pause, Stop};
 use js_machine_modules::outside::answer_outside;

@@ -3,8 +3,8 @@
 ghost use Rattle.std.specs.Prelude.{◌≡◌, IfOk, false};
 ghost use Rattle.js_world.specs.Ends.{Ends, runs_still};
 
-use crate::ending::Turn;
 use crate::world::World;
+use js_crossing::ending::Turn;
 use js_machine::frame::Mode;
 use lava_base::memory::OutOfMemory;
 

@@ -4,9 +4,9 @@ ghost use Rattle.std.specs.Prelude.{◌≡◌, ◌<◌, length, replicate, optio
 ghost use Rattle.js_world.specs.First.{RestsFirst, as_new};
 ghost use Rattle.js_world.specs.Worlds.{aside, charged, exchanged, turned};
 
-use crate::leads::Lead;
-use crate::newest::TracedCrossing;
 use crate::waiting::Waiting;
+use js_crossing::leads::Lead;
+use js_crossing::newest::TracedCrossing;
 use js_desc::reply::Reply;
 use js_machine::machine::Machine;
 use js_machine::own::Own;
@@ -175,7 +175,7 @@ impl World {
     }
 
     /// The body that runs waits.
-    #[tactic(auto, using(crate::proofs::Reversed::reverse_push))]
+    #[tactic(auto, using(js_crossing::proofs::Reversed::reverse_push))]
     pub(crate) fn set_aside(&mut self) -> Result<(), OutOfMemory>
         ensures { OnOk result (self.new ≡ aside self.old) }
     {

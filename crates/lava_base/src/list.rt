@@ -1,6 +1,6 @@
 // A list of items, which contracts see as a list.
 
-ghost use Rattle.std.specs.Prelude.{◌≡◌, ◌==◌, ◌<◌, ◌≤◌, ◌++◌, ◌∷◌, [], length, take, drop, get_or, IfOk, OnOk, OnErr};
+ghost use Rattle.std.specs.Prelude.{◌≡◌, ◌==◌, ◌<◌, ◌≤◌, ◌++◌, ◌∷◌, [], length, take, drop, get_or, slice_set, IfOk, OnOk, OnErr};
 
 use crate::memory::OutOfMemory;
 use std::alloc::Global;
@@ -75,6 +75,14 @@ impl<T: Drop> List<T> {
     {
         self.items.push(item)?;
         Ok(())
+    }
+
+    /// Puts another item in a place, counted from 0, and drops the one that was there.
+    pub fn set(&mut self, at: usize, item: T)
+        requires { at < length self.old }
+        ensures { self.new ≡ slice_set self.old at item }
+    {
+        self.items[at] = item;
     }
 
     /// Drops all items but the first `count`.

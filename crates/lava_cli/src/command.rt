@@ -8,11 +8,11 @@ ghost use Rattle.lava_lines.specs.declared.status.TheConstants as texts;
 ghost use Rattle.lava_cli.specs.RunAnswers.{CommandAnswers, RunAnswers};
 
 use crate::run_command::run_directory;
-use crate::run_report::report_run;
-use crate::words::{Command, command_of};
 use lava_lines::report::put_line;
 use lava_lines::status::{MEMORY_LINE, MEMORY_STATUS, USAGE_LINE, USAGE_STATUS};
-use lava_runner::app::Mode;
+use lava_report::report::Mode;
+use lava_report::run_report::report_run;
+use lava_report::words::{Command, command_of};
 use lava_streams::clock::Clock;
 use lava_streams::folder::Folder;
 use lava_streams::sink::Sink;

@@ -1,14 +1,10 @@
-//! The program `lava`: words, what a command does, and its answer.
+//! The program `lava`: what a command does, and its answer.
 //!
 //! - `command` is the call that the program makes: `lava`.
-//! - `words` reads the words, `run_command` loads an application (lava_loading) and runs it.
-//! - `outcome` has how a run ends, `run_report` tells it.
+//! - `run_command` loads an application (lava_loading) and runs it. What words ask for and what is told of a run stand in lava_report.
 //!
-//! Definitions are in specs/: `Words` and `RunAnswers`.
+//! Definitions are in specs/: `RunAnswers`.
 #![tactic(auto)]
 
 pub mod command;
-pub mod outcome;
 pub mod run_command;
-pub mod run_report;
-pub mod words;

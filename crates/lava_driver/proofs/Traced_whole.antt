@@ -6,8 +6,8 @@ use Rattle.js_run.specs.Heap.{World, begins, heap}
 use Rattle.js_run.specs.Journal.{Application, Crossing}
 use Rattle.js_world.specs.Crossings.{Rests}
 use Rattle.js_world.specs.Worlds.{IsOver, WorldView, ending_of}
-use Rattle.js_world.specs.declared.ending.Turn.TheVariants as turn
-use Rattle.js_world.specs.declared.newest.TracedCrossing.{TracedCrossing}
+use Rattle.js_crossing.specs.declared.ending.Turn.TheVariants as turn
+use Rattle.js_crossing.specs.declared.newest.TracedCrossing.{TracedCrossing}
 use Rattle.lava_host.specs.Hosts.{HostWorld}
 use Rattle.lava_journal.specs.Lines.{end_text}
 use Rattle.lava_driver.specs.Ran.{HasRun}

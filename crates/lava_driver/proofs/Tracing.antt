@@ -22,11 +22,11 @@ use Rattle.js_machine.specs.declared.stop.Stop.TheVariants as stop
 use Rattle.js_world.specs.Asked_outside.{Answers}
 use Rattle.js_world.specs.Crossings.{Rests}
 use Rattle.js_world.specs.First.{IsBegun}
-use Rattle.js_world.specs.Newest.{newest_crossing}
+use Rattle.js_crossing.specs.Newest.{newest_crossing}
 use Rattle.js_world.specs.Worlds.{After, Crosses, HasNewest, HasStopped, Stands, WorldView, around}
-use Rattle.js_world.specs.declared.ending.Ending.TheVariants as ending
-use Rattle.js_world.specs.declared.ending.Turn.{Turn}
-use Rattle.js_world.specs.declared.ending.Turn.TheVariants as turn
+use Rattle.js_crossing.specs.declared.ending.Ending.TheVariants as ending
+use Rattle.js_crossing.specs.declared.ending.Turn.{Turn}
+use Rattle.js_crossing.specs.declared.ending.Turn.TheVariants as turn
 use Rattle.lava_host.specs.Hosts.{HostWorld}
 use Rattle.lava_host.specs.declared.fault.Which.{Which}
 use Rattle.lava_driver.specs.Ran.{BeginsSo, HasComeTo, IsUnderway}

@@ -22,8 +22,8 @@ use Rattle.js_world.specs.Ends.{Ends}
 use Rattle.js_world.specs.First.{IsBegun}
 use Rattle.js_machine.specs.declared.stop.Stop.TheVariants as stop
 use Rattle.js_world.specs.Worlds.{After, HasStopped, Stands, WorldView, around}
-use Rattle.js_world.specs.declared.ending.Turn.{Turn}
-use Rattle.js_world.specs.declared.ending.Turn.TheVariants as turn
+use Rattle.js_crossing.specs.declared.ending.Turn.{Turn}
+use Rattle.js_crossing.specs.declared.ending.Turn.TheVariants as turn
 use Rattle.lava_host.specs.Hosts.{HostWorld}
 use Rattle.lava_host.specs.declared.fault.Which.{Which}
 use Rattle.lava_driver.specs.Ran.{BeginsSo, HasComeTo, IsAskedIn, IsUnderway}

@@ -6,8 +6,8 @@ use Rattle.js_run.specs.Journal.{Application, Fault, outside_of}
 use Rattle.js_run.specs.Outside.{IsGone}
 use Rattle.js_world.specs.Crossings.{Rests}
 use Rattle.js_world.specs.Worlds.{After, WorldView}
-use Rattle.js_world.specs.declared.ending.Turn.{Turn}
-use Rattle.js_world.specs.declared.ending.Turn.TheVariants as turn
+use Rattle.js_crossing.specs.declared.ending.Turn.{Turn}
+use Rattle.js_crossing.specs.declared.ending.Turn.TheVariants as turn
 use Rattle.lava_host.specs.Hosts.{HostWorld}
 use Rattle.lava_host.specs.declared.fault.Which.{Which}
 use Rattle.lava_driver.specs.declared.run.Ran.{Ran}

@@ -1,16 +1,11 @@
 // The worked rows: for each line of the input, `KIND REST`, it does what the line says, and prints what came of it. In a line `|` is a line feed and `~` a NUL.
 #![tactic(auto)]
 
-mod fault;
-mod files;
-mod halting;
-mod kind;
 mod memory;
-mod shown;
-mod streams;
 
-use crate::fault::Fault;
-use crate::kind::{Kind, kind_of};
+use lava_system_rows::fault::Fault;
+use lava_system_rows::kind::{Kind, kind_of};
+use lava_system_rows::{files, halting, streams};
 use std::io;
 
 fn main(rt: HostRuntime) -> io::Result<()> {

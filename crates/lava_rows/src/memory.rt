@@ -2,14 +2,14 @@
 
 ghost use Rattle.std.specs.Prelude.{◌≤◌};
 
-use crate::fault::Fault;
-use crate::shown::{meant, number, show};
 use lava_base::memory::OutOfMemory;
 use lava_cli::command::lava;
 use lava_streams::memory_clock::MemoryClock;
 use lava_streams::memory_folder::MemoryFolder;
 use lava_streams::memory_sink::MemorySink;
 use lava_streams::memory_source::MemorySource;
+use lava_system_rows::fault::Fault;
+use lava_system_rows::shown::{meant, number, show};
 use std::alloc::Global;
 
 // A call that comes in no row.

@@ -1,3 +1,2 @@
-pub mod In_range
 pub mod Calling
 pub mod Reported

@@ -1,5 +1,5 @@
 -- The report on a run that is over.
-use Rattle.std.proofs.Common.{◌≡◌, ◌<◌, ℕ, zero, suc, Bool, true, false, List, [], ◌∷◌, get_or, set, length, map, nat_eq, Option, Some, None, refl, sym, ap, ◌∙◌, subst, arith, Result, Ok, Err, IfOk, ⊎_elim, if◌then◌else◌}
+use Rattle.std.proofs.Common.{◌≡◌, ◌<◌, ℕ, zero, suc, Bool, true, List, [], ◌∷◌, get_or, set, length, nat_eq, Option, refl, sym, ap, ◌∙◌, subst, arith, Result, Ok, Err, IfOk, ⊎_elim, if◌then◌else◌}
 use Rattle.std.proofs.lemmas.Bool.Decides.{eqb_tells}
 use Rattle.std.specs.Option.{option_map}
 use Rattle.lava_base.specs.Ids.{same_ref}
@@ -17,41 +17,38 @@ use Rattle.js_run.specs.Journal.{Application, Fault, foreign_of}
 use Rattle.js_run.specs.Laws.{IsWellMade, Journal_is_net}
 use Rattle.js_run.specs.Parties.{Party}
 use Rattle.js_run.specs.Laws as laws
-use Rattle.js_run.specs.Net.{net}
 use Rattle.js_run.specs.Starts.{host_party}
 use Rattle.js_machine.specs.Begun as begun
 use Rattle.js_machine.specs.Begun.{own_of}
 use Rattle.js_machine.specs.Looks.{marks_at, marks_in}
 use Rattle.js_machine.specs.Views.{View}
-use Rattle.js_term.specs.declared.term.Template.{Template}
 use Rattle.js_world.specs.Crossings.{Rests}
-use Rattle.js_world.specs.Worlds.{HasAnswered, IsOver, KeepsAnswer, Reads, WorldView, ending_of, last_reply, no_own, own_here, turned}
-use Rattle.js_world.specs.declared.ending.Ending.{Ending}
-use Rattle.js_world.specs.declared.ending.Ending.TheVariants as ending
+use Rattle.js_world.specs.Worlds.{HasAnswered, IsOver, KeepsAnswer, Reads, WorldView, ending_of, no_own, own_here, turned}
+use Rattle.js_crossing.specs.declared.ending.Ending.{Ending}
+use Rattle.js_crossing.specs.declared.ending.Ending.TheVariants as ending
 use Rattle.lava_host.specs.Hosts.{HostWorld}
 use Rattle.lava_host.specs.Printed.{printed_reference, printed_value}
-use Rattle.lava_start.specs.Applications.{AllInRange, RunParts, run_application}
-use Rattle.lava_start.specs.Firsts.{IsFirstWorld, parts_of, run_parts_of}
+use Rattle.lava_start.specs.Applications.{AllInRange, RunParts}
+use Rattle.lava_start.specs.Firsts.{IsFirstWorld}
 use Rattle.lava_start.specs.Laws.{Runs_are_well_made}
-use Rattle.lava_start.specs.declared.packages.PackageSource.{PackageSource}
 use Rattle.pkg_graph.specs.declared.graph.Package.{Package}
 use Rattle.pkg_load.specs.Applications as loads
 use Rattle.pkg_load.specs.declared.module.LoadedModule.{LoadedModule}
 use Rattle.pkg_source.specs.declared.code.ModuleCode.{ModuleCode}
 use Rattle.policy_row.specs.Rows.{Rows}
-use Rattle.lava_runner.specs.Commons.{IsCommonPart}
-use Rattle.lava_runner.specs.Packages.{parts_from, run_parts}
-use Rattle.lava_driver.specs.Ran.{AreAskedIn, BeginsSo, HasRun, IsAskedIn}
-use Rattle.lava_runner.specs.Reports.{EndsSo, HasReport, HasRunFrom, HasTraceReport, HasTracedFrom, IsApplicationOf, IsEmittedRun, IsFirstOf, IsReportOf, IsTracedRun, IsUncaughtText, party_names, traced_as, uncaught_text}
-use Rattle.lava_driver.specs.Talks.{Agrees, Talk, newest_failed}
+use Rattle.lava_packages.specs.Commons.{IsCommonPart}
+use Rattle.lava_packages.specs.Packages.{IsFirstOf, party_names, run_parts}
+use Rattle.lava_driver.specs.Ran.{AreAskedIn, BeginsSo}
+use Rattle.lava_runner.specs.Reports.{EndsSo, HasReport, HasRunFrom, HasTraceReport, HasTracedFrom, IsApplicationOf, IsEmittedRun, IsReportOf, IsTracedRun, IsUncaughtText, traced_as, uncaught_text}
+use Rattle.lava_driver.specs.Talks.{Talk, newest_failed}
 use Rattle.lava_driver.specs.Traces.{HasTraced, PutsText, ending_told, trace_text}
-use Rattle.lava_runner.specs.Uncaught.{IsUncaughtIn, Thrown, host_marks, marks_there, shown, thrown_in, uncaught_of}
-use Rattle.lava_runner.specs.declared.app.Report.{Report}
-use Rattle.lava_runner.specs.declared.common.CommonPart.{CommonPart}
+use Rattle.lava_packages.specs.Uncaught.{IsUncaughtIn, Thrown, host_marks, marks_there, shown, thrown_in, uncaught_of}
+use Rattle.lava_report.specs.declared.report.Report.{Report}
+use Rattle.lava_packages.specs.declared.common.CommonPart.{CommonPart}
 use Rattle.lava_driver.specs.declared.run.Ran.{Ran}
 use Rattle.lava_driver.specs.declared.trace_run.Traced.{Traced}
 use Rattle.lava_runner.proofs.Calling.{are_called}
-use Rattle.lava_runner.proofs.In_range.{parts_in_range}
+use Rattle.lava_packages.proofs.In_range.{parts_in_range}
 
 -- THE APPLICATION BEGINS AS THE FIRST WORLD RESTS
 
@@ -111,14 +108,6 @@ ran_from (Ok r) emit dir packages ms policy c budget before after first f h = re
 ran_from (Err e) emit dir packages ms policy c budget before after first f h = tt
 
 -- what the packages are made of is what they are made of as they are handed in
-pub first_over : {E : Type 0} (r : Result WorldView E) (c : CommonPart) (packages : List Package) (ms : List (LoadedModule ModuleCode)) (policy : Rows) (budget : ℕ) (sources : List PackageSource) (templates : List Template) (slice : List PackageSource) → map parts_of sources ≡ parts_from packages ms policy 0 packages
-    → templates ≡ c.templates → slice ≡ sources → IfOk r (IsFirstWorld (run_parts_of c.objects templates slice) budget) → IfOk r (IsFirstOf packages ms policy c budget)
-first_over r c packages ms policy budget sources templates slice e t s h =
-    let made : IfOk r (IsFirstWorld (run_parts_of c.objects c.templates sources) budget) =
-    subst (λ xs. IfOk r (IsFirstWorld (run_parts_of c.objects c.templates xs) budget)) s (subst (λ ts. IfOk r (IsFirstWorld (run_parts_of c.objects ts slice) budget)) t h)
-    in
-    subst (λ ps. IfOk r (IsFirstWorld (record { common = c.objects; templates = c.templates; packages = ps }) budget)) e made
-
 ends_so : Journal_is_net → Host_calls_are_crossings → Runs_are_well_made → (parts : RunParts) (budget crossings : ℕ) (last : WorldView) (ran : Ran) (r : Report) → AllInRange parts.packages → IsReportOf last ran r → (app : Application) → IsApplicationOf parts app
     → IsOver app (heap.heap app budget crossings) last ran.ending → EndsSo app budget crossings r
 ends_so law calls made parts budget n last ran r range s app a over =

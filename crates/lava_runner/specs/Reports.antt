@@ -1,39 +1,33 @@
 -- The run of an application, and the report on it.
-use Rattle.std.specs.Prelude.{◌≡◌, ℕ, Bool, true, false, List, ◌∷◌, map, Option, Some, None}
+use Rattle.std.specs.Prelude.{◌≡◌, ℕ, Bool, true, false, List, Option, Some, None}
 use Rattle.js_desc.specs.declared.ending.Ending as desc
 use Rattle.js_host_laws.specs.Calls.{ArePlain, Calls_are_crossings}
-use Rattle.js_run.specs.Heap.{Over_with, World, heap}
+use Rattle.js_run.specs.Heap.{Over_with, heap}
 use Rattle.js_run.specs.Journal.{Application}
 use Rattle.js_run.specs.Net.{net}
 use Rattle.js_world.specs.Worlds.{Reads, WorldView, ending_of}
-use Rattle.js_world.specs.declared.ending.Ending.{Ending}
-use Rattle.js_world.specs.declared.ending.Ending.TheVariants as ending
+use Rattle.js_crossing.specs.declared.ending.Ending.{Ending}
+use Rattle.js_crossing.specs.declared.ending.Ending.TheVariants as ending
 use Rattle.lava_host.specs.Hosts.{HostWorld}
 use Rattle.lava_start.specs.Applications.{RunParts, Surroundings, run_application}
-use Rattle.lava_start.specs.Firsts.{IsFirstWorld}
 use Rattle.pkg_graph.specs.declared.graph.Package.{Package}
 use Rattle.pkg_load.specs.Applications as loads
 use Rattle.pkg_load.specs.declared.module.LoadedModule.{LoadedModule}
 use Rattle.pkg_source.specs.declared.code.ModuleCode.{ModuleCode}
 use Rattle.policy_row.specs.Rows.{Rows}
-use Rattle.lava_runner.specs.Commons.{IsCommonPart}
-use Rattle.lava_runner.specs.Packages.{run_parts}
+use Rattle.lava_packages.specs.Commons.{IsCommonPart}
+use Rattle.lava_packages.specs.Packages.{run_parts}
 use Rattle.lava_driver.specs.Ran.{AreAskedIn, HasRun}
 use Rattle.lava_driver.specs.Talks.{Agrees, AreTalks, Talk, newest_failed}
 use Rattle.lava_runner.specs.Called.{AreCalledIn}
-use Rattle.lava_runner.specs.Uncaught.{IsUncaughtIn, uncaught_of}
+use Rattle.lava_packages.specs.Uncaught.{IsUncaughtIn, uncaught_of}
 use Rattle.lava_driver.specs.Traces.{HasTraced, PutsText, ending_told, trace_text}
-use Rattle.lava_runner.specs.declared.app.Mode.{Mode}
-use Rattle.lava_runner.specs.declared.app.TheConstants.{HOST_NAME}
-use Rattle.lava_runner.specs.declared.app.Mode.TheVariants as mode
-use Rattle.lava_runner.specs.declared.app.Report.{Report}
-use Rattle.lava_runner.specs.declared.common.CommonPart.{CommonPart}
+use Rattle.lava_report.specs.declared.report.Mode.{Mode}
+use Rattle.lava_report.specs.declared.report.Mode.TheVariants as mode
+use Rattle.lava_report.specs.declared.report.Report.{Report}
+use Rattle.lava_packages.specs.declared.common.CommonPart.{CommonPart}
 use Rattle.lava_driver.specs.declared.run.Ran.{Ran}
 use Rattle.lava_driver.specs.declared.trace_run.Traced.{Traced}
-
--- the machine of all parties before a run of these packages
-abbrev pub IsFirstOf : List Package → List (LoadedModule ModuleCode) → Rows → CommonPart → (budget : ℕ) → WorldView → Type 0
-IsFirstOf packages ms policy c budget v = IsFirstWorld (run_parts c packages ms policy) budget v
 
 -- an application of the host and the packages, whatever its outside answers and however it reads texts as programs
 pub record IsApplicationOf (parts : RunParts) (app : Application) : Type 0 where
@@ -92,11 +86,6 @@ pub record IsEmittedRun (dir : List ℕ) (app : loads.Application ModuleCode) (p
   pub ends : (a : Application) → IsApplicationOf (run_parts common app.packages app.modules policy) a → Agrees a talks → EndsSo a budget crossings r
 
 -- THE SAME WITH A TRACE
-
--- the parties by their names: the host, and the packages behind it
--- own: names in a trace
-abbrev pub party_names : List Package → List (List ℕ)
-party_names packages = HOST_NAME.now ∷ map (λ (p : Package). p.name) packages
 
 abbrev pub traced_as : Traced → Ran
 traced_as t = record { ending = t.ending; failed = t.failed }

@@ -1,19 +1,14 @@
 // The run of an application.
 
-ghost use Rattle.std.specs.Prelude.{◌≡◌, ◌++◌, [], map, IfOk, OnOk, MatchResult};
+ghost use Rattle.std.specs.Prelude.{◌≡◌, [], IfOk, MatchResult};
 ghost use Rattle.lava_host.specs.Hosts.{host_world};
-ghost use Rattle.lava_start.specs.Firsts.{IsFirstWorld};
-ghost use Rattle.lava_runner.specs.Commons.{HasRunCause, IsCommonPart};
-ghost use Rattle.lava_driver.specs.Ran.{HasRun};
-ghost use Rattle.lava_runner.specs.Reports.{HasReport, HasRunFrom, HasTraceReport, HasTracedFrom, IsEmittedRun, IsFirstOf, IsReportOf, IsRunOf, IsTracedRun, IsUncaughtText, party_names};
+ghost use Rattle.lava_packages.specs.Commons.{HasRunCause, IsCommonPart};
+ghost use Rattle.lava_runner.specs.Reports.{HasReport, HasRunFrom, HasTraceReport, HasTracedFrom, IsEmittedRun, IsReportOf, IsRunOf, IsTracedRun, IsUncaughtText};
 ghost use Rattle.pkg_graph.specs.declared.graph.Package.{Package};
 
-use crate::common::{CommonPart, RunFault, common_part};
-use crate::packages::packages_of;
-use crate::uncaught::uncaught;
+use js_crossing::ending::Ending;
 use js_host_laws::{gone_at_the_newest, host_calls_are_crossings};
 use js_run_laws::journal_is_net;
-use js_world::ending::Ending;
 use js_world::world::World;
 use js_world_end::discard;
 use lava_base::list::List;
@@ -21,8 +16,11 @@ use lava_base::memory::OutOfMemory;
 use lava_base::name::Name;
 use lava_driver::run::{Ran, run};
 use lava_driver::trace_run::trace_run;
-use lava_host::fault::Which;
-use lava_start::first::first_world;
+use lava_packages::common::{CommonPart, RunFault, common_part};
+use lava_packages::first::first_of;
+use lava_packages::names::names_of;
+use lava_packages::uncaught::uncaught;
+use lava_report::report::{Mode, Report};
 use lava_start::laws::runs_are_well_made;
 use lava_streams::clock::Clock;
 use lava_streams::folder::Folder;
@@ -34,51 +32,6 @@ use pkg_load::module::LoadedModule;
 use pkg_source::code::ModuleCode;
 use policy_row::policy::Policy;
 use std::alloc::Global;
-
-/// The name of the host in a trace.
-pub const HOST_NAME: &str = "$host$";
-
-/// What is put to the output.
-#[derive(Clone, Copy, Debug, PartialEq, Eq)]
-pub enum Mode {
-    /// What `console` prints.
-    Emit,
-    /// The trace of the run, at its end. What `console` prints goes nowhere.
-    Trace,
-}
-
-/// How a run ended.
-#[derive(Drop)]
-pub struct Report {
-    pub ending: Ending,
-    /// The thrown value as `console` prints it, where the ending is `Uncaught`.
-    pub uncaught: Option<List<u8>>,
-    /// The object of the outside whose call failed, where one did.
-    pub which: Option<Which>,
-}
-
-/// The machine of all parties before the packages of an application run.
-fn first_of(
-    alloc: Global,
-    packages: &[Package],
-    modules: &[LoadedModule<ModuleCode>],
-    policy: &Policy,
-    common: CommonPart,
-    budget: u64,
-) -> Result<World, OutOfMemory>
-    ensures { let c = common in
-        IfOk result (IsFirstOf packages.now modules.now policy.now c budget) }
-{
-    let sources = packages_of(alloc, packages, modules, policy)?;
-    let CommonPart { objects, templates } = common;
-    first_world(
-        alloc,
-        objects,
-        templates.as_slice(),
-        sources.as_slice(),
-        budget,
-    )
-}
 
 /// The thrown value as `console` prints it, where a run ends by it.
 fn uncaught_at(
@@ -156,28 +109,6 @@ fn run_packages<F: Folder, I: Source, O: Sink, E: Sink, C: Clock>(
     let report = run_world(alloc, &mut world, emit, dir, folder, input, out, err, clock);
     discard(world);
     report
-}
-
-/// The names of all parties: the host, and the packages behind it.
-fn names_of(alloc: Global, packages: &[Package]) -> Result<List<Name>, OutOfMemory>
-    ensures { IfOk result (λ names. names ≡ party_names packages.now) }
-{
-    let mut names = List::new(alloc);
-    names.push(Name::of(alloc, HOST_NAME)?)?;
-    add_names(packages, &mut names)?;
-    Ok(names)
-}
-
-/// Appends the names of packages.
-fn add_names(mut packages: &[Package], names: &mut List<Name>) -> Result<(), OutOfMemory>
-    ensures { let added = map (λ (p : Package). p.name) packages.entry.now in
-        OnOk result (names.new ≡ names.old ++ added) }
-{
-    while let [first, rest @ ..] = packages {
-        names.push(first.name.copy()?)?;
-        packages = rest;
-    }
-    Ok(())
 }
 
 /// Runs an application from a world in which nothing has happened, with a trace, and reports on it.

@@ -14,7 +14,7 @@ use Rattle.js_run.specs.Starts.{host_party, host_ref}
 use Rattle.js_run_laws.proofs.Given_laws.{blank_home, host_home, in_all, never}
 use Rattle.js_run_laws.proofs.Looks.{behind, in_front}
 use Rattle.js_run_laws.proofs.Story.{in_either}
-use Rattle.js_world.proofs.Shown_laws.{choose}
+use Rattle.js_crossing.proofs.Shown_laws.{choose}
 use Rattle.lava_start.specs.Applications.{AllInRange, PackageParts, RunParts, Surroundings, counted_down, first_known, no_start, package_start, package_starts, run_application}
 use Rattle.lava_start.specs.Grants.{IsHostObject, Package_names_all, Package_names_known, host_count, package_builtin, package_identities, package_names, package_objects, root_global}
 use Rattle.lava_start.specs.Laws.{Runs_are_well_made}

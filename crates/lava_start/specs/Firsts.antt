@@ -25,7 +25,7 @@ use Rattle.js_machine.specs.declared.package.Module.{Module}
 use Rattle.js_world.specs.Crossings.{Rests}
 use Rattle.js_world.specs.First.{IsFirst, RestsFirst, as_new}
 use Rattle.js_world.specs.Worlds.{Reads, WorldView, party_with}
-use Rattle.js_world.specs.declared.leads.Lead.{Lead}
+use Rattle.js_crossing.specs.declared.leads.Lead.{Lead}
 use Rattle.lava_start.specs.Applications.{PackageParts, PartyLink, PartyStart, RunParts, Surroundings, allowed_links, link_name, link_target, may_import, run_application}
 use Rattle.lava_start.specs.Grants.{package_builtin, package_objects, root_global}
 use Rattle.lava_start.specs.Making.{first_marks}

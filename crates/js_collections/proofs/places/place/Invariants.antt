@@ -3,7 +3,7 @@ use Rattle.std.proofs.Common.{◌≡◌, ◌-◌, length, map}
 use Rattle.lava_base.specs.Ids.{same_ref, same_made_symbol}
 use Rattle.js_text.specs.Values.{same_value}
 use Rattle.js_slots.specs.Tables.{place_of}
-use Rattle.js_run.specs.Collections.{table_entry}
+use Rattle.js_store.specs.Tables.{table_entry}
 use Rattle.js_collections.proofs.Places_found.{found_from}
 use Rattle.js_collections.proofs.places.place.Given as goal
 

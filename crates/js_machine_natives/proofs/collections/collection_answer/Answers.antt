@@ -1,6 +1,7 @@
 use Rattle.std.proofs.Common.{◌≡◌, IfOk, subst}
 use Rattle.js_text.specs.Naming.{origin_of}
-use Rattle.js_machine.specs.Collecting.{entries_of, table_by}
+use Rattle.js_store.specs.Tables.{entries_of}
+use Rattle.js_machine.specs.Collecting.{table_by}
 use Rattle.js_machine.specs.Views.{View}
 use Rattle.js_machine.specs.Ways.{object_in}
 use Rattle.js_machine_natives.proofs.Collected.{answer_there}

@@ -4,5 +4,4 @@ use Rattle.js_machine_natives.proofs.collections.decide_collection.Goals as goal
 
 pub returns : goal.returns
 returns c =
-    given_so c.give_found.result c.args.me (collected c.args.machine.now c.args.me) c.in_ok-answer.answer c.args.machine.now c.change_collection.new.machine c.give_found.new.machine
-    c.in_ok-answer.ensures c.in_ok-change_collection.ensures c.give_found.ensures
+    given_so c.give_found.result c.args.me (collected c.args.machine.now c.args.me) c.in_ok-answer.answer c.args.machine.now c.collect.new.machine c.give_found.new.machine c.in_ok-answer.ensures.answer c.in_ok-answer.ensures.changed c.give_found.ensures

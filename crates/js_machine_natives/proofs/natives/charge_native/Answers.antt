@@ -1,5 +1,5 @@
 use Rattle.std.proofs.Common.{◌≡◌, ◌-◌, suc, arith}
-use Rattle.js_machine.proofs.Native_deeds.{charged_so}
+use Rattle.js_machine_natives.proofs.Native_deeds.{charged_so}
 use Rattle.js_machine_natives.proofs.natives.charge_native.Goals as goal
 
 pub returns : goal.returns

@@ -1,7 +1,7 @@
 use Rattle.std.proofs.Common.{◌≡◌, ◌≤◌, ◌∙◌, sym, length, reverse, ap, arith}
 use Rattle.std.proofs.lemmas.List.{length-reverse}
 use Rattle.js_machine.specs.Views.{View, args_on}
-use Rattle.js_machine.proofs.Native_deeds.{slice_on}
+use Rattle.js_machine_natives.proofs.Native_deeds.{slice_on}
 use Rattle.js_machine_natives.proofs.natives.last_values.Goals as goal
 
 pub returns : goal.returns

@@ -1,4 +1,4 @@
-use Rattle.js_machine.proofs.Native_deeds.{charge_comes}
+use Rattle.js_machine_natives.proofs.Native_deeds.{charge_comes}
 use Rattle.js_machine_natives.proofs.natives.native_paid.Goals as goal
 
 pub returns : goal.returns

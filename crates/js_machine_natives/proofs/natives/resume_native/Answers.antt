@@ -1,4 +1,4 @@
-use Rattle.js_machine.proofs.Native_deeds.{went_on}
+use Rattle.js_machine_natives.proofs.Native_deeds.{went_on}
 use Rattle.js_machine_natives.proofs.natives.resume_native.Goals as goal
 
 pub returns : goal.returns

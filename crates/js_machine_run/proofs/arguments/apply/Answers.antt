@@ -1,6 +1,6 @@
 use Rattle.js_machine.specs.declared.frame.Purpose.TheVariants as purpose
 use Rattle.js_machine.proofs.Called_laws.{applies}
-use Rattle.js_machine.proofs.Native_deeds.{native_applied}
+use Rattle.js_machine_natives.proofs.Native_deeds.{native_applied}
 use Rattle.js_machine_run.proofs.arguments.apply.Goals as goal
 
 pub returns-in-Call : goal.returns-in-Call

@@ -3,7 +3,7 @@ use Rattle.js_run.specs.Completions.{Replied}
 use Rattle.js_run.specs.Going.{go_on}
 use Rattle.js_machine.specs.Views.{next_of_wait, next_of_want, party_of}
 use Rattle.js_machine.specs.declared.asked.Wait.TheVariants as wait
-use Rattle.js_machine.proofs.Native_deeds.{in_case}
+use Rattle.js_machine.proofs.In_cases.{in_case}
 use Rattle.js_machine_natives.proofs.Wanted_numbers.{wakes_by}
 use Rattle.js_machine_run.proofs.decisions.wake.Goals as goal
 use Rattle.js_machine_modules.proofs.Evaluates.{exports_woken}

@@ -1,6 +1,6 @@
 use Rattle.std.proofs.Common.{IfOk, ℤ, ◌≡◌, subst, w64}
 use Rattle.std.proofs.lemmas.Int.{to_z-of_z}
-use Rattle.js_operators.specs.Operating.{integer_operation}
+use Rattle.js_operation.specs.Operating.{integer_operation}
 use Rattle.js_operators.proofs.Operator_deeds.{integer_ok}
 use Rattle.js_operators.proofs.integers.integer_operation.Goals as goal
 

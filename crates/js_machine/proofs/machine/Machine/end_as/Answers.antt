@@ -1,7 +1,7 @@
 use Rattle.js_desc.specs.declared.decision.EndKind.TheVariants as end
 use Rattle.js_run.specs.Acts.{End}
 use Rattle.js_run.specs.Following.{halt_of}
-use Rattle.js_machine.proofs.Native_deeds.{in_case}
+use Rattle.js_machine.proofs.In_cases.{in_case}
 use Rattle.js_machine.proofs.machine.Machine.end_as.Goals as goal
 
 pub returns-in-Number : goal.returns-in-Number

@@ -1,5 +1,5 @@
 use Rattle.std.proofs.Common.{◌∙◌, ap}
-use Rattle.js_world.specs.Shows.{shows_reply}
+use Rattle.js_crossing.specs.Shows.{shows_reply}
 use Rattle.js_world.proofs.Given_laws.{given}
 use Rattle.js_world.proofs.world.World.give_away.Goals as goal
 

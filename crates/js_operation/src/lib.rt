@@ -1,0 +1,9 @@
+// What an operator does with its operands' values, as its function says it (ECMA-262, "Unary Operators" to "Binary Bitwise Operators").
+//
+// - `operation` has `Operation`, which says what an operator does, and `Computed`, what is computed of values that are no objects.
+//
+// js_operators has the operators. Definitions are in specs/: `Computing` and `Operating` mirror its code, and `Deeds` says what of js_run's definitions each
+// `Operation` stands for.
+#![tactic(auto)]
+
+pub mod operation;

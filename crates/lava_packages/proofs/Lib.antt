@@ -1,0 +1,2 @@
+pub mod In_range
+pub mod Firsts

@@ -1,0 +1,4 @@
+pub mod Commons
+pub mod Modules
+pub mod Packages
+pub mod Uncaught

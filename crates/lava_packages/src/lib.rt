@@ -1,0 +1,15 @@
+//! The packages of an application as the machine of all parties runs them, over the common part.
+//!
+//! - `common` has the common part, `modules` the modules as the machine runs them, `packages` the packages with what a policy grants them.
+//! - `first` has the machine of all parties before they run, and `names` the names of the parties.
+//! - `uncaught` has what a run throws that nothing catches.
+//!
+//! Definitions are in specs/: `Commons`, `Modules`, `Packages` and `Uncaught` have what belongs to the files of these names.
+#![tactic(auto)]
+
+pub mod common;
+pub mod first;
+pub mod modules;
+pub mod names;
+pub mod packages;
+pub mod uncaught;

@@ -1,0 +1,24 @@
+// How the run of an application ended.
+
+use js_crossing::ending::Ending;
+use lava_base::list::List;
+use lava_host::fault::Which;
+
+/// What is put to the output.
+#[derive(Clone, Copy, Debug, PartialEq, Eq)]
+pub enum Mode {
+    /// What `console` prints.
+    Emit,
+    /// The trace of the run, at its end. What `console` prints goes nowhere.
+    Trace,
+}
+
+/// How a run ended.
+#[derive(Drop)]
+pub struct Report {
+    pub ending: Ending,
+    /// The thrown value as `console` prints it, where the ending is `Uncaught`.
+    pub uncaught: Option<List<u8>>,
+    /// The object of the outside whose call failed, where one did.
+    pub which: Option<Which>,
+}
