@@ -1,10 +1,15 @@
 #!/usr/bin/env python3
-"""Holds crates.txt to what the crates cite: each line is to have every crate that its code, definitions and proofs name, and no other.
+"""Holds crates.txt to what the crates cite: each line is to have every crate that begins a path in its code, definitions and proofs, and no other.
+
+A crate below another one that is listed is reached through that one, `js_machine::js_run::intrinsics` and `Rattle.js_machine.specs.js_run.Heap`, where
+the lines `pub use` of its src/lib.rt and specs/Lib.antt pass it on.
 
   .ci/cited.py           says what lacks and what is too much
   .ci/cited.py --write   adds what lacks (what is too much is taken out by hand)
+  .ci/cited.py --paths   prints how many paths there are from each crate, and in all
 
-`rt ci` walks each path of crates.txt for each import of a clause before any proof, so a crate that is not cited costs time.
+`rt ci` makes a sum of all files below a library, once for each path of crates.txt that leads there, twice: 5 ms a path. So how many paths there are
+(`--paths`) is to stay below some 200,000 in all: list a large crate only where no other that is listed stands above it.
 """
 import os
 import re
@@ -33,7 +38,7 @@ def main():
     status = 0
     for name in own:
         text = text_of(name)
-        is_cited = lambda it: re.search(rf"\b{it}::|Rattle\.{it}\.", text)
+        is_cited = lambda it: re.search(rf"(?<![\w:.]){it}::|Rattle\.{it}\.|^pub use {it};", text, re.M)
         cited = {it for it in [*own, *kit] if it != name and is_cited(it)}
         # (a crate of the toolchain may be cited by way of another one)
         lacks, more = {it for it in cited if it in own} - {*listed[name]}, {*listed[name]} - cited
@@ -42,6 +47,12 @@ def main():
             print(f"{name}: lacks {' '.join(sorted(lacks)) or 'none'}; cites no {' '.join(sorted(more)) or 'more'}")
         first = [it for it in own if it in lacks or it in listed[name]]
         listed[name] = first + [it for it in listed[name] if it not in own]
+    if "--paths" in sys.argv:
+        paths = {}
+        for name in own:
+            paths[name] = 1 + sum(paths[it] for it in listed[name] if it in own)
+            print(f"{paths[name]:8} {name}")
+        print(f"{sum(paths.values()):8} in all")
     if "--write" in sys.argv:
         with open(f"{TOP}/crates.txt", "w", encoding="utf-8") as it:
             it.writelines(f"{name}: {' '.join(listed[name])}".rstrip() + "\n" for name in own)

@@ -9,3 +9,5 @@
 pub mod conversions;
 pub mod next;
 pub mod primitives;
+
+pub use js_operations;

@@ -27,10 +27,10 @@ use Rattle.js_desc.specs.declared.reply.Reply.{Reply}
 use Rattle.js_desc.specs.declared.reply.Reply.TheVariants as reply
 use Rattle.js_store.specs.Foreign.{marks_of}
 use Rattle.js_store.specs.Objects.{object_at, plain_marks}
-use Rattle.js_run.specs.Identities.{IsAmong}
-use Rattle.js_run.specs.Journal.{Application, Crossing, find_mark, foreign_of, table_of}
-use Rattle.js_run.specs.Local.{marks_of_place, own_marks}
-use Rattle.js_run.specs.Parties.{Party}
+use Rattle.js_machine.specs.js_run.Identities.{IsAmong}
+use Rattle.js_machine.specs.js_run.Journal.{Application, Crossing, find_mark, foreign_of, table_of}
+use Rattle.js_machine.specs.js_run.Local.{marks_of_place, own_marks}
+use Rattle.js_machine.specs.js_run.Parties.{Party}
 use Rattle.js_machine.specs.Looks.{marks_at, marks_in}
 use Rattle.js_machine.specs.Views.{View}
 use Rattle.js_crossing.specs.Newest.{all_references, ask_references, descriptor_references, field_references, marks_at_crossing, maybe_references, option_references, partial_references, property_references, references_in, reply_references, value_references, with_their_marks}

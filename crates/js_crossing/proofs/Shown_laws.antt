@@ -25,9 +25,9 @@ use Rattle.js_desc.specs.declared.reply.Reply.{Reply}
 use Rattle.js_desc.specs.declared.reply.Reply.TheVariants as reply
 use Rattle.js_store.specs.Foreign.{with_marks}
 use Rattle.js_store.specs.Objects.{object_at}
-use Rattle.js_run.specs.Journal.{find_mark, or_added, with_mark, with_marks_of}
-use Rattle.js_run.specs.Local.{marks_of_place, own_marks}
-use Rattle.js_run.specs.Parties.{Party}
+use Rattle.js_machine.specs.js_run.Journal.{find_mark, or_added, with_mark, with_marks_of}
+use Rattle.js_machine.specs.js_run.Local.{marks_of_place, own_marks}
+use Rattle.js_machine.specs.js_run.Parties.{Party}
 use Rattle.js_machine.specs.Shown.{all_known, shown, shown_at}
 use Rattle.js_machine.specs.Views.{View}
 use Rattle.js_crossing.specs.Shows.{makes_none, shows, shows_ask, shows_descriptor, shows_field, shows_maybe, shows_option, shows_partial, shows_property, shows_reply, shows_value, shows_values, with_table}

@@ -19,9 +19,9 @@ use Rattle.js_desc.specs.declared.descriptor.PartialDescriptor.{PartialDescripto
 use Rattle.js_desc.specs.declared.reply.Reply.{Reply}
 use Rattle.js_desc.specs.declared.reply.Reply.TheVariants as reply
 use Rattle.js_store.specs.Objects.{object_at, plain_marks}
-use Rattle.js_run.specs.Identities.{Message, Requests, Replies, message_identities}
-use Rattle.js_run.specs.Journal.{Application, Crossing, find_mark, owner_of, table_of}
-use Rattle.js_run.specs.Runs.{Asks, Imports, Makes}
+use Rattle.js_machine.specs.js_run.Identities.{Message, Requests, Replies, message_identities}
+use Rattle.js_machine.specs.js_run.Journal.{Application, Crossing, find_mark, owner_of, table_of}
+use Rattle.js_machine.specs.js_run.Runs.{Asks, Imports, Makes}
 use Rattle.js_machine.specs.Looks.{marks_in}
 use Rattle.js_machine.specs.Views.{View}
 use Rattle.js_crossing.specs.declared.newest.TracedCrossing.{TracedCrossing}

@@ -10,3 +10,6 @@ pub mod leads;
 pub mod newest;
 mod references;
 pub mod shows;
+
+pub use js_machine;
+pub use js_machine::js_run;

@@ -1,7 +1,7 @@
 // The newest crossing, kept while crossings are traced.
 
 ghost use Rattle.std.specs.Prelude.{◌≡◌, ◌∷◌, IfOk};
-ghost use Rattle.js_run.specs.Journal.{owner_of};
+ghost use Rattle.js_machine.specs.js_run.Journal.{owner_of};
 ghost use Rattle.js_machine.specs.Looks.{marks_in};
 ghost use Rattle.js_crossing.specs.Newest.{ask_references, reply_references, traced_ask, traced_import, traced_reply, with_their_marks};
 

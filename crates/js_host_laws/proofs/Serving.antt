@@ -15,8 +15,8 @@ use Rattle.js_desc.specs.declared.reply.Reply.{Reply}
 use Rattle.js_store.specs.Objects.{object_at}
 use Rattle.js_store.specs.declared.slot.Slot.TheVariants as slot
 use Rattle.js_ordinary.specs.Origins.{object_of}
-use Rattle.js_exotic.specs.Decided.{decided, decided_there}
-use Rattle.js_exotic.specs.Verdicts.{ExoticDecision}
+use Rattle.js_run.specs.js_exotic.Decided.{decided, decided_there}
+use Rattle.js_run.specs.js_exotic.Verdicts.{ExoticDecision}
 use Rattle.js_run.specs.Acts.{Act}
 use Rattle.js_run.specs.Completions.{Replied}
 use Rattle.js_run.specs.Decisions.{decides, decides_by_slot, follows_with}

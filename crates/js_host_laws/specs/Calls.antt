@@ -14,7 +14,7 @@ use Rattle.js_desc.specs.declared.reply.Reply.{Reply}
 use Rattle.js_desc.specs.declared.reply.Reply.TheVariants as reply
 use Rattle.js_store.specs.Frozen.{CommonObject}
 use Rattle.js_store.specs.Objects.{Object, object_at}
-use Rattle.js_exotic.specs.Decided.{decided}
+use Rattle.js_run.specs.js_exotic.Decided.{decided}
 use Rattle.js_run.specs.Completions as halt
 use Rattle.js_run.specs.Completions.{Halt}
 use Rattle.js_run.specs.Faults.{error_object}

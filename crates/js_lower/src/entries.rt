@@ -19,8 +19,8 @@ ghost use Rattle.js_lower_table.specs.Table as table;
 
 use crate::templates::template_row;
 use js_frames::scopes::Scopes;
-use js_lower_expr::expressions::expr_row;
-use js_lower_patterns::patterns::bind_row;
+use js_lower_stmt::js_lower_expr::expressions::expr_row;
+use js_lower_stmt::js_lower_patterns::patterns::bind_row;
 use js_lower_stmt::statements::stmt_row;
 use js_lower_table::lowerer::Lowerer;
 use js_lower_table::task::Task;

@@ -7,3 +7,5 @@ pub mod assignments;
 mod below;
 pub mod expressions;
 pub mod updates;
+
+pub use js_lower_calls;

@@ -7,3 +7,6 @@
 mod below;
 pub mod bound;
 pub mod patterns;
+
+pub use js_lower_expr;
+pub use js_lower_expr::js_lower_calls;

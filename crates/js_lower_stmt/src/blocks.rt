@@ -25,7 +25,7 @@ use crate::below::{lower_bind, lower_named, lower_stmt, lower_template};
 use crate::frames::{block_frame, is_var};
 use js_frames::frame::Frame;
 use js_frames::scopes::Scopes;
-use js_lower_calls::functions::{class_term, named_class};
+use js_lower_patterns::js_lower_calls::functions::{class_term, named_class};
 use js_lower_table::bindings::{init, set};
 use js_lower_table::bound_value::BoundValue;
 use js_lower_table::lowerer::Lowerer;

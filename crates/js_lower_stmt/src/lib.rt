@@ -11,3 +11,6 @@ pub mod clauses;
 pub mod frames;
 pub mod loops;
 pub mod statements;
+
+pub use js_lower_patterns;
+pub use js_lower_patterns::{js_lower_calls, js_lower_expr};

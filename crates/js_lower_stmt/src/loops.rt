@@ -27,7 +27,7 @@ use crate::blocks::{declaration, one};
 use crate::frames::{for_frame, is_var, target_assigned, target_frame, target_pattern};
 use js_frames::frame::Frame;
 use js_frames::scopes::Scopes;
-use js_lower_calls::functions::maybe_expr;
+use js_lower_patterns::js_lower_calls::functions::maybe_expr;
 use js_lower_patterns::patterns::opened;
 use js_lower_table::bound_value::BoundValue;
 use js_lower_table::commons::{FOR_IN, OPEN};

@@ -26,7 +26,7 @@ use crate::blocks::{block, class_declaration, declaration, maybe_one, one};
 use crate::clauses::{switch, try_statement};
 use crate::loops::{for_in, for_of, for_term, while_loop};
 use js_frames::scopes::Scopes;
-use js_lower_calls::functions::maybe_expr;
+use js_lower_patterns::js_lower_calls::functions::maybe_expr;
 use js_lower_table::lowerer::Lowerer;
 use js_lower_table::task::Task;
 use js_lower_table::words::word;

@@ -11,14 +11,14 @@ use Rattle.js_code.specs.Decoded.{arguments_at, term_at}
 use Rattle.js_desc.specs.declared.ask.Ask.TheVariants as ask
 use Rattle.js_desc.specs.declared.fault.FaultText.TheVariants as fault
 use Rattle.js_desc.specs.declared.reply.Reply.TheVariants as reply
-use Rattle.js_run.specs.Acts.{Next, asks, give, with_value}
-use Rattle.js_run.specs.Asking.{calls}
-use Rattle.js_run.specs.Calls.{binds_this, constructs_by, super_called, super_constructs}
-use Rattle.js_run.specs.Control.{argument_values}
-use Rattle.js_run.specs.Faults.{faults}
-use Rattle.js_run.specs.Parties.{first_body, replaces_body, running}
-use Rattle.js_run.specs.Properties.{get_above, on_this, super_base, with_this}
-use Rattle.js_run.specs.Rows.{call_super_key, super_key}
+use Rattle.js_operation.specs.js_run.Acts.{Next, asks, give, with_value}
+use Rattle.js_operation.specs.js_run.Asking.{calls}
+use Rattle.js_operation.specs.js_run.Calls.{binds_this, constructs_by, super_called, super_constructs}
+use Rattle.js_operation.specs.js_run.Control.{argument_values}
+use Rattle.js_operation.specs.js_run.Faults.{faults}
+use Rattle.js_operation.specs.js_run.Parties.{first_body, replaces_body, running}
+use Rattle.js_operation.specs.js_run.Properties.{get_above, on_this, super_base, with_this}
+use Rattle.js_operation.specs.js_run.Rows.{call_super_key, super_key}
 use Rattle.js_machine.specs.Conversions.{BecomesKey, KeyReaches, ReadsSuper, super_frame}
 use Rattle.js_machine.specs.Decisions.{object_of_value}
 use Rattle.js_machine.specs.Keys.{plain_key}

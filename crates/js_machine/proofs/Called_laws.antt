@@ -10,11 +10,11 @@ use Rattle.js_desc.specs.declared.ask.Ask.{Ask}
 use Rattle.js_desc.specs.declared.ask.Ask.TheVariants as ask
 use Rattle.js_desc.specs.declared.fault.FaultText.{FaultText}
 use Rattle.js_desc.specs.declared.fault.FaultText.TheVariants as fault
-use Rattle.js_run.specs.Acts.{asks, give, with_value}
-use Rattle.js_run.specs.Asking.{calls}
-use Rattle.js_run.specs.Calls.{constructs_itself}
-use Rattle.js_run.specs.Faults.{faults}
-use Rattle.js_run.specs.Runs.{answered}
+use Rattle.js_operation.specs.js_run.Acts.{asks, give, with_value}
+use Rattle.js_operation.specs.js_run.Asking.{calls}
+use Rattle.js_operation.specs.js_run.Calls.{constructs_itself}
+use Rattle.js_operation.specs.js_run.Faults.{faults}
+use Rattle.js_operation.specs.js_run.Runs.{answered}
 use Rattle.js_machine.specs.Decisions.{object_of_value}
 use Rattle.js_machine.specs.Looks.{marks_in}
 use Rattle.js_machine.specs.Steps.{LeadsTo, WaitsFor, settles, without_top}

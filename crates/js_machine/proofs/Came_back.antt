@@ -6,11 +6,11 @@ use Rattle.js_text.specs.Naming.{naming_of}
 use Rattle.js_text.specs.declared.value.Value.{Value}
 use Rattle.js_text.specs.declared.value.Value.TheVariants as value
 use Rattle.js_code.specs.Tables.{Tables}
-use Rattle.js_run.specs.Acts.{Act, give}
-use Rattle.js_run.specs.Bodies.{built, closed, constructed, derived_constructed, returned, this_of}
-use Rattle.js_run.specs.Going.{go_on}
-use Rattle.js_run.specs.Parties.{Party, first_body}
-use Rattle.js_run.specs.Runs.{answered}
+use Rattle.js_operation.specs.js_run.Acts.{Act, give}
+use Rattle.js_operation.specs.js_run.Bodies.{built, closed, constructed, derived_constructed, returned, this_of}
+use Rattle.js_operation.specs.js_run.Going.{go_on}
+use Rattle.js_operation.specs.js_run.Parties.{Party, first_body}
+use Rattle.js_operation.specs.js_run.Runs.{answered}
 use Rattle.js_machine.specs.Bodies.{OpenBodies}
 use Rattle.js_machine.specs.Opened.{returned_value, without_body}
 use Rattle.js_machine.specs.Steps.{IsDelivered, LeadsTo, over, settles, under}

@@ -7,10 +7,10 @@ use Rattle.js_text.specs.declared.value.Key.TheVariants as key
 use Rattle.js_text.specs.declared.value.Value.{Value}
 use Rattle.js_code.specs.Decoded.{text_at}
 use Rattle.js_store.specs.declared.slot.Lexical.{Lexical}
-use Rattle.js_run.specs.Acts.{Act, give}
-use Rattle.js_run.specs.Bodies.{run_template}
-use Rattle.js_run.specs.Parties.{first_body}
-use Rattle.js_run.specs.Properties.{get_global, missing_global, on_this}
+use Rattle.js_operation.specs.js_run.Acts.{Act, give}
+use Rattle.js_operation.specs.js_run.Bodies.{run_template}
+use Rattle.js_operation.specs.js_run.Parties.{first_body}
+use Rattle.js_operation.specs.js_run.Properties.{get_global, missing_global, on_this}
 use Rattle.js_machine.specs.Opened.{template_of}
 use Rattle.js_machine.specs.Steps.{LeadsTo}
 use Rattle.js_machine.specs.Views.{Around, View, args_on, party_of}

@@ -17,11 +17,11 @@ use Rattle.js_store.specs.Objects.{Object}
 use Rattle.js_store.specs.declared.slot.Lexical.{Lexical}
 use Rattle.js_store.specs.declared.slot.Slot.{Slot}
 use Rattle.js_store.specs.declared.slot.Slot.TheVariants as slot
-use Rattle.js_run.specs.Acts.{Act}
-use Rattle.js_run.specs.Bodies.{outer_scope, run_function, run_slot, run_template}
-use Rattle.js_run.specs.Faults.{faults}
-use Rattle.js_run.specs.Parties.{Party, Shared, template_at}
-use Rattle.js_run.specs.Runs.{answered}
+use Rattle.js_operation.specs.js_run.Acts.{Act}
+use Rattle.js_operation.specs.js_run.Bodies.{outer_scope, run_function, run_slot, run_template}
+use Rattle.js_operation.specs.js_run.Faults.{faults}
+use Rattle.js_operation.specs.js_run.Parties.{Party, Shared, template_at}
+use Rattle.js_operation.specs.js_run.Runs.{answered}
 use Rattle.js_term.specs.declared.term.Template.{Template}
 use Rattle.js_machine.specs.Called.{template_numbered}
 use Rattle.js_machine.specs.Closures.{closure_in, outer_of, runs_closure}

@@ -11,12 +11,12 @@ use Rattle.js_text.specs.declared.value.Value.{Value}
 use Rattle.js_text.specs.declared.value.Value.TheVariants as value
 use Rattle.js_desc.specs.declared.ask.Ask.TheVariants as ask
 use Rattle.js_desc.specs.declared.fault.FaultText.TheVariants as fault
-use Rattle.js_run.specs.Acts.{Act, asks, asks_value, with_value}
-use Rattle.js_run.specs.Conversions.{method_names, primitive_to_key}
-use Rattle.js_run.specs.Faults.{faults}
-use Rattle.js_run.specs.Operators.{to_primitive}
-use Rattle.js_run.specs.Parties.{Party, Shared}
-use Rattle.js_run.specs.Properties.{has_set}
+use Rattle.js_operation.specs.js_run.Acts.{Act, asks, asks_value, with_value}
+use Rattle.js_operation.specs.js_run.Conversions.{method_names, primitive_to_key}
+use Rattle.js_operation.specs.js_run.Faults.{faults}
+use Rattle.js_operation.specs.js_run.Operators.{to_primitive}
+use Rattle.js_operation.specs.js_run.Parties.{Party, Shared}
+use Rattle.js_operation.specs.js_run.Properties.{has_set}
 use Rattle.js_operation.specs.Deeds.{Does, act_of, becomes_key, rest_deed}
 use Rattle.js_operation.specs.declared.operation.Operation.{Operation}
 use Rattle.js_operation.specs.declared.operation.Rest.{Rest}

@@ -12,10 +12,10 @@ use Rattle.js_desc.specs.declared.descriptor.Change.{Change}
 use Rattle.js_store.specs.Objects.{Object, at_place, with_change}
 use Rattle.js_code.specs.Decoded.{template_at, term_at}
 use Rattle.js_term.specs.declared.term.Template.{Template}
-use Rattle.js_run.specs.Acts.{give}
-use Rattle.js_run.specs.Functions.{function_made, is_plain, method_made, plain_function_made}
-use Rattle.js_run.specs.Completions.{Replied}
-use Rattle.js_run.specs.Runs.{Gives}
+use Rattle.js_operation.specs.js_run.Acts.{give}
+use Rattle.js_operation.specs.js_run.Functions.{function_made, is_plain, method_made, plain_function_made}
+use Rattle.js_operation.specs.js_run.Completions.{Replied}
+use Rattle.js_operation.specs.js_run.Runs.{Gives}
 use Rattle.js_desc.specs.declared.reply.Reply.TheVariants as reply
 use Rattle.js_machine.specs.Made.{function_of, function_prototype, instance_prototype, next_number, next_own, prototype_property, row_of, second_own, with_function_by}
 use Rattle.js_machine.specs.Steps.{LeadsTo, settles}

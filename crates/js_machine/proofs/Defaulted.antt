@@ -8,7 +8,7 @@ use Rattle.js_code.specs.Settled.{Extends, Grows, IsFront}
 use Rattle.js_code.specs.Tables.{Tables, part_of}
 use Rattle.js_code.specs.declared.node.ClassRow.{ClassRow}
 use Rattle.js_code.specs.declared.node.TemplateRow.{TemplateRow}
-use Rattle.js_run.specs.Parts.{class_template}
+use Rattle.js_operation.specs.js_run.Parts.{class_template}
 use Rattle.js_term.specs.declared.term.Template.{Template, out-Template, out-roll-Template}
 use Rattle.js_machine.specs.Constructors.{IsTemplateOf}
 use Rattle.js_machine.specs.Defaults.{AreDefaults, IsDefault, IsDefaultOf, is_derived}

@@ -12,11 +12,11 @@ use Rattle.js_desc.specs.declared.descriptor.PartialDescriptor.{PartialDescripto
 use Rattle.js_desc.specs.declared.fault.FaultText.TheVariants as fault
 use Rattle.js_ordinary.specs.Origins.{object_of}
 use Rattle.js_store.specs.Objects.{Object, ordinary_get_own_property}
-use Rattle.js_run.specs.Acts.{Act}
-use Rattle.js_run.specs.Faults.{faults}
-use Rattle.js_run.specs.Functions.{length_read, own_data}
-use Rattle.js_run.specs.Parties.{Party}
-use Rattle.js_run.specs.Parts.{adds_hole, adds_item, defined, defines, with_count, with_item, with_property}
+use Rattle.js_operation.specs.js_run.Acts.{Act}
+use Rattle.js_operation.specs.js_run.Faults.{faults}
+use Rattle.js_operation.specs.js_run.Functions.{length_read, own_data}
+use Rattle.js_operation.specs.js_run.Parties.{Party}
+use Rattle.js_operation.specs.js_run.Parts.{adds_hole, adds_item, defined, defines, with_count, with_item, with_property}
 use Rattle.js_machine.specs.Definitions as w
 use Rattle.js_machine.specs.Definitions.{HasHole, HasItem, HasOtherObjects, IsDefined, definition, with_changed, with_hole}
 use Rattle.js_machine.specs.Views.{Around, View, fitting, party_of}

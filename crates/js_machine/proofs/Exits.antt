@@ -3,11 +3,11 @@ use Rattle.std.proofs.Common.{◌≡◌, ℕ, Bool, true, false, None, replicate
 use Rattle.js_text.specs.Texts.{same_units}
 use Rattle.js_text.specs.declared.value.Value.TheVariants as value
 use Rattle.js_code.specs.Decoded.{term_at, text_at}
-use Rattle.js_run.specs.Acts.{End, Give, give}
-use Rattle.js_run.specs.Completions.{Breaks, Continues}
-use Rattle.js_run.specs.Control.{inside}
-use Rattle.js_run.specs.Parties.{refreshed}
-use Rattle.js_run.specs.Runs.{Ended}
+use Rattle.js_operation.specs.js_run.Acts.{End, Give, give}
+use Rattle.js_operation.specs.js_run.Completions.{Breaks, Continues}
+use Rattle.js_operation.specs.js_run.Control.{inside}
+use Rattle.js_operation.specs.js_run.Parties.{refreshed}
+use Rattle.js_operation.specs.js_run.Runs.{Ended}
 use Rattle.js_machine.specs.Bodies.{scope_of, stood_in}
 use Rattle.js_machine.specs.Halts.{halt_coded, halt_number}
 use Rattle.js_machine.specs.Steps.{IsDelivered, LeadsTo, Waits}

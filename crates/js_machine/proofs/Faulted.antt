@@ -13,10 +13,10 @@ use Rattle.js_desc.specs.declared.fault.FaultText.{FaultText}
 use Rattle.js_desc.specs.declared.fault.NativeError.{NativeError}
 use Rattle.js_text.specs.declared.fault.TextFault.TheVariants as fault
 use Rattle.std.specs.Result.{IsErrOf}
-use Rattle.js_run.specs.Acts.{Act, End, throws}
-use Rattle.js_run.specs.Completions as halt_kind
-use Rattle.js_run.specs.Faults.{error_marks, error_object, error_prototype, faults}
-use Rattle.js_run.specs.Parties.{made}
+use Rattle.js_operation.specs.js_run.Acts.{Act, End, throws}
+use Rattle.js_operation.specs.js_run.Completions as halt_kind
+use Rattle.js_operation.specs.js_run.Faults.{error_marks, error_object, error_prototype, faults}
+use Rattle.js_operation.specs.js_run.Parties.{made}
 use Rattle.lava_base.specs.Ids.{same_made_symbol}
 use Rattle.js_text.specs.declared.value.Key.{Key}
 use Rattle.js_desc.specs.declared.descriptor.Change.TheVariants as change

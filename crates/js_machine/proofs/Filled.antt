@@ -11,7 +11,7 @@ use Rattle.js_text.specs.declared.value.Value.TheVariants as value
 use Rattle.js_state.specs.Scopes.{Scope, with_slot}
 use Rattle.js_code.specs.Tables.{part_of}
 use Rattle.js_code.specs.declared.node.TemplateRow.{TemplateRow}
-use Rattle.js_run.specs.Functions.{given_slots, other_slots, start_slot}
+use Rattle.js_operation.specs.js_run.Functions.{given_slots, other_slots, start_slot}
 use Rattle.js_machine.specs.Filling.{Slots, argument_at, bound_from, scope_with, started_in, with_open_scope}
 use Rattle.js_machine.specs.Views.{args_on, Values, View, below, top}
 use Rattle.js_machine.proofs.Dropped.{drop_below}

@@ -10,16 +10,16 @@ use Rattle.js_desc.specs.declared.decision.BodyId.{BodyId}
 use Rattle.js_desc.specs.declared.decision.Decision.TheVariants as decision
 use Rattle.js_desc.specs.declared.reply.Reply.{Reply}
 use Rattle.js_desc.specs.declared.reply.Reply.TheVariants as reply
-use Rattle.js_exotic.specs.Decided.{decided, exotic_resumed}
-use Rattle.js_exotic.specs.Verdicts.{ExoticDecision, as_exotic}
-use Rattle.js_exotic.specs.declared.next.Next.{Next as ExoticNext}
+use Rattle.js_operation.specs.js_exotic.Decided.{decided, exotic_resumed}
+use Rattle.js_operation.specs.js_exotic.Verdicts.{ExoticDecision, as_exotic}
+use Rattle.js_operation.specs.js_exotic.declared.next.Next.{Next as ExoticNext}
 use Rattle.js_ordinary.specs.Verdicts.{OrdinaryDecision}
-use Rattle.js_run.specs.Decisions.{decides, decides_object, follows, follows_once, follows_with, goes_on, primitive_decided, with_objects}
-use Rattle.js_exotic.specs.declared.next.Next.TheVariants as exotic
+use Rattle.js_operation.specs.js_run.Decisions.{decides, decides_object, follows, follows_once, follows_with, goes_on, primitive_decided, with_objects}
+use Rattle.js_operation.specs.js_exotic.declared.next.Next.TheVariants as exotic
 use Rattle.js_ordinary.specs.declared.next.Next.{Next as OrdinaryNext}
 use Rattle.js_store.specs.Objects.{Object}
-use Rattle.js_run.specs.Completions.{Replied}
-use Rattle.js_run.specs.Going.{go_on}
+use Rattle.js_operation.specs.js_run.Completions.{Replied}
+use Rattle.js_operation.specs.js_run.Going.{go_on}
 use Rattle.js_machine.specs.Decisions.{object_of_value}
 use Rattle.js_machine.specs.Steps.{IsDecided, IsDelivered, LeadsTo, Wakes, over, under, without_top}
 use Rattle.js_machine.specs.Views.{View, first_wait, party_of, reply_of_answer, top, waits_under}

@@ -18,9 +18,9 @@ use Rattle.js_store.specs.Frozen.{CommonObject, common_ref}
 use Rattle.js_store.specs.Objects.{Object}
 use Rattle.js_store.specs.declared.slot.Slot.{Slot}
 use Rattle.js_store.specs.declared.slot.Slot.TheVariants as slot
-use Rattle.js_run.specs.Acts.{give, inherits_from}
-use Rattle.js_run.specs.Faults.{faults}
-use Rattle.js_run.specs.Operators.{has_instance, has_instance_by, prototype_inherited, unbound, unbound_by}
+use Rattle.js_operation.specs.js_run.Acts.{give, inherits_from}
+use Rattle.js_operation.specs.js_run.Faults.{faults}
+use Rattle.js_operation.specs.js_run.Operators.{has_instance, has_instance_by, prototype_inherited, unbound, unbound_by}
 use Rattle.js_machine.specs.Decisions.{object_of_value}
 use Rattle.js_machine.specs.Instances.{bound_target, bound_target_in, unbound_in}
 use Rattle.js_machine.specs.Replies.{deed_replied}

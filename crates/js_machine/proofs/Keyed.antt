@@ -8,11 +8,11 @@ use Rattle.js_text.specs.declared.value.Value.{Value}
 use Rattle.js_code.specs.Decoded.{arguments_at, term_at}
 use Rattle.js_desc.specs.declared.ask.Ask.TheVariants as ask
 use Rattle.js_term.specs.declared.term.Arguments.{Arguments}
-use Rattle.js_run.specs.Acts.{asks_value, with_value}
-use Rattle.js_run.specs.Calls.{calls_with}
-use Rattle.js_run.specs.Rows.{call_on_key}
-use Rattle.js_run.specs.Truth.{is_nullish}
-use Rattle.js_run.specs.Properties.{to_key}
+use Rattle.js_operation.specs.js_run.Acts.{asks_value, with_value}
+use Rattle.js_operation.specs.js_run.Calls.{calls_with}
+use Rattle.js_operation.specs.js_run.Rows.{call_on_key}
+use Rattle.js_operation.specs.js_run.Truth.{is_nullish}
+use Rattle.js_operation.specs.js_run.Properties.{to_key}
 use Rattle.js_machine.specs.Conversions.{BecomesKey, KeyReaches, ReadsMethod}
 use Rattle.js_machine.specs.Keys.{plain_key}
 use Rattle.js_machine.specs.Steps.{LeadsTo, WaitsForValue, with_top, without_top}

@@ -5,17 +5,17 @@ use Rattle.lava_base.specs.declared.ids.MadeSymbol.{MadeSymbol}
 use Rattle.lava_base.specs.declared.ids.Ref.{Ref}
 use Rattle.js_text.specs.Naming.{naming_of}
 use Rattle.js_text.specs.declared.value.Value.{Value}
-use Rattle.js_run.specs.Acts.{Become, Evaluate, Give, Turned, give}
-use Rattle.js_run.specs.Operators.{short_value}
+use Rattle.js_operation.specs.js_run.Acts.{Become, Evaluate, Give, Turned, give}
+use Rattle.js_operation.specs.js_run.Operators.{short_value}
 use Rattle.js_text.specs.declared.value.Value.TheVariants as value
 use Rattle.js_tree.specs.declared.operator.LogicalOperator.{LogicalOperator}
 use Rattle.js_tree.specs.declared.operator.LogicalOperator.TheVariants as logical
-use Rattle.js_run.specs.Control.{branch, otherwise}
-use Rattle.js_run.specs.Truth.{is_nullish, to_boolean}
+use Rattle.js_operation.specs.js_run.Control.{branch, otherwise}
+use Rattle.js_operation.specs.js_run.Truth.{is_nullish, to_boolean}
 use Rattle.js_code.specs.Decoded.{layer_of, term_at}
 use Rattle.js_code.specs.declared.node.Node.{Node}
-use Rattle.js_run.specs.Rows.{row_at}
-use Rattle.js_run.specs.Runs.{answered}
+use Rattle.js_operation.specs.js_run.Rows.{row_at}
+use Rattle.js_operation.specs.js_run.Runs.{answered}
 use Rattle.js_term.specs.declared.term.Term.{out-Term}
 use Rattle.js_machine.specs.Views.{View, completion_with, fitting, has_value, keeps_left, party_of, top, turns_at}
 use Rattle.js_machine.specs.Steps.{Deed, Pays, Waits, WaitsWith, deed_with, IsBegun, IsDelivered, LeadsTo, deed_of_frame, deed_of_row, settles, under, with_top, without_top}

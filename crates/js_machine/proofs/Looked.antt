@@ -8,10 +8,10 @@ use Rattle.js_text.specs.Naming.{Naming, Origin, Own, Common, Foreign, naming_of
 use Rattle.js_text.specs.declared.value.Value.{Value}
 use Rattle.js_text.specs.declared.value.Value.TheVariants as value
 use Rattle.js_desc.specs.declared.ask.Ask.{Ask}
-use Rattle.js_run.specs.Acts.{Act, Next}
-use Rattle.js_run.specs.Asking.{see_marks, see_there}
-use Rattle.js_run.specs.Parties.{Party}
-use Rattle.js_run.specs.Runs.{Asks, Decides, Due, Sends, answered, marks_there}
+use Rattle.js_operation.specs.js_run.Acts.{Act, Next}
+use Rattle.js_operation.specs.js_run.Asking.{see_marks, see_there}
+use Rattle.js_operation.specs.js_run.Parties.{Party}
+use Rattle.js_operation.specs.js_run.Runs.{Asks, Decides, Due, Sends, answered, marks_there}
 use Rattle.js_store.specs.Objects.{Object, fresh, object_at, plain_marks}
 use Rattle.js_store.specs.declared.slot.Slot.TheVariants as slot
 use Rattle.js_machine.specs.Looks.{foreign_at, foreign_in, marks_at, marks_in}

@@ -4,8 +4,8 @@ use Rattle.lava_base.specs.declared.ids.MadeSymbol.{MadeSymbol}
 use Rattle.lava_base.specs.declared.ids.Ref.{Ref}
 use Rattle.js_text.specs.Naming.{naming_of}
 use Rattle.js_text.specs.declared.value.Value.{Value}
-use Rattle.js_run.specs.Properties.{delete_property, put_property}
-use Rattle.js_run.specs.Rows.{get_key}
+use Rattle.js_operation.specs.js_run.Properties.{delete_property, put_property}
+use Rattle.js_operation.specs.js_run.Rows.{get_key}
 use Rattle.js_machine.specs.Steps.{LeadsTo, deed_with, under, without_top}
 use Rattle.js_machine.specs.Views.{Values, View, below, party_of, top}
 use Rattle.js_machine.specs.declared.frame.Frame.TheVariants as frame

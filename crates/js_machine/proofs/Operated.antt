@@ -10,12 +10,12 @@ use Rattle.js_text.specs.declared.value.Value.{Value}
 use Rattle.js_text.specs.declared.value.Value.TheVariants as value
 use Rattle.js_native.specs.declared.costs.TheConstants.{UNITS_A_STEP}
 use Rattle.js_tree.specs.declared.operator.BinaryOperator.{BinaryOperator}
-use Rattle.js_run.specs.Acts.{Act, End, Pay, Then, give}
-use Rattle.js_run.specs.Asking.{see_callable}
-use Rattle.js_run.specs.Completions as halt
-use Rattle.js_run.specs.Operators.{binary_value, given_text, pays}
-use Rattle.js_run.specs.Parties.{Party, Shared}
-use Rattle.js_run.specs.Runs.{answered}
+use Rattle.js_operation.specs.js_run.Acts.{Act, End, Pay, Then, give}
+use Rattle.js_operation.specs.js_run.Asking.{see_callable}
+use Rattle.js_operation.specs.js_run.Completions as halt
+use Rattle.js_operation.specs.js_run.Operators.{binary_value, given_text, pays}
+use Rattle.js_operation.specs.js_run.Parties.{Party, Shared}
+use Rattle.js_operation.specs.js_run.Runs.{answered}
 use Rattle.js_operation.specs.Deeds.{Does, MachineAct, MachineNaming, MachineParty, act_of}
 use Rattle.js_operation.specs.declared.operation.Operation.{Operation}
 use Rattle.js_machine.specs.Looks.{marks_in}

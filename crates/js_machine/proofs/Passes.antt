@@ -7,18 +7,18 @@ use Rattle.js_text.specs.declared.value.Value.{Value}
 use Rattle.js_text.specs.declared.value.Value.TheVariants as value
 use Rattle.js_code.specs.Decoded.{term_at, terms_of, text_at, arguments_at, parts_of}
 use Rattle.js_code.specs.Tables.{Tables}
-use Rattle.js_run.specs.Acts.{Act, Evaluate, Give, Tested, Turned, give, on_flag, on_prototype, on_value, throws}
-use Rattle.js_run.specs.Completions.{Completion}
-use Rattle.js_run.specs.Calls.{calls_with}
-use Rattle.js_run.specs.Control.{all_values, finally_ends, in_order, listed, returns}
-use Rattle.js_run.specs.Going.{go_on}
-use Rattle.js_run.specs.Operators.{binary_value, unary_value}
-use Rattle.js_run.specs.Parties.{Party, Shared}
-use Rattle.js_run.specs.Parts.{define_on}
-use Rattle.js_run.specs.Properties.{delete_property, init_slot, put_global, put_property, set_slot}
-use Rattle.js_run.specs.Rows.{binary_left, delete_object, get_key, get_object, if_test, put_key, put_object, short_left, super_key, call_on_object, new_callee}
-use Rattle.js_run.specs.Runs.{Gives, answered, settle}
-use Rattle.js_run.specs.Truth.{to_boolean}
+use Rattle.js_operation.specs.js_run.Acts.{Act, Evaluate, Give, Tested, Turned, give, on_flag, on_prototype, on_value, throws}
+use Rattle.js_operation.specs.js_run.Completions.{Completion}
+use Rattle.js_operation.specs.js_run.Calls.{calls_with}
+use Rattle.js_operation.specs.js_run.Control.{all_values, finally_ends, in_order, listed, returns}
+use Rattle.js_operation.specs.js_run.Going.{go_on}
+use Rattle.js_operation.specs.js_run.Operators.{binary_value, unary_value}
+use Rattle.js_operation.specs.js_run.Parties.{Party, Shared}
+use Rattle.js_operation.specs.js_run.Parts.{define_on}
+use Rattle.js_operation.specs.js_run.Properties.{delete_property, init_slot, put_global, put_property, set_slot}
+use Rattle.js_operation.specs.js_run.Rows.{binary_left, delete_object, get_key, get_object, if_test, put_key, put_object, short_left, super_key, call_on_object, new_callee}
+use Rattle.js_operation.specs.js_run.Runs.{Gives, answered, settle}
+use Rattle.js_operation.specs.js_run.Truth.{to_boolean}
 use Rattle.js_machine.specs.Views.{Around, Values, View, Waits, below, completion_with, fitting, has_value, has_wait, is_abrupt, knows, next_over, nexts_of, owned, party_of, rest_of, takes_values, top, turns_at, values_without, applied, args_on, holding_on, next_of, next_part_of}
 use Rattle.js_machine.specs.Classes.{parent_comes, prototype_comes}
 use Rattle.js_machine.specs.Parts.{part_at, part_comes, part_valued, parts_go, reference_in}
@@ -27,7 +27,7 @@ use Rattle.js_machine.specs.declared.frame.Frame.{Frame}
 use Rattle.js_machine.specs.declared.frame.Frame.TheVariants as frame
 use Rattle.js_machine.specs.declared.frame.Mode.{Mode}
 use Rattle.js_machine.specs.declared.frame.Mode.TheVariants as mode
-use Rattle.js_run.specs.Rows.{call_on_key, call_super_key}
+use Rattle.js_operation.specs.js_run.Rows.{call_on_key, call_super_key}
 use Rattle.js_machine.specs.Views.{super_method}
 
 module _ (names : Naming Ref MadeSymbol) (shared : Shared) (c : Tables) (v : Value Ref MadeSymbol) where

@@ -6,13 +6,13 @@ use Rattle.js_text.specs.Naming.{Origin, Own, Common, Foreign, naming_of}
 use Rattle.js_text.specs.declared.value.Value.{Value}
 use Rattle.js_text.specs.declared.value.Value.TheVariants as value
 use Rattle.js_desc.specs.declared.ask.Ask.{Ask}
-use Rattle.js_run.specs.Acts.{Closes, End, Give, ask_there, asks}
-use Rattle.js_run.specs.Asking.{waits_for}
-use Rattle.js_run.specs.Completions as halt_kind
-use Rattle.js_run.specs.Completions.{Replied}
-use Rattle.js_run.specs.Parties.{deeper}
-use Rattle.js_run.specs.Runs.{answered, sent_there, settle}
-use Rattle.js_run.specs.declared.TheConstants.{MAX_DEPTH}
+use Rattle.js_operation.specs.js_run.Acts.{Closes, End, Give, ask_there, asks}
+use Rattle.js_operation.specs.js_run.Asking.{waits_for}
+use Rattle.js_operation.specs.js_run.Completions as halt_kind
+use Rattle.js_operation.specs.js_run.Completions.{Replied}
+use Rattle.js_operation.specs.js_run.Parties.{deeper}
+use Rattle.js_operation.specs.js_run.Runs.{answered, sent_there, settle}
+use Rattle.js_operation.specs.js_run.declared.TheConstants.{MAX_DEPTH}
 use Rattle.js_machine.specs.Steps.{LeadsTo, WaitsFor, WaitsForValue, asked_there, over}
 use Rattle.js_machine.specs.Views.{Around, View, fitting, next_of_wait, nexts_of, party_of, reply_of_answer, rest_of, waits_under}
 use Rattle.js_machine.specs.declared.asked.Answer.{Answer}

@@ -12,13 +12,13 @@ use Rattle.js_code.specs.declared.node.TemplateRow.{TemplateRow}
 use Rattle.js_term.specs.declared.term.Template.{out-Template}
 use Rattle.js_term.specs.declared.term.Term.{Term}
 use Rattle.js_state.specs.Scopes.{with_slot}
-use Rattle.js_run.specs.Acts.{End, Evaluate}
-use Rattle.js_run.specs.Bodies.{prepared}
-use Rattle.js_run.specs.Completions as halt_kind
-use Rattle.js_run.specs.Functions.{argument_slots, given_slots, other_slots, rest_arguments, array_of}
-use Rattle.js_run.specs.Parties as parties
-use Rattle.js_run.specs.Parties.{Party, deeper, made}
-use Rattle.js_run.specs.declared.TheConstants.{MAX_DEPTH}
+use Rattle.js_operation.specs.js_run.Acts.{End, Evaluate}
+use Rattle.js_operation.specs.js_run.Bodies.{prepared}
+use Rattle.js_operation.specs.js_run.Completions as halt_kind
+use Rattle.js_operation.specs.js_run.Functions.{argument_slots, given_slots, other_slots, rest_arguments, array_of}
+use Rattle.js_operation.specs.js_run.Parties as parties
+use Rattle.js_operation.specs.js_run.Parties.{Party, deeper, made}
+use Rattle.js_operation.specs.js_run.declared.TheConstants.{MAX_DEPTH}
 use Rattle.js_machine.specs.Bodies.{running_of}
 use Rattle.js_machine.specs.Filling.{scope_with, with_arguments, with_open_scope}
 use Rattle.js_machine.specs.Made.{next_own, row_of}

@@ -3,7 +3,7 @@ use Rattle.std.proofs.Common.{◌≡◌, ℕ, ◌+◌, ◌-◌, ◌≤◌, [], �
 use Rattle.std.proofs.lemmas.List.{drop_all, reverse-reverse}
 use Rattle.lava_base.specs.declared.ids.Ref.{Ref}
 use Rattle.js_text.specs.Naming.{naming_of}
-use Rattle.js_run.specs.Functions.{array_of}
+use Rattle.js_operation.specs.js_run.Functions.{array_of}
 use Rattle.js_code.specs.declared.node.TemplateRow.{TemplateRow}
 use Rattle.js_machine.specs.Made.{next_own, row_of, with_object}
 use Rattle.js_machine.specs.Opened.{with_rest}

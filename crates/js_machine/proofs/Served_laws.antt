@@ -6,11 +6,11 @@ use Rattle.js_text.specs.Naming.{Origin, Own, Common, Foreign, naming_of}
 use Rattle.js_text.specs.declared.value.Value.{Value}
 use Rattle.js_text.specs.declared.value.Value.TheVariants as value
 use Rattle.js_desc.specs.declared.ask.Ask.{Ask}
-use Rattle.js_run.specs.Acts.{Next, throws}
-use Rattle.js_run.specs.Local.{serves_at}
-use Rattle.js_run.specs.NativeTurns.{served_units}
-use Rattle.js_run.specs.Parties.{Party}
-use Rattle.js_run.specs.Runs.{Decides, Due, Point, answered, settle}
+use Rattle.js_operation.specs.js_run.Acts.{Next, throws}
+use Rattle.js_operation.specs.js_run.Local.{serves_at}
+use Rattle.js_operation.specs.js_run.NativeTurns.{served_units}
+use Rattle.js_operation.specs.js_run.Parties.{Party}
+use Rattle.js_operation.specs.js_run.Runs.{Decides, Due, Point, answered, settle}
 use Rattle.js_machine.specs.Looks.{foreign_at}
 use Rattle.js_machine.specs.Served.{IsServed}
 use Rattle.js_machine.specs.Steps.{LeadsTo, point_of}

@@ -2,7 +2,7 @@
 use Rattle.std.proofs.Common.{◌≡◌, ℕ, ◌<◌, ◌-◌, true, List, [], ◌∷◌, length, get_or, reverse, Some, None, refl, sym, ap, ◌∙◌, arith}
 use Rattle.std.proofs.lemmas.Bool.{eqb-true}
 use Rattle.std.proofs.lemmas.List.{get_or-reverse, length-reverse}
-use Rattle.js_run.specs.Parties.{first_body}
+use Rattle.js_operation.specs.js_run.Parties.{first_body}
 use Rattle.js_machine.specs.Bodies.{bodies_of, is_grounded, running_of, scope_of, stood_in}
 use Rattle.js_machine.specs.declared.body.Body.{Body}
 

@@ -9,16 +9,16 @@ use Rattle.js_text.specs.Naming.{Naming, Origin, Own, Common, Foreign, naming_of
 use Rattle.js_text.specs.declared.value.Value.{Value}
 use Rattle.js_desc.specs.declared.ask.Ask.{Ask}
 use Rattle.js_desc.specs.declared.ask.Ask.TheVariants as ask
-use Rattle.js_exotic.specs.Decided.{decided}
+use Rattle.js_operation.specs.js_exotic.Decided.{decided}
 use Rattle.js_ordinary.specs.Origins.{object_of, there}
 use Rattle.js_ordinary.specs.Targets.{object_seen, origin_of_target}
 use Rattle.js_ordinary.specs.declared.target.Target.{Target}
-use Rattle.js_run.specs.Acts.{Act}
-use Rattle.js_run.specs.Decisions.{called_at, decides_ask, decides_by_slot, decides_object, follows_with}
-use Rattle.js_run.specs.Parties.{Party, Shared}
+use Rattle.js_operation.specs.js_run.Acts.{Act}
+use Rattle.js_operation.specs.js_run.Decisions.{called_at, decides_ask, decides_by_slot, decides_object, follows_with}
+use Rattle.js_operation.specs.js_run.Parties.{Party, Shared}
 use Rattle.js_store.specs.Frozen.{CommonObject, as_read, common_ref}
 use Rattle.js_store.specs.Objects.{Object, fresh, object_at, plain_marks}
-use Rattle.js_run.specs.Runs.{answered}
+use Rattle.js_operation.specs.js_run.Runs.{answered}
 use Rattle.js_store.specs.declared.slot.Entry.{Entry}
 use Rattle.js_store.specs.declared.slot.Held.TheVariants as held
 use Rattle.js_store.specs.declared.slot.Slot.{Slot}

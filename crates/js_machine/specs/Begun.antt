@@ -4,8 +4,8 @@ use Rattle.lava_base.specs.declared.ids.MadeSymbol.{MadeSymbol}
 use Rattle.lava_base.specs.declared.ids.Ref.{Ref}
 use Rattle.js_text.specs.declared.value.Value.{Value}
 use Rattle.js_code.specs.Tables.{Tables}
-use Rattle.js_run.specs.Outside.{OutsideCall}
-use Rattle.js_run.specs.Parties as parties
+use Rattle.js_operation.specs.js_run.Outside.{OutsideCall}
+use Rattle.js_operation.specs.js_run.Parties as parties
 use Rattle.js_state.specs.Scopes.{Scope, no_scope}
 use Rattle.js_store.specs.Objects.{Object, Owned}
 use Rattle.js_store.specs.Frozen.{CommonObject}

@@ -2,8 +2,8 @@
 use Rattle.std.specs.Prelude.{ℕ, Bool, nat_eq, List, [], ◌∷◌, Option, Some, None}
 use Rattle.lava_base.specs.declared.ids.MadeSymbol.{MadeSymbol}
 use Rattle.lava_base.specs.declared.ids.Ref.{Ref}
-use Rattle.js_run.specs.Parties as parties
-use Rattle.js_run.specs.Parties.{first_body, no_body, replaces_body}
+use Rattle.js_operation.specs.js_run.Parties as parties
+use Rattle.js_operation.specs.js_run.Parties.{first_body, no_body, replaces_body}
 use Rattle.js_machine.specs.declared.body.Body.{Body}
 
 abbrev pub OpenBodies : Type 0

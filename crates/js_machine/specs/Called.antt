@@ -7,8 +7,8 @@ use Rattle.js_store.specs.declared.slot.Lexical.{Lexical}
 use Rattle.js_term.specs.declared.term.Template.{Template}
 use Rattle.js_term.specs.declared.term.TemplateKind.{TemplateKind}
 use Rattle.js_term.specs.declared.term.TemplateKind.TheVariants as kind
-use Rattle.js_run.specs.Parties as parties
-use Rattle.js_run.specs.Parties.{no_template}
+use Rattle.js_operation.specs.js_run.Parties as parties
+use Rattle.js_operation.specs.js_run.Parties.{no_template}
 use Rattle.js_machine.specs.Views.{View, templates_at}
 
 -- the constructor of a class is not called

@@ -7,9 +7,9 @@ use Rattle.js_text.specs.declared.value.Value.{Value}
 use Rattle.js_desc.specs.declared.decision.BodyId.{BodyId}
 use Rattle.js_store.specs.declared.slot.Slot.{Slot}
 use Rattle.js_store.specs.declared.slot.Slot.TheVariants as slot
-use Rattle.js_run.specs.Acts.{Act}
-use Rattle.js_run.specs.Bodies.{run_template}
-use Rattle.js_run.specs.Parties.{Party, Shared, template_at}
+use Rattle.js_operation.specs.js_run.Acts.{Act}
+use Rattle.js_operation.specs.js_run.Bodies.{run_template}
+use Rattle.js_operation.specs.js_run.Parties.{Party, Shared, template_at}
 use Rattle.js_machine.specs.declared.closures.Closure.{Closure}
 
 -- what a slot keeps for a function of a source

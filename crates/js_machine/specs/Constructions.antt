@@ -8,12 +8,12 @@ use Rattle.js_text.specs.declared.value.Value.TheVariants as value
 use Rattle.js_store.specs.Frozen.{common_ref}
 use Rattle.js_term.specs.declared.term.Template.{Template}
 use Rattle.js_term.specs.declared.term.TemplateKind.{TemplateKind}
-use Rattle.js_run.specs.Acts.{Act}
-use Rattle.js_run.specs.Bodies.{body_of, constructed, prepared, prototype_or, returned, runs_body}
-use Rattle.js_run.specs.Functions.{next_object, ordinary}
-use Rattle.js_run.specs.Parties as parties
-use Rattle.js_run.specs.Parties.{Party, Shared, made}
-use Rattle.js_run.specs.declared.intrinsics.TheConstants.{OBJECT_PROTOTYPE}
+use Rattle.js_operation.specs.js_run.Acts.{Act}
+use Rattle.js_operation.specs.js_run.Bodies.{body_of, constructed, prepared, prototype_or, returned, runs_body}
+use Rattle.js_operation.specs.js_run.Functions.{next_object, ordinary}
+use Rattle.js_operation.specs.js_run.Parties as parties
+use Rattle.js_operation.specs.js_run.Parties.{Party, Shared, made}
+use Rattle.js_operation.specs.js_run.declared.intrinsics.TheConstants.{OBJECT_PROTOTYPE}
 use Rattle.js_machine.specs.declared.asked.Construction.{Construction}
 
 -- the prototype of what is constructed, where this value came for it

@@ -11,8 +11,8 @@ use Rattle.js_desc.specs.declared.descriptor.Descriptor.TheVariants.{Data}
 use Rattle.js_code.specs.Decoded.{template_at, term_at, text_at}
 use Rattle.js_code.specs.declared.node.ClassRow.{ClassRow}
 use Rattle.js_store.specs.Objects.{Object}
-use Rattle.js_run.specs.Functions.{constructor_property, ordinary, prototype_key}
-use Rattle.js_run.specs.Parts.{class_template}
+use Rattle.js_operation.specs.js_run.Functions.{constructor_property, ordinary, prototype_key}
+use Rattle.js_operation.specs.js_run.Parts.{class_template}
 use Rattle.js_machine.specs.Classes.{constructor_of}
 use Rattle.js_machine.specs.Made.{next_own, second_own, with_function, with_object}
 use Rattle.js_machine.specs.Views.{Around, View}

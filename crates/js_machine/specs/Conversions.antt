@@ -8,10 +8,10 @@ use Rattle.js_text.specs.declared.value.Value.{Value}
 use Rattle.js_text.specs.declared.value.Value.TheVariants as value
 use Rattle.js_desc.specs.declared.ask.Ask.TheVariants as ask
 use Rattle.js_code.specs.Decoded.{arguments_at, term_at}
-use Rattle.js_run.specs.Acts.{asks, asks_value, with_value}
-use Rattle.js_run.specs.Calls.{calls_with}
-use Rattle.js_run.specs.Conversions.{to_primitive}
-use Rattle.js_run.specs.Properties.{to_key, with_this}
+use Rattle.js_operation.specs.js_run.Acts.{asks, asks_value, with_value}
+use Rattle.js_operation.specs.js_run.Calls.{calls_with}
+use Rattle.js_operation.specs.js_run.Conversions.{to_primitive}
+use Rattle.js_operation.specs.js_run.Properties.{to_key, with_this}
 use Rattle.js_machine.specs.Looks.{marks_in}
 use Rattle.js_machine.specs.Steps.{LeadsTo, over}
 use Rattle.js_machine.specs.Views.{View, as_text, becomes, goal_deed, goal_held, key_deed, key_held, method_gave, method_got, party_of}

@@ -4,9 +4,9 @@ use Rattle.js_text.specs.Naming.{naming_of}
 use Rattle.js_text.specs.declared.native.Native.TheVariants as native
 use Rattle.js_code.specs.Decoded.{template_at, term_at}
 use Rattle.js_code.specs.Tables.{Tables}
-use Rattle.js_run.specs.Parties.{Shared, no_template}
-use Rattle.js_run.specs.Parts.{class_template}
-use Rattle.js_run.specs.declared.intrinsics.TheConstants.{ARRAY_PROTOTYPE}
+use Rattle.js_operation.specs.js_run.Parties.{Shared, no_template}
+use Rattle.js_operation.specs.js_run.Parts.{class_template}
+use Rattle.js_operation.specs.js_run.declared.intrinsics.TheConstants.{ARRAY_PROTOTYPE}
 use Rattle.js_term.specs.declared.term.Arguments.TheVariants as arguments
 use Rattle.js_term.specs.declared.term.Literal.TheVariants as literal
 use Rattle.js_term.specs.declared.term.Part.TheVariants as part

@@ -17,11 +17,11 @@ use Rattle.js_desc.specs.declared.descriptor.Descriptor.TheVariants.{Data}
 use Rattle.js_desc.specs.declared.descriptor.PartialDescriptor.{PartialDescriptor}
 use Rattle.js_store.specs.Objects.{Object, at_place, object_at, ordinary_get_own_property, with_change}
 use Rattle.js_desc.specs.declared.fault.FaultText.TheVariants as fault
-use Rattle.js_run.specs.Acts.{Act}
-use Rattle.js_run.specs.Faults.{faults}
-use Rattle.js_run.specs.Functions.{data_or_undefined, length_read, own_data}
-use Rattle.js_run.specs.Parties.{Party}
-use Rattle.js_run.specs.Parts.{adds_hole, adds_item, defines, is_array}
+use Rattle.js_operation.specs.js_run.Acts.{Act}
+use Rattle.js_operation.specs.js_run.Faults.{faults}
+use Rattle.js_operation.specs.js_run.Functions.{data_or_undefined, length_read, own_data}
+use Rattle.js_operation.specs.js_run.Parties.{Party}
+use Rattle.js_operation.specs.js_run.Parts.{adds_hole, adds_item, defines, is_array}
 use Rattle.js_machine.specs.Parts.{parts_go, spread_helper}
 use Rattle.js_machine.specs.Views.{Around, View, fitting, party_of}
 use Rattle.js_machine.specs.Ways.{object_in}

@@ -7,12 +7,12 @@ use Rattle.js_text.specs.declared.value.Value.{Value}
 use Rattle.js_text.specs.declared.value.Value.TheVariants as value
 use Rattle.js_desc.specs.declared.ask.Ask.TheVariants as ask
 use Rattle.js_store.specs.Objects.{Object}
-use Rattle.js_run.specs.Acts.{Act, Closes, Import, give, with_value}
-use Rattle.js_run.specs.Asking.{open_one, waits_for}
-use Rattle.js_run.specs.Functions.{open_property, plain_object, source_slots}
-use Rattle.js_run.specs.Modules.{exports_key, imports, not_allowed, require_function}
-use Rattle.js_run.specs.Parties.{Loaded, Party}
-use Rattle.js_run.specs.Runs.{answered, settle}
+use Rattle.js_operation.specs.js_run.Acts.{Act, Closes, Import, give, with_value}
+use Rattle.js_operation.specs.js_run.Asking.{open_one, waits_for}
+use Rattle.js_operation.specs.js_run.Functions.{open_property, plain_object, source_slots}
+use Rattle.js_operation.specs.js_run.Modules.{exports_key, imports, not_allowed, require_function}
+use Rattle.js_operation.specs.js_run.Parties.{Loaded, Party}
+use Rattle.js_operation.specs.js_run.Runs.{answered, settle}
 use Rattle.js_machine.specs.Filling.{scope_with}
 use Rattle.js_machine.specs.Made.{with_object}
 use Rattle.js_machine.specs.Opened.{template_of, without_body}

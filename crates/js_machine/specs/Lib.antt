@@ -38,3 +38,13 @@ pub mod Collecting
 pub mod SlotAsks
 pub mod SlotSteps
 pub mod Defaults
+pub use Rattle.js_operation.specs.js_exotic
+pub use Rattle.js_operation.specs.js_operations
+pub use Rattle.js_operation.specs.js_traps
+pub use Rattle.js_operation.specs.js_proxy
+pub use Rattle.js_operation.specs.js_conversions
+pub use Rattle.js_operation.specs.js_slot_natives
+pub use Rattle.js_operation.specs.js_maker_natives
+pub use Rattle.js_operation.specs.js_run
+pub use Rattle.js_operation.specs as js_operation
+pub use Rattle.js_native_steps.specs as js_native_steps

@@ -13,9 +13,9 @@ use Rattle.js_store.specs.Objects.{Object}
 use Rattle.js_store.specs.declared.slot.Slot.{Slot}
 use Rattle.js_store.specs.declared.slot.Slot.TheVariants as slot
 use Rattle.js_term.specs.declared.term.TemplateKind.{TemplateKind}
-use Rattle.js_run.specs.Functions.{constructor_property, constructs, function_marks, function_property, home_of, lexical_of, plain_object, prototype_key}
-use Rattle.js_run.specs.Parties.{first_body}
-use Rattle.js_run.specs.declared.intrinsics.TheConstants.{FUNCTION_PROTOTYPE}
+use Rattle.js_operation.specs.js_run.Functions.{constructor_property, constructs, function_marks, function_property, home_of, lexical_of, plain_object, prototype_key}
+use Rattle.js_operation.specs.js_run.Parties.{first_body}
+use Rattle.js_operation.specs.js_run.declared.intrinsics.TheConstants.{FUNCTION_PROTOTYPE}
 use Rattle.js_machine.specs.Bodies.{scope_of}
 use Rattle.js_machine.specs.Views.{View}
 

@@ -8,12 +8,12 @@ use Rattle.js_text.specs.declared.value.Value.TheVariants as value
 use Rattle.js_code.specs.Decoded.{template_at, term_at}
 use Rattle.js_term.specs.declared.term.Template.{Template}
 use Rattle.js_term.specs.declared.term.Term.{Term}
-use Rattle.js_run.specs.Acts.{Act, Evaluate, Next}
-use Rattle.js_run.specs.Asking.{open_one}
-use Rattle.js_run.specs.Bodies.{other_bodies}
-use Rattle.js_run.specs.Functions.{argument_slots, array_of, rest_arguments}
-use Rattle.js_run.specs.Parties as parties
-use Rattle.js_run.specs.Parties.{Party}
+use Rattle.js_operation.specs.js_run.Acts.{Act, Evaluate, Next}
+use Rattle.js_operation.specs.js_run.Asking.{open_one}
+use Rattle.js_operation.specs.js_run.Bodies.{other_bodies}
+use Rattle.js_operation.specs.js_run.Functions.{argument_slots, array_of, rest_arguments}
+use Rattle.js_operation.specs.js_run.Parties as parties
+use Rattle.js_operation.specs.js_run.Parties.{Party}
 use Rattle.js_machine.specs.Bodies.{running_of}
 use Rattle.js_machine.specs.Filling.{scope_with}
 use Rattle.js_machine.specs.Made.{next_own, with_object}

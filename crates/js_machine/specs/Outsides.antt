@@ -7,8 +7,8 @@ use Rattle.js_text.specs.declared.value.Value.{Value}
 use Rattle.js_text.specs.declared.value.Value.TheVariants as value
 use Rattle.js_desc.specs.declared.ask.Ask.{Ask}
 use Rattle.js_desc.specs.declared.ask.Ask.TheVariants as ask
-use Rattle.js_run.specs.Hosts.{printed_marks, printed_primitive}
-use Rattle.js_run.specs.Outside.{OutsideAnswer, OutsideCall, AnswersText, AnswersNumber, AnswersTruth, AnswersNull, AnswersUndefined, Fails, IsGone}
+use Rattle.js_operation.specs.js_run.Hosts.{printed_marks, printed_primitive}
+use Rattle.js_operation.specs.js_run.Outside.{OutsideAnswer, OutsideCall, AnswersText, AnswersNumber, AnswersTruth, AnswersNull, AnswersUndefined, Fails, IsGone}
 use Rattle.js_machine.specs.Looks.{marks_in}
 use Rattle.js_machine.specs.Steps.{Keeps, point_of}
 use Rattle.js_machine.specs.Views.{Around, Values, View, fitting}

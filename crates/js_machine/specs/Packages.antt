@@ -5,7 +5,7 @@ use Rattle.lava_base.specs.declared.ids.Ref.{Ref}
 use Rattle.js_text.specs.declared.value.Value.{Value}
 use Rattle.js_code.specs.Decoded.{template_at, term_at}
 use Rattle.js_code.specs.Tables.{Tables}
-use Rattle.js_run.specs.Parties.{Loaded}
+use Rattle.js_operation.specs.js_run.Parties.{Loaded}
 use Rattle.js_machine.specs.declared.package.Module.{Module}
 
 pub record Package : Type 0 where

@@ -12,12 +12,12 @@ use Rattle.js_code.specs.Decoded.{parts_of, template_at, term_at}
 use Rattle.js_code.specs.Tables.{Tables}
 use Rattle.js_code.specs.declared.node.PartRow.{PartRow}
 use Rattle.js_code.specs.declared.node.PartRow.TheVariants as part_row
-use Rattle.js_run.specs.Acts.{Act, Evaluate, give, with_value}
-use Rattle.js_run.specs.Functions.{method_made, next_object}
-use Rattle.js_run.specs.Parties.{Party, Shared}
-use Rattle.js_run.specs.Parts.{Holders, adds_item, data_part, defines, defines_parts, getter_part, holder, setter_part, spreads}
-use Rattle.js_run.specs.Properties.{to_key}
-use Rattle.js_run.specs.declared.intrinsics.TheConstants.{COPY, INTO}
+use Rattle.js_operation.specs.js_run.Acts.{Act, Evaluate, give, with_value}
+use Rattle.js_operation.specs.js_run.Functions.{method_made, next_object}
+use Rattle.js_operation.specs.js_run.Parties.{Party, Shared}
+use Rattle.js_operation.specs.js_run.Parts.{Holders, adds_item, data_part, defines, defines_parts, getter_part, holder, setter_part, spreads}
+use Rattle.js_operation.specs.js_run.Properties.{to_key}
+use Rattle.js_operation.specs.js_run.declared.intrinsics.TheConstants.{COPY, INTO}
 use Rattle.js_machine.specs.declared.holding.FunctionPart.{FunctionPart}
 use Rattle.js_machine.specs.declared.holding.FunctionPart.TheVariants as function_part
 use Rattle.js_machine.specs.declared.holding.Holding.{Holding}

@@ -6,11 +6,11 @@ use Rattle.lava_base.specs.declared.marks.Marks.{Marks}
 use Rattle.js_text.specs.Naming.{Naming, Origin, Own, Common, Foreign, naming_of}
 use Rattle.js_desc.specs.declared.reply.Reply.{Reply}
 use Rattle.js_desc.specs.declared.reply.Reply.TheVariants as reply
-use Rattle.js_proxy.specs.Decided.{decided}
+use Rattle.js_operation.specs.js_proxy.Decided.{decided}
 use Rattle.js_store.specs.Objects.{plain_marks}
 use Rattle.js_store.specs.declared.slot.Slot.{Slot}
 use Rattle.js_store.specs.declared.slot.Slot.TheVariants as slot
-use Rattle.js_traps.specs.TrapDecisions.{ProxyDecision}
+use Rattle.js_operation.specs.js_traps.TrapDecisions.{ProxyDecision}
 use Rattle.js_machine.specs.Decisions.{object_of_value}
 use Rattle.js_machine.specs.Looks.{marks_in}
 use Rattle.js_machine.specs.Views.{View}

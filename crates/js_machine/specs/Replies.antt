@@ -3,8 +3,8 @@ use Rattle.lava_base.specs.declared.ids.MadeSymbol.{MadeSymbol}
 use Rattle.lava_base.specs.declared.ids.Ref.{Ref}
 use Rattle.js_text.specs.Naming.{naming_of}
 use Rattle.js_desc.specs.declared.reply.Reply.{Reply}
-use Rattle.js_run.specs.Completions.{Replied}
-use Rattle.js_run.specs.Going.{go_on}
+use Rattle.js_operation.specs.js_run.Completions.{Replied}
+use Rattle.js_operation.specs.js_run.Going.{go_on}
 use Rattle.js_machine.specs.Steps.{Deed, over}
 use Rattle.js_machine.specs.Views.{View, party_of}
 use Rattle.js_machine.specs.declared.frame.Frame.{Frame}

@@ -13,12 +13,12 @@ use Rattle.js_desc.specs.declared.fault.FaultText.TheVariants as fault
 use Rattle.js_store.specs.declared.slot.Held.TheVariants as held
 use Rattle.js_store.specs.declared.slot.Slot.{Slot}
 use Rattle.js_store.specs.declared.slot.Slot.TheVariants as slot
-use Rattle.js_run.specs.Acts.{Act}
-use Rattle.js_run.specs.Faults.{error_object, faults}
-use Rattle.js_run.specs.Modules.{mapped, path_of, requires_by}
-use Rattle.js_run.specs.Parties.{Party}
-use Rattle.js_run.specs.Requests.{candidates, first_of, is_scope, joined_parts, parts_of, walked}
-use Rattle.js_run.specs.declared.intrinsics.TheConstants.{ERROR_PROTOTYPE}
+use Rattle.js_operation.specs.js_run.Acts.{Act}
+use Rattle.js_operation.specs.js_run.Faults.{error_object, faults}
+use Rattle.js_operation.specs.js_run.Modules.{mapped, path_of, requires_by}
+use Rattle.js_operation.specs.js_run.Parties.{Party}
+use Rattle.js_operation.specs.js_run.Requests.{candidates, first_of, is_scope, joined_parts, parts_of, walked}
+use Rattle.js_operation.specs.js_run.declared.intrinsics.TheConstants.{ERROR_PROTOTYPE}
 use Rattle.js_machine.specs.Views.{Values, View}
 use Rattle.js_machine.specs.declared.package.Module.{Module}
 

@@ -4,7 +4,7 @@ use Rattle.lava_base.specs.declared.ids.MadeSymbol.{MadeSymbol}
 use Rattle.lava_base.specs.declared.ids.Ref.{Ref}
 use Rattle.js_text.specs.Naming.{naming_of}
 use Rattle.js_desc.specs.declared.ask.Ask.{Ask}
-use Rattle.js_run.specs.Local.{serves_at}
+use Rattle.js_operation.specs.js_run.Local.{serves_at}
 use Rattle.js_machine.specs.Views.{Around, View, fitting, party_of}
 use Rattle.js_machine.specs.Steps.{Keeps, point_of}
 use Rattle.js_machine.specs.declared.frame.Mode.{Mode}

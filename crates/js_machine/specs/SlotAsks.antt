@@ -14,20 +14,20 @@ use Rattle.js_desc.specs.declared.decision.Decision.TheVariants as decision
 use Rattle.js_desc.specs.declared.fault.FaultText.{FaultText}
 use Rattle.js_desc.specs.declared.fault.FaultText.TheVariants as fault
 use Rattle.js_desc.specs.declared.reply.Reply.TheVariants as reply
-use Rattle.js_maker_natives.specs.Kinds.{is_array}
-use Rattle.js_maker_natives.specs.MakerDecisions.{MakerDecision}
-use Rattle.js_maker_natives.specs.declared.next.Next.TheVariants as maker
+use Rattle.js_operation.specs.js_maker_natives.Kinds.{is_array}
+use Rattle.js_operation.specs.js_maker_natives.MakerDecisions.{MakerDecision}
+use Rattle.js_operation.specs.js_maker_natives.declared.next.Next.TheVariants as maker
 use Rattle.js_native_steps.specs.Steps.{waits_as}
 use Rattle.js_native_steps.specs.declared.next.NativeNext.{NativeNext}
 use Rattle.js_native_steps.specs.declared.next.NativeNext.TheVariants as native_next
-use Rattle.js_run.specs.Acts.{Act, give}
-use Rattle.js_run.specs.Asking.{object_here, open_one}
-use Rattle.js_run.specs.Faults.{faults}
-use Rattle.js_run.specs.NativeTurns.{charged}
-use Rattle.js_run.specs.Parties.{Party, Shared}
-use Rattle.js_run.specs.SlotNatives.{asks_slot, charged_unless_sent, slot_tells}
-use Rattle.js_slot_natives.specs.SlotNatives.{SlotDecision, slot_native}
-use Rattle.js_slot_natives.specs.declared.next.Next.TheVariants as slot_next
+use Rattle.js_operation.specs.js_run.Acts.{Act, give}
+use Rattle.js_operation.specs.js_run.Asking.{object_here, open_one}
+use Rattle.js_operation.specs.js_run.Faults.{faults}
+use Rattle.js_operation.specs.js_run.NativeTurns.{charged}
+use Rattle.js_operation.specs.js_run.Parties.{Party, Shared}
+use Rattle.js_operation.specs.js_run.SlotNatives.{asks_slot, charged_unless_sent, slot_tells}
+use Rattle.js_operation.specs.js_slot_natives.SlotNatives.{SlotDecision, slot_native}
+use Rattle.js_operation.specs.js_slot_natives.declared.next.Next.TheVariants as slot_next
 use Rattle.js_machine.specs.declared.slot_asks.SlotStep.{SlotStep}
 use Rattle.js_machine.specs.declared.slot_asks.SlotStep.TheVariants as step
 

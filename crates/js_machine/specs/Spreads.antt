@@ -5,7 +5,7 @@ use Rattle.lava_base.specs.declared.ids.Ref.{Ref}
 use Rattle.js_text.specs.Naming.{naming_of}
 use Rattle.js_text.specs.declared.value.Value.{Value}
 use Rattle.js_text.specs.declared.value.Value.TheVariants as value
-use Rattle.js_run.specs.Functions.{items_of}
+use Rattle.js_operation.specs.js_run.Functions.{items_of}
 use Rattle.js_machine.specs.Views.{Values, View}
 use Rattle.js_machine.specs.Ways.{object_in}
 

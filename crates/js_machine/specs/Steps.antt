@@ -13,15 +13,15 @@ use Rattle.js_desc.specs.declared.reply.Reply.{Reply}
 use Rattle.js_desc.specs.declared.reply.Reply.TheVariants as reply
 use Rattle.js_code.specs.Decoded.{layer_of, term_at}
 use Rattle.js_code.specs.declared.node.Node.{Node}
-use Rattle.js_run.specs.Acts.{Act, Evaluate, Next, Pay, asks, asks_value}
-use Rattle.js_run.specs.Completions.{Completion, Replied}
-use Rattle.js_run.specs.Decisions.{decides}
-use Rattle.js_run.specs.Faults.{error_marks, error_object, error_prototype, hidden_property}
-use Rattle.js_run.specs.Going.{go_on}
-use Rattle.js_run.specs.Hosts.{outside_answers}
-use Rattle.js_run.specs.Parties.{Party}
-use Rattle.js_run.specs.Rows.{row, row_at}
-use Rattle.js_run.specs.Runs.{Asks, Imports, Begins, Decides, Due, Ended, Gives, Move, Nothing, Point, Sends, answered, settle}
+use Rattle.js_operation.specs.js_run.Acts.{Act, Evaluate, Next, Pay, asks, asks_value}
+use Rattle.js_operation.specs.js_run.Completions.{Completion, Replied}
+use Rattle.js_operation.specs.js_run.Decisions.{decides}
+use Rattle.js_operation.specs.js_run.Faults.{error_marks, error_object, error_prototype, hidden_property}
+use Rattle.js_operation.specs.js_run.Going.{go_on}
+use Rattle.js_operation.specs.js_run.Hosts.{outside_answers}
+use Rattle.js_operation.specs.js_run.Parties.{Party}
+use Rattle.js_operation.specs.js_run.Rows.{row, row_at}
+use Rattle.js_operation.specs.js_run.Runs.{Asks, Imports, Begins, Decides, Due, Ended, Gives, Move, Nothing, Point, Sends, answered, settle}
 use Rattle.js_store.specs.Objects.{Object}
 use Rattle.js_store.specs.declared.slot.Slot.TheVariants as slot
 use Rattle.js_machine.specs.Halts.{halt_coded}

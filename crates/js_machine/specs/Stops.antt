@@ -3,10 +3,10 @@ use Rattle.std.specs.Prelude.{◌≡◌, ℕ, Bool, Option, Some, None}
 use Rattle.lava_base.specs.declared.ids.MadeSymbol.{MadeSymbol}
 use Rattle.lava_base.specs.declared.ids.Ref.{Ref}
 use Rattle.js_text.specs.Naming.{Naming, naming_of}
-use Rattle.js_run.specs.Completions as halt_kind
-use Rattle.js_run.specs.Parties.{Shared}
-use Rattle.js_run.specs.Runs as runs
-use Rattle.js_run.specs.Runs.{Asks, Imports, Charged, Due, Env, Gave, Lacks, Point, Sent, Short, Stopped, Stops, answered, at_steps, run, run_for, settle, work}
+use Rattle.js_operation.specs.js_run.Completions as halt_kind
+use Rattle.js_operation.specs.js_run.Parties.{Shared}
+use Rattle.js_operation.specs.js_run.Runs as runs
+use Rattle.js_operation.specs.js_run.Runs.{Asks, Imports, Charged, Due, Env, Gave, Lacks, Point, Sent, Short, Stopped, Stops, answered, at_steps, run, run_for, settle, work}
 use Rattle.js_machine.specs.Halts.{halt_coded}
 use Rattle.js_machine.specs.Looks.{foreign_in}
 use Rattle.js_machine.specs.Steps.{Keeps, point_of}

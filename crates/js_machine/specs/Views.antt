@@ -12,7 +12,7 @@ use Rattle.js_code.specs.Decoded.{arguments_at, labels_of, no_guarded_row, no_tu
 use Rattle.js_code.specs.Tables.{Tables}
 use Rattle.js_code.specs.declared.node.GuardedRow.{GuardedRow}
 use Rattle.js_code.specs.declared.node.TurnRow.{TurnRow}
-use Rattle.js_exotic.specs.declared.next.Next.TheVariants as exotic
+use Rattle.js_operation.specs.js_exotic.declared.next.Next.TheVariants as exotic
 use Rattle.js_ordinary.specs.declared.next.Next.TheVariants as ordinary
 use Rattle.lava_base.specs.Ids.{same_ref}
 use Rattle.lava_base.specs.declared.ids.Ref.TheVariants as reference
@@ -20,24 +20,24 @@ use Rattle.lava_base.specs.declared.marks.Marks.{Marks}
 use Rattle.js_desc.specs.declared.reply.Reply.{Reply}
 use Rattle.js_store.specs.Foreign.{marks_of}
 use Rattle.js_store.specs.Frozen.{CommonObject}
-use Rattle.js_run.specs.Acts.{Closes, Decides_on, Evaluate, Give, Native_decides, Next, Proxy_decides, Tested, Then, Turned, Turns, Updated, as_it_is, give, throws, with_flag, with_prototype, with_value, Act, Inherits, asks, asks_value}
-use Rattle.js_run.specs.Faults.{faults}
-use Rattle.js_run.specs.Bodies.{built, closed, constructed, derived_constructed, returned, this_of}
-use Rattle.js_run.specs.Completions as halt_kind
-use Rattle.js_run.specs.Completions.{Completion, Replied, Breaks, Continues, Returns}
-use Rattle.js_run.specs.Control.{all_values, finally_ends, finishes, in_order, label_ends, left_to, listed, returns, try_ends}
-use Rattle.js_run.specs.Operators.{binary_value, prototype_inherited, unary_value}
-use Rattle.js_run.specs.Outside.{OutsideCall}
-use Rattle.js_run.specs.Parties.{Body, Loaded, Party, Shared, running}
-use Rattle.js_run.specs.Properties.{get_above, get_global, has_set, init_slot, missing_global, put_global, put_property, set_slot, delete_property, with_this}
-use Rattle.js_run.specs.Rows.{binary_left, delete_object, get_key, get_object, if_test, put_key, put_object, short_left, super_key, call_on_object, new_callee}
+use Rattle.js_operation.specs.js_run.Acts.{Closes, Decides_on, Evaluate, Give, Native_decides, Next, Proxy_decides, Tested, Then, Turned, Turns, Updated, as_it_is, give, throws, with_flag, with_prototype, with_value, Act, Inherits, asks, asks_value}
+use Rattle.js_operation.specs.js_run.Faults.{faults}
+use Rattle.js_operation.specs.js_run.Bodies.{built, closed, constructed, derived_constructed, returned, this_of}
+use Rattle.js_operation.specs.js_run.Completions as halt_kind
+use Rattle.js_operation.specs.js_run.Completions.{Completion, Replied, Breaks, Continues, Returns}
+use Rattle.js_operation.specs.js_run.Control.{all_values, finally_ends, finishes, in_order, label_ends, left_to, listed, returns, try_ends}
+use Rattle.js_operation.specs.js_run.Operators.{binary_value, prototype_inherited, unary_value}
+use Rattle.js_operation.specs.js_run.Outside.{OutsideCall}
+use Rattle.js_operation.specs.js_run.Parties.{Body, Loaded, Party, Shared, running}
+use Rattle.js_operation.specs.js_run.Properties.{get_above, get_global, has_set, init_slot, missing_global, put_global, put_property, set_slot, delete_property, with_this}
+use Rattle.js_operation.specs.js_run.Rows.{binary_left, delete_object, get_key, get_object, if_test, put_key, put_object, short_left, super_key, call_on_object, new_callee}
 use Rattle.js_text.specs.declared.value.Key.{Key}
 use Rattle.js_text.specs.declared.value.Key.TheVariants as key
 use Rattle.js_desc.specs.declared.fault.FaultText.TheVariants as fault
-use Rattle.js_run.specs.Asking.{calls}
-use Rattle.js_run.specs.Calls.{calls_with, constructs_itself, super_constructs}
-use Rattle.js_run.specs.Parts.{define_on}
-use Rattle.js_run.specs.Runs.{Env}
+use Rattle.js_operation.specs.js_run.Asking.{calls}
+use Rattle.js_operation.specs.js_run.Calls.{calls_with, constructs_itself, super_constructs}
+use Rattle.js_operation.specs.js_run.Parts.{define_on}
+use Rattle.js_operation.specs.js_run.Runs.{Env}
 use Rattle.js_term.specs.declared.term.Template.{Template}
 use Rattle.js_state.specs.Scopes.{Scope, outwards, scope_at, with_slot}
 use Rattle.js_machine.specs.Bodies.{scope_of, stood_in}
@@ -45,18 +45,18 @@ use Rattle.js_machine.specs.Classes.{parent_comes, prototype_comes}
 use Rattle.js_machine.specs.Parts.{part_at, part_comes, part_keyed, part_valued, parts_go, reference_in}
 use Rattle.js_store.specs.Objects.{Object}
 use Rattle.js_term.specs.declared.term.Term.{Term}
-use Rattle.js_run.specs.Modules.{module_closes, module_ends}
-use Rattle.js_run.specs.Requests.{is_link}
-use Rattle.js_run.specs.Truth.{is_nullish, to_boolean}
-use Rattle.js_conversions.specs.Primitives.{ReadsNumbers}
+use Rattle.js_operation.specs.js_run.Modules.{module_closes, module_ends}
+use Rattle.js_operation.specs.js_run.Requests.{is_link}
+use Rattle.js_operation.specs.js_run.Truth.{is_nullish, to_boolean}
+use Rattle.js_operation.specs.js_conversions.Primitives.{ReadsNumbers}
 use Rattle.js_native.specs.TextNatives.{FindsFirst}
-use Rattle.js_run.specs.Natives.{native_acts, runs_native}
+use Rattle.js_operation.specs.js_run.Natives.{native_acts, runs_native}
 use Rattle.js_native_steps.specs.Steps.{waits_as}
 use Rattle.js_tree.specs.declared.operator.LogicalOperator.{LogicalOperator}
 use Rattle.js_tree.specs.declared.operator.LogicalOperator.TheVariants as logical
 use Rattle.js_machine.specs.Packages.{Package, loaded_in}
 use Rattle.js_desc.specs.declared.ask.Ask.TheVariants as ask
-use Rattle.js_run.specs.Conversions.{method_called, ordinary_to_primitive, primitive_or, primitive_to_key}
+use Rattle.js_operation.specs.js_run.Conversions.{method_called, ordinary_to_primitive, primitive_or, primitive_to_key}
 use Rattle.js_operation.specs.Deeds.{becomes_key, rest_deed}
 use Rattle.js_machine.specs.SlotAsks.{asks_first, refusal}
 use Rattle.js_machine.specs.Wanting.{number_method_gave, number_method_got}
@@ -78,9 +78,9 @@ use Rattle.js_machine.specs.declared.frame.KeyGoal.{KeyGoal}
 use Rattle.js_machine.specs.declared.frame.KeyGoal.TheVariants as key_goal
 use Rattle.js_machine.specs.declared.frame.Purpose.{Purpose}
 use Rattle.js_machine.specs.declared.frame.Purpose.TheVariants as purpose
-use Rattle.js_run.specs.Calls.{binds_this, parent_value}
-use Rattle.js_run.specs.Control.{argument_values}
-use Rattle.js_run.specs.Rows.{call_on_key, call_super_key}
+use Rattle.js_operation.specs.js_run.Calls.{binds_this, parent_value}
+use Rattle.js_operation.specs.js_run.Control.{argument_values}
+use Rattle.js_operation.specs.js_run.Rows.{call_on_key, call_super_key}
 use Rattle.js_machine.specs.Constructions.{constructs_made}
 use Rattle.js_term.specs.declared.term.Arguments.{Arguments}
 use Rattle.js_machine.specs.declared.holding.Holding.{Holding}

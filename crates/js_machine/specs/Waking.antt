@@ -1,7 +1,7 @@
 -- How what waits is woken.
 use Rattle.std.specs.Prelude.{Bool, true, false}
 use Rattle.js_text.specs.Naming.{naming_of}
-use Rattle.js_run.specs.Going.{go_on}
+use Rattle.js_operation.specs.js_run.Going.{go_on}
 use Rattle.js_machine.specs.Steps.{Follows}
 use Rattle.js_machine.specs.Views.{View, next_of_wait}
 use Rattle.js_machine.specs.declared.asked.Wait.{Wait}

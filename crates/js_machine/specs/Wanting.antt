@@ -8,14 +8,14 @@ use Rattle.js_text.specs.declared.value.Value.TheVariants as value
 use Rattle.js_desc.specs.declared.reply.Reply.TheVariants as reply
 use Rattle.js_operation.specs.declared.operation.Computed.{Computed}
 use Rattle.js_operation.specs.declared.operation.Computed.TheVariants as computed
-use Rattle.js_run.specs.Acts.{Act, End, with_value}
-use Rattle.js_run.specs.Asking.{waits_for}
-use Rattle.js_run.specs.Conversions.{method_called, ordinary_to_primitive, primitive_or, primitive_to_number}
-use Rattle.js_run.specs.Decisions.{goes_on}
-use Rattle.js_run.specs.Faults.{faults}
-use Rattle.js_run.specs.Following.{halt_of}
-use Rattle.js_run.specs.Parties.{Party, Shared}
-use Rattle.js_run.specs.Proxies.{proxy_has_number}
+use Rattle.js_operation.specs.js_run.Acts.{Act, End, with_value}
+use Rattle.js_operation.specs.js_run.Asking.{waits_for}
+use Rattle.js_operation.specs.js_run.Conversions.{method_called, ordinary_to_primitive, primitive_or, primitive_to_number}
+use Rattle.js_operation.specs.js_run.Decisions.{goes_on}
+use Rattle.js_operation.specs.js_run.Faults.{faults}
+use Rattle.js_operation.specs.js_run.Following.{halt_of}
+use Rattle.js_operation.specs.js_run.Parties.{Party, Shared}
+use Rattle.js_operation.specs.js_run.Proxies.{proxy_has_number}
 use Rattle.js_machine.specs.declared.asked.NumberFor.{NumberFor}
 use Rattle.js_machine.specs.declared.asked.NumberFor.TheVariants as number_for
 

@@ -2,12 +2,12 @@
 
 use js_desc::ask::Ask;
 use js_desc::descriptor::Descriptor;
-use js_exotic::next::Next as ExoticNext;
 use js_native_steps::next::NativeNext;
+use js_operation::js_exotic::next::Next as ExoticNext;
+use js_operation::js_traps::next::Next as ProxyNext;
 use js_text::native::Native;
 use js_text::text::Text;
 use js_text::value::{Key, Value};
-use js_traps::next::Next as ProxyNext;
 use lava_base::ids::Ref;
 use lava_base::list::List;
 

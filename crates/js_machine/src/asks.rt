@@ -2,10 +2,10 @@
 
 ghost use Rattle.std.specs.Prelude.{◌≡◌, ◌+◌, ◌∷◌, IfOk, OnOk, true, false, nat_lt};
 ghost use Rattle.js_text.specs.Naming.{naming_of};
-ghost use Rattle.js_run.specs.Acts.{Give};
-ghost use Rattle.js_run.specs.Asking.{waits_for};
-ghost use Rattle.js_run.specs.Completions.{Replied};
-ghost use Rattle.js_run.specs.declared.TheConstants.{MAX_DEPTH as most};
+ghost use Rattle.js_operation.specs.js_run.Acts.{Give};
+ghost use Rattle.js_operation.specs.js_run.Asking.{waits_for};
+ghost use Rattle.js_operation.specs.js_run.Completions.{Replied};
+ghost use Rattle.js_operation.specs.js_run.declared.TheConstants.{MAX_DEPTH as most};
 ghost use Rattle.js_machine.specs.Steps.{LeadsTo, Pays, WaitsFor, WaitsForValue};
 ghost use Rattle.js_machine.specs.Views.{first_wait, next_of_wait, party_of, reply_of_answer, waits_under};
 ghost use Rattle.js_machine.specs.declared.frame.Frame.TheVariants as frame;
@@ -15,9 +15,9 @@ use crate::frame::{Frame, Halt, Mode};
 use crate::machine::Machine;
 use js_desc::ask::Ask;
 use js_desc::reply::Reply;
-use js_exotic::next::Next as ExoticNext;
+use js_operation::js_exotic::next::Next as ExoticNext;
+use js_operation::js_run::MAX_DEPTH;
 use js_ordinary::next::Next as OrdinaryNext;
-use js_run::MAX_DEPTH;
 use js_text::value::Value;
 use lava_base::ids::{CommonId, Ref};
 use lava_base::memory::OutOfMemory;

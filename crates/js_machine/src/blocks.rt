@@ -1,7 +1,7 @@
 // The run ends.
 
 ghost use Rattle.std.specs.Prelude.{◌++◌, ◌∷◌, [], IfOk, length};
-ghost use Rattle.js_run.specs.Acts.{End};
+ghost use Rattle.js_operation.specs.js_run.Acts.{End};
 ghost use Rattle.js_state.specs.Scopes.{scope_at};
 ghost use Rattle.js_machine.specs.Bodies.{scope_of, stood_in};
 ghost use Rattle.js_machine.specs.Steps.{LeadsTo};

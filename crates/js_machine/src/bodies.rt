@@ -3,7 +3,7 @@
 ghost use Rattle.std.specs.Prelude.{◌≡◌, ◌-◌, ◌++◌, ◌∷◌, [], IfOk, OnOk, None, Some, drop, length, true, false};
 ghost use Rattle.js_text.specs.Naming.{naming_of};
 ghost use Rattle.js_code.specs.Decoded.{term_at};
-ghost use Rattle.js_run.specs.Bodies.{prepared};
+ghost use Rattle.js_operation.specs.js_run.Bodies.{prepared};
 ghost use Rattle.js_term.specs.declared.term.Template.{out-Template};
 ghost use Rattle.js_machine.specs.Bodies.{running_of};
 ghost use Rattle.js_machine.specs.Made.{row_of};
@@ -15,7 +15,7 @@ use crate::body::Body;
 use crate::frame::{Frame, Halt, Mode};
 use crate::machine::Machine;
 use js_code::node::TemplateRow;
-use js_run::MAX_DEPTH;
+use js_operation::js_run::MAX_DEPTH;
 use js_text::value::Value;
 use lava_base::memory::OutOfMemory;
 

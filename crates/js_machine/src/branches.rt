@@ -1,7 +1,7 @@
 // What is nullish.
 
 ghost use Rattle.std.specs.Prelude.{◌≡◌};
-ghost use Rattle.js_run.specs.Truth.{is_nullish};
+ghost use Rattle.js_operation.specs.js_run.Truth.{is_nullish};
 
 use js_text::value::Value;
 

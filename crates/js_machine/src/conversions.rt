@@ -8,7 +8,7 @@ ghost use Rattle.js_machine.specs.Views.{as_text, method_at, methods_from};
 use crate::frame::{Frame, Goal, Mode};
 use crate::machine::Machine;
 use js_desc::ask::Ask;
-use js_operations::names::name_key;
+use js_operation::js_operations::names::name_key;
 use js_text::value::{Key, Value};
 use lava_base::ids::Ref;
 use lava_base::memory::OutOfMemory;

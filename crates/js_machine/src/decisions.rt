@@ -2,8 +2,8 @@
 
 ghost use Rattle.std.specs.Prelude.{◌≡◌, ◌-◌, Bool, IfOk};
 ghost use Rattle.js_text.specs.Naming.{naming_of};
-ghost use Rattle.js_run.specs.Acts.{End};
-ghost use Rattle.js_run.specs.Following.{halt_of};
+ghost use Rattle.js_operation.specs.js_run.Acts.{End};
+ghost use Rattle.js_operation.specs.js_run.Following.{halt_of};
 ghost use Rattle.js_machine.specs.Decisions.{object_of_value};
 ghost use Rattle.js_machine.specs.Steps.{LeadsTo};
 ghost use Rattle.js_machine.specs.Views.{reply_of_answer};

@@ -5,7 +5,7 @@ ghost use Rattle.js_code.specs.Settled.{Extends};
 ghost use Rattle.js_machine.specs.Defaults.{AreDefaults, IsDefault, IsDefaultOf, array_term, derived_body, items_term};
 
 use js_code::code::Code;
-use js_run::intrinsics::ARRAY_PROTOTYPE;
+use js_operation::js_run::intrinsics::ARRAY_PROTOTYPE;
 use js_term::term::{Arguments, Literal, Part, Template, TemplateKind, Term};
 use js_text::native::Native;
 use js_text::text::Text;

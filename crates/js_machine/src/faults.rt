@@ -2,7 +2,7 @@
 
 ghost use Rattle.std.specs.Prelude.{◌≡◌, ◌++◌, ◌∷◌, [], IfOk, OnOk, length, codes};
 ghost use Rattle.js_text.specs.Naming.{naming_of};
-ghost use Rattle.js_run.specs.Faults.{error_object, error_prototype, faults};
+ghost use Rattle.js_operation.specs.js_run.Faults.{error_object, error_prototype, faults};
 ghost use Rattle.js_machine.specs.Steps.{error_with, message_key, LeadsTo, with_error};
 ghost use Rattle.js_machine.specs.Views.{party_of};
 ghost use Rattle.js_machine.specs.declared.frame.Mode.TheVariants as mode;
@@ -11,7 +11,7 @@ use crate::frame::{Halt, Mode, halt_number};
 use crate::machine::Machine;
 use js_desc::descriptor::{Change, Descriptor};
 use js_desc::fault::{FaultText, NativeError};
-use js_run::intrinsics::{
+use js_operation::js_run::intrinsics::{
     RANGE_ERROR_PROTOTYPE, REFERENCE_ERROR_PROTOTYPE, SYNTAX_ERROR_PROTOTYPE, TYPE_ERROR_PROTOTYPE,
 };
 use js_store::flat::FlatStore;

@@ -82,3 +82,10 @@ pub mod stop;
 pub mod supers;
 pub mod wakes;
 pub mod ways;
+
+pub use js_native_steps;
+pub use js_operation;
+pub use js_operation::{
+    js_conversions, js_exotic, js_maker_natives, js_operations, js_proxy, js_run, js_slot_natives,
+    js_traps,
+};

@@ -2,7 +2,7 @@
 
 ghost use Rattle.std.specs.Prelude.{◌≡◌, ◌∷◌, IfOk, OnOk, drop, true};
 ghost use Rattle.js_text.specs.declared.value.Value.TheVariants as value;
-ghost use Rattle.js_run.specs.Acts.{Become, Give, give};
+ghost use Rattle.js_operation.specs.js_run.Acts.{Become, Give, give};
 ghost use Rattle.js_machine.specs.Steps.{IsDelivered, LeadsTo, Waits, WaitsWith};
 ghost use Rattle.js_code.specs.Decoded.{term_at};
 ghost use Rattle.js_machine.specs.Views.{below, completion_with, has_value, is_abrupt, party_of, takes_values, top};

@@ -2,7 +2,7 @@
 
 ghost use Rattle.std.specs.Prelude.{◌≡◌, IfOk, OnOk};
 ghost use Rattle.js_code.specs.Settled.{Extends};
-ghost use Rattle.js_run.specs.Parties as parties;
+ghost use Rattle.js_operation.specs.js_run.Parties as parties;
 ghost use Rattle.js_code.specs.Decoded.{template_at, term_at};
 ghost use Rattle.js_machine.specs.Begun.{as_new, outermost};
 ghost use Rattle.js_machine.specs.Defaults.{KnowsTemplates};

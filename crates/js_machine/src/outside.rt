@@ -15,7 +15,7 @@ pub struct HostCall {
 }
 
 impl Model for HostCall {
-    ghost use Rattle.js_run.specs.Outside.{OutsideCall};
+    ghost use Rattle.js_operation.specs.js_run.Outside.{OutsideCall};
 
     ghost Value = { OutsideCall };
 

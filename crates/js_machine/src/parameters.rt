@@ -3,7 +3,7 @@
 ghost use Rattle.std.specs.Prelude.{◌≡◌, ◌<◌, ◌≤◌, ◌+◌, ◌-◌, ◌&&◌, ◌++◌, ◌∷◌, [], IfOk, OnOk, None, drop, length, nat_le, nat_lt, replicate, if◌then◌else◌};
 ghost use Rattle.js_text.specs.declared.value.Value.TheVariants as undefined_value;
 ghost use Rattle.js_code.specs.Tables.{part_of};
-ghost use Rattle.js_run.specs.Functions.{other_slots};
+ghost use Rattle.js_operation.specs.js_run.Functions.{other_slots};
 ghost use Rattle.js_state.specs.Scopes.{with_slot};
 ghost use Rattle.js_machine.specs.Filling.{started_in, with_arguments, with_open_scope};
 ghost use Rattle.js_machine.specs.Views.{args_on, below, top};

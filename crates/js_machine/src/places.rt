@@ -1,7 +1,7 @@
 // What a body runs with.
 
 ghost use Rattle.std.specs.Prelude.{◌≡◌, IfOk};
-ghost use Rattle.js_run.specs.Parties.{first_body};
+ghost use Rattle.js_operation.specs.js_run.Parties.{first_body};
 
 use crate::machine::Machine;
 use js_text::copy::copy_value;

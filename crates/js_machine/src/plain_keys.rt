@@ -4,7 +4,7 @@ ghost use Rattle.std.specs.Prelude.{◌≡◌, IfOk, Some};
 ghost use Rattle.js_text.specs.declared.value.Value.TheVariants as truth_value;
 ghost use Rattle.js_machine.specs.Keys.{plain_key};
 
-use js_operations::names::{name_key, number_text};
+use js_operation::js_operations::names::{name_key, number_text};
 use js_text::copy::copy_symbol;
 use js_text::index::key_of_text;
 use js_text::value::{Key, Value};

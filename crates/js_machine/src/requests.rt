@@ -1,7 +1,7 @@
 // Texts of the code and of requests.
 
 ghost use Rattle.std.specs.Prelude.{◌≡◌, IfOk, take, drop};
-ghost use Rattle.js_run.specs.Requests.{but_last};
+ghost use Rattle.js_operation.specs.js_run.Requests.{but_last};
 
 use js_text::text::{Text, from_units};
 use lava_base::memory::OutOfMemory;

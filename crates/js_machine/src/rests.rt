@@ -2,7 +2,7 @@
 
 ghost use Rattle.std.specs.Prelude.{◌≡◌, IfOk, OnOk, drop};
 ghost use Rattle.js_text.specs.Naming.{naming_of};
-ghost use Rattle.js_run.specs.Functions.{array_of};
+ghost use Rattle.js_operation.specs.js_run.Functions.{array_of};
 ghost use Rattle.js_machine.specs.Made.{next_own, with_object};
 ghost use Rattle.js_machine.specs.Opened.{with_rest};
 

@@ -2,7 +2,7 @@
 
 ghost use Rattle.std.specs.Prelude.{◌≡◌};
 ghost use Rattle.std.specs.Option.{option_map};
-ghost use Rattle.js_run.specs.Parties.{first_body};
+ghost use Rattle.js_operation.specs.js_run.Parties.{first_body};
 ghost use Rattle.js_machine.specs.Bodies.{running_of, scope_of};
 
 use crate::body::Body;

@@ -2,7 +2,7 @@
 
 ghost use Rattle.std.specs.Prelude.{◌≡◌, [], IfOk, OnOk, OnErr};
 ghost use Rattle.lava_base.specs.Ids.{same_ref};
-ghost use Rattle.js_run.specs.NativeTurns.{served_units};
+ghost use Rattle.js_operation.specs.js_run.NativeTurns.{served_units};
 ghost use Rattle.js_store.specs.Foreign.{with_marks};
 ghost use Rattle.js_machine.specs.Served.{IsServed};
 

@@ -1,7 +1,7 @@
 // What goes to other parties.
 
 ghost use Rattle.std.specs.Prelude.{◌≡◌, OnOk, true};
-ghost use Rattle.js_run.specs.Completions.{reply_of};
+ghost use Rattle.js_operation.specs.js_run.Completions.{reply_of};
 ghost use Rattle.js_machine.specs.Shown.{no_ask, shown, with_known};
 ghost use Rattle.js_machine.specs.Views.{completion_of, is_handed};
 

@@ -10,11 +10,11 @@ use Rattle.js_text.specs.declared.value.Value.TheVariants as value
 use Rattle.js_desc.specs.declared.ask.Ask.TheVariants as ask
 use Rattle.js_desc.specs.declared.reply.Reply.{Reply}
 use Rattle.js_term.specs.declared.term.Template.{out-Template}
-use Rattle.js_run.specs.Asking.{waits_for}
-use Rattle.js_run.specs.Bodies.{base_constructs, body_of, constructed, prepared, prototype_or, returned, runs_body}
-use Rattle.js_run.specs.Functions.{ordinary, prototype_key}
-use Rattle.js_run.specs.Parties as parties
-use Rattle.js_run.specs.Parties.{Shared, made}
+use Rattle.js_machine.specs.js_run.Asking.{waits_for}
+use Rattle.js_machine.specs.js_run.Bodies.{base_constructs, body_of, constructed, prepared, prototype_or, returned, runs_body}
+use Rattle.js_machine.specs.js_run.Functions.{ordinary, prototype_key}
+use Rattle.js_machine.specs.js_run.Parties as parties
+use Rattle.js_machine.specs.js_run.Parties.{Shared, made}
 use Rattle.js_machine.specs.Bodies.{running_of}
 use Rattle.js_machine.specs.Constructions.{constructing_body, constructs_made, prototype_given}
 use Rattle.js_machine.specs.Made.{row_of, with_object}

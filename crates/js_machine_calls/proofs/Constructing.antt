@@ -6,7 +6,7 @@ use Rattle.js_text.specs.Naming.{naming_of}
 use Rattle.js_text.specs.declared.value.Value.{Value}
 use Rattle.js_term.specs.declared.term.Template.{out-Template}
 use Rattle.js_term.specs.declared.term.TemplateKind.{TemplateKind}
-use Rattle.js_run.specs.Bodies.{prepared}
+use Rattle.js_machine.specs.js_run.Bodies.{prepared}
 use Rattle.js_machine.specs.Bodies.{running_of}
 use Rattle.js_machine.specs.Opened.{runs, template_of}
 use Rattle.js_machine.specs.Steps.{LeadsTo, over, under}

@@ -12,11 +12,11 @@ use Rattle.js_store.specs.declared.slot.Lexical.{Lexical}
 use Rattle.js_term.specs.declared.term.Template.{Template, out-Template}
 use Rattle.js_term.specs.declared.term.TemplateKind.{TemplateKind}
 use Rattle.js_term.specs.declared.term.TemplateKind.TheVariants as kind
-use Rattle.js_run.specs.Bodies.{call_by_kind, construct_by_kind, prepared}
-use Rattle.js_run.specs.Faults.{faults}
-use Rattle.js_run.specs.Parties as parties
-use Rattle.js_run.specs.Parties.{Party, Shared, no_template}
-use Rattle.js_run.specs.Runs.{answered}
+use Rattle.js_machine.specs.js_run.Bodies.{call_by_kind, construct_by_kind, prepared}
+use Rattle.js_machine.specs.js_run.Faults.{faults}
+use Rattle.js_machine.specs.js_run.Parties as parties
+use Rattle.js_machine.specs.js_run.Parties.{Party, Shared, no_template}
+use Rattle.js_machine.specs.js_run.Runs.{answered}
 use Rattle.js_machine.specs.Bodies.{running_of}
 use Rattle.js_machine.specs.Called.{called_body, needs_new, template_numbered}
 use Rattle.js_machine.specs.Made.{row_of}

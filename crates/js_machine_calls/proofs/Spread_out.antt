@@ -15,8 +15,8 @@ use Rattle.js_ordinary.specs.declared.target.Target.{Target}
 use Rattle.js_store.specs.Frozen.{CommonObject, as_read, common_ref}
 use Rattle.js_store.specs.Objects.{Object, fresh, object_at, plain_marks}
 use Rattle.js_store.specs.declared.slot.Slot.TheVariants as slot
-use Rattle.js_run.specs.Control.{listed}
-use Rattle.js_run.specs.Functions.{items_from, items_of, own_data}
+use Rattle.js_machine.specs.js_run.Control.{listed}
+use Rattle.js_machine.specs.js_run.Functions.{items_from, items_of, own_data}
 use Rattle.js_machine.specs.Decisions.{object_of_value}
 use Rattle.js_machine.specs.Spreads.{items_in}
 use Rattle.js_machine.specs.Steps.{LeadsTo}

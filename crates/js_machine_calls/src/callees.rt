@@ -3,9 +3,9 @@
 ghost use Rattle.std.specs.Prelude.{IfOk};
 ghost use Rattle.js_text.specs.Naming.{naming_of};
 ghost use Rattle.js_text.specs.declared.value.Value.TheVariants as value_kind;
-ghost use Rattle.js_run.specs.Acts.{give, with_value};
-ghost use Rattle.js_run.specs.Asking.{calls};
-ghost use Rattle.js_run.specs.Calls.{constructs_itself};
+ghost use Rattle.js_machine.specs.js_run.Acts.{give, with_value};
+ghost use Rattle.js_machine.specs.js_run.Asking.{calls};
+ghost use Rattle.js_machine.specs.js_run.Calls.{constructs_itself};
 ghost use Rattle.js_machine.specs.Steps.{LeadsTo};
 ghost use Rattle.js_machine.specs.Views.{party_of};
 

@@ -3,7 +3,7 @@
 ghost use Rattle.std.specs.Prelude.{◌≡◌, IfOk, None, Some, drop};
 ghost use Rattle.js_text.specs.Naming.{naming_of};
 ghost use Rattle.js_term.specs.declared.term.TemplateKind.TheVariants as template_kind;
-ghost use Rattle.js_run.specs.Bodies.{call_by_kind, construct_by_kind, run_template};
+ghost use Rattle.js_machine.specs.js_run.Bodies.{call_by_kind, construct_by_kind, run_template};
 ghost use Rattle.js_machine.specs.Bodies.{running_of};
 ghost use Rattle.js_machine.specs.Called.{called_body, needs_new, template_numbered};
 ghost use Rattle.js_machine.specs.Made.{row_of};

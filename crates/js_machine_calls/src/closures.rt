@@ -2,7 +2,7 @@
 
 ghost use Rattle.std.specs.Prelude.{◌≡◌, IfOk};
 ghost use Rattle.js_text.specs.Naming.{naming_of};
-ghost use Rattle.js_run.specs.Bodies.{run_function};
+ghost use Rattle.js_machine.specs.js_run.Bodies.{run_function};
 ghost use Rattle.js_machine.specs.Closures.{closure_in, outer_of, runs_closure};
 ghost use Rattle.js_machine.specs.Steps.{LeadsTo};
 ghost use Rattle.js_machine.specs.Views.{party_of};

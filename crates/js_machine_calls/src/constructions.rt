@@ -2,8 +2,8 @@
 
 ghost use Rattle.std.specs.Prelude.{◌≡◌, [], IfOk, OnOk, Some, drop, length};
 ghost use Rattle.js_text.specs.Naming.{naming_of};
-ghost use Rattle.js_run.specs.Bodies.{base_constructs};
-ghost use Rattle.js_run.specs.Functions.{ordinary};
+ghost use Rattle.js_machine.specs.js_run.Bodies.{base_constructs};
+ghost use Rattle.js_machine.specs.js_run.Functions.{ordinary};
 ghost use Rattle.js_machine.specs.Bodies.{running_of};
 ghost use Rattle.js_machine.specs.Constructions.{constructing_body, constructs_made, prototype_given};
 ghost use Rattle.js_machine.specs.Made.{row_of, with_object};
@@ -17,8 +17,8 @@ use js_desc::reply::Reply;
 use js_machine::asked::{Construction, Wait};
 use js_machine::body::Body;
 use js_machine::frame::{Frame, Mode};
+use js_machine::js_run::intrinsics::OBJECT_PROTOTYPE;
 use js_machine::machine::Machine;
-use js_run::intrinsics::OBJECT_PROTOTYPE;
 use js_store::slot::Slot;
 use js_store::store::{PLAIN_MARKS, Store};
 use js_text::value::Value;

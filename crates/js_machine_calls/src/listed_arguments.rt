@@ -4,7 +4,7 @@ ghost use Rattle.std.specs.Prelude.{◌≡◌, ◌++◌, IfOk, IfSome, OnOk, len
 ghost use Rattle.js_text.specs.Naming.{naming_of};
 ghost use Rattle.js_ordinary.specs.Origins.{there};
 ghost use Rattle.js_ordinary.specs.Targets.{IsSeen, object_seen, origin_of_target};
-ghost use Rattle.js_run.specs.Functions.{data_or_undefined, items_from, items_of, length_read, own_data};
+ghost use Rattle.js_machine.specs.js_run.Functions.{data_or_undefined, items_from, items_of, length_read, own_data};
 ghost use Rattle.js_machine.specs.Spreads.{items_in};
 ghost use Rattle.js_machine.specs.Ways.{object_in};
 

@@ -3,12 +3,12 @@
 ghost use Rattle.std.specs.Prelude.{◌≡◌, ◌+◌, IfOk, OnOk, Some, drop};
 ghost use Rattle.js_code.specs.Decoded.{arguments_at, term_at};
 ghost use Rattle.js_text.specs.Naming.{naming_of};
-ghost use Rattle.js_run.specs.Acts.{give, with_value};
-ghost use Rattle.js_run.specs.Asking.{calls};
-ghost use Rattle.js_run.specs.Calls.{binds_this, constructs_by, super_constructs, super_news};
-ghost use Rattle.js_run.specs.Parties.{first_body, replaces_body, running};
-ghost use Rattle.js_run.specs.Properties.{with_this};
-ghost use Rattle.js_run.specs.Rows.{call_super_key, super_key};
+ghost use Rattle.js_machine.specs.js_run.Acts.{give, with_value};
+ghost use Rattle.js_machine.specs.js_run.Asking.{calls};
+ghost use Rattle.js_machine.specs.js_run.Calls.{binds_this, constructs_by, super_constructs, super_news};
+ghost use Rattle.js_machine.specs.js_run.Parties.{first_body, replaces_body, running};
+ghost use Rattle.js_machine.specs.js_run.Properties.{with_this};
+ghost use Rattle.js_machine.specs.js_run.Rows.{call_super_key, super_key};
 ghost use Rattle.js_machine.specs.Steps.{LeadsTo};
 ghost use Rattle.js_machine.specs.Supers.{parent_of};
 ghost use Rattle.js_machine.specs.Views.{applied, args_on, party_of, prototype_in};

@@ -13,12 +13,12 @@ use Rattle.js_desc.specs.declared.ask.Ask.TheVariants as ask
 use Rattle.js_desc.specs.declared.fault.FaultText.TheVariants as fault
 use Rattle.js_code.specs.Decoded.{template_at, term_at, text_at}
 use Rattle.js_code.specs.declared.node.ClassRow.{ClassRow}
-use Rattle.js_operations.specs.Names.{proto_value}
-use Rattle.js_run.specs.Acts.{asks, with_value}
-use Rattle.js_run.specs.Faults.{faults}
-use Rattle.js_run.specs.Functions.{prototype_key}
-use Rattle.js_run.specs.Parts.{class_defined, class_made, class_value}
-use Rattle.js_run.specs.declared.intrinsics.TheConstants.{FUNCTION_PROTOTYPE, OBJECT_PROTOTYPE}
+use Rattle.js_machine.specs.js_operations.Names.{proto_value}
+use Rattle.js_machine.specs.js_run.Acts.{asks, with_value}
+use Rattle.js_machine.specs.js_run.Faults.{faults}
+use Rattle.js_machine.specs.js_run.Functions.{prototype_key}
+use Rattle.js_machine.specs.js_run.Parts.{class_defined, class_made, class_value}
+use Rattle.js_machine.specs.js_run.declared.intrinsics.TheConstants.{FUNCTION_PROTOTYPE, OBJECT_PROTOTYPE}
 use Rattle.js_machine.specs.Classes.{class_parts, class_row, constructor_of, parent_comes, prototype_comes}
 use Rattle.js_machine.specs.Constructors.{IsTemplateOf, class_holding, class_instance, class_prototype, object_or_null, with_class}
 use Rattle.js_machine.specs.Looks.{marks_in}

@@ -10,11 +10,11 @@ use Rattle.js_code.specs.Tables.{Tables}
 use Rattle.js_code.specs.declared.node.PartRow.{PartRow}
 use Rattle.js_code.specs.declared.node.PartRow.TheVariants as part_row
 use Rattle.js_desc.specs.declared.fault.FaultText.TheVariants as fault
-use Rattle.js_run.specs.Acts.{Act, asks}
-use Rattle.js_run.specs.Conversions.{primitive_to_key, to_primitive}
-use Rattle.js_run.specs.Faults.{faults}
-use Rattle.js_run.specs.Parties.{Party, Shared}
-use Rattle.js_run.specs.Properties.{to_key}
+use Rattle.js_machine.specs.js_run.Acts.{Act, asks}
+use Rattle.js_machine.specs.js_run.Conversions.{primitive_to_key, to_primitive}
+use Rattle.js_machine.specs.js_run.Faults.{faults}
+use Rattle.js_machine.specs.js_run.Parties.{Party, Shared}
+use Rattle.js_machine.specs.js_run.Properties.{to_key}
 use Rattle.js_machine.specs.Conversions.{Converts, Reaches}
 use Rattle.js_machine.specs.Decisions.{object_of_value}
 use Rattle.js_machine.specs.Definitions.{with_held}

@@ -22,13 +22,13 @@ use Rattle.js_term.specs.declared.term.Part.TheVariants.{outs-Data, outs-Method,
 use Rattle.js_ordinary.specs.Origins.{object_of}
 use Rattle.js_store.specs.Frozen.{common_ref}
 use Rattle.js_store.specs.Objects.{Object, object_at}
-use Rattle.js_run.specs.Acts.{Act, Evaluate, give, with_value}
-use Rattle.js_run.specs.Faults.{faults}
-use Rattle.js_run.specs.Parties.{Party, Shared}
-use Rattle.js_run.specs.Functions.{method_made, next_object}
-use Rattle.js_run.specs.Parts.{adds_hole, adds_item, data_part, define_on, defines, defines_part, defines_parts, is_array}
-use Rattle.js_run.specs.Properties.{to_key}
-use Rattle.js_run.specs.Runs.{answered}
+use Rattle.js_machine.specs.js_run.Acts.{Act, Evaluate, give, with_value}
+use Rattle.js_machine.specs.js_run.Faults.{faults}
+use Rattle.js_machine.specs.js_run.Parties.{Party, Shared}
+use Rattle.js_machine.specs.js_run.Functions.{method_made, next_object}
+use Rattle.js_machine.specs.js_run.Parts.{adds_hole, adds_item, data_part, define_on, defines, defines_part, defines_parts, is_array}
+use Rattle.js_machine.specs.js_run.Properties.{to_key}
+use Rattle.js_machine.specs.js_run.Runs.{answered}
 use Rattle.js_machine.specs.Definitions.{GoesOnAs, HasHole, HasItem, HasOtherObjects, IsDefined, helper_into, with_held}
 use Rattle.js_machine.specs.Decisions.{object_of_value}
 use Rattle.js_machine.specs.Keys.{plain_key}

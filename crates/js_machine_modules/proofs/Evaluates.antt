@@ -17,16 +17,16 @@ use Rattle.js_code.specs.declared.node.TemplateRow.{TemplateRow}
 use Rattle.js_term.specs.declared.term.Template.{out-Template}
 use Rattle.js_term.specs.declared.term.TemplateKind.TheVariants as kind
 use Rattle.js_state.specs.Scopes.{Scope, with_slot}
-use Rattle.js_run.specs.Acts.{Act, Closes, End, Evaluate, Give, Import, Then, give, on_value, with_value}
-use Rattle.js_run.specs.Completions as halt_kind
-use Rattle.js_run.specs.Completions.{Completion, Replied}
-use Rattle.js_run.specs.Functions.{other_slots, source_slots}
-use Rattle.js_run.specs.Modules.{evaluates_module, exports_key, get_exports, module_arguments, module_closes, module_ends, not_allowed}
-use Rattle.js_run.specs.Parties as parties
-use Rattle.js_run.specs.Parties.{Loaded, Party, deeper}
-use Rattle.js_run.specs.Requests.{is_link}
-use Rattle.js_run.specs.Runs.{Asks_out, Imports, answered}
-use Rattle.js_run.specs.declared.TheConstants.{MAX_DEPTH}
+use Rattle.js_machine.specs.js_run.Acts.{Act, Closes, End, Evaluate, Give, Import, Then, give, on_value, with_value}
+use Rattle.js_machine.specs.js_run.Completions as halt_kind
+use Rattle.js_machine.specs.js_run.Completions.{Completion, Replied}
+use Rattle.js_machine.specs.js_run.Functions.{other_slots, source_slots}
+use Rattle.js_machine.specs.js_run.Modules.{evaluates_module, exports_key, get_exports, module_arguments, module_closes, module_ends, not_allowed}
+use Rattle.js_machine.specs.js_run.Parties as parties
+use Rattle.js_machine.specs.js_run.Parties.{Loaded, Party, deeper}
+use Rattle.js_machine.specs.js_run.Requests.{is_link}
+use Rattle.js_machine.specs.js_run.Runs.{Asks_out, Imports, answered}
+use Rattle.js_machine.specs.js_run.declared.TheConstants.{MAX_DEPTH}
 use Rattle.js_machine.specs.Bodies.{running_of}
 use Rattle.js_machine.specs.Evaluated.{given_of, import_sent, imports_over, module_numbered, module_object, module_over, module_threw, numbers_from, unbegun, with_module, with_module_objects, with_module_scope}
 use Rattle.js_machine.specs.Filling.{scope_with, with_open_scope}

@@ -8,13 +8,13 @@ use Rattle.js_text.specs.declared.value.Value.{Value}
 use Rattle.js_text.specs.declared.value.Value.TheVariants as value
 use Rattle.js_desc.specs.declared.ask.Ask.{Ask}
 use Rattle.js_desc.specs.declared.ask.Ask.TheVariants as ask
-use Rattle.js_run.specs.Acts.{Act, give}
-use Rattle.js_run.specs.Decisions.{called_at, decides_ask, decides_by_slot, decides_object}
-use Rattle.js_run.specs.Hosts.{calls_host, calls_outside, number_there, outside_answers, printed_all, printed_marks}
-use Rattle.js_run.specs.Modules.{throws_plain_error}
-use Rattle.js_run.specs.Outside.{OutsideAnswer, OutsideCall}
-use Rattle.js_run.specs.Parties.{Party, Shared}
-use Rattle.js_run.specs.Runs.{answered}
+use Rattle.js_machine.specs.js_run.Acts.{Act, give}
+use Rattle.js_machine.specs.js_run.Decisions.{called_at, decides_ask, decides_by_slot, decides_object}
+use Rattle.js_machine.specs.js_run.Hosts.{calls_host, calls_outside, number_there, outside_answers, printed_all, printed_marks}
+use Rattle.js_machine.specs.js_run.Modules.{throws_plain_error}
+use Rattle.js_machine.specs.js_run.Outside.{OutsideAnswer, OutsideCall}
+use Rattle.js_machine.specs.js_run.Parties.{Party, Shared}
+use Rattle.js_machine.specs.js_run.Runs.{answered}
 use Rattle.js_store.specs.declared.slot.Held.TheVariants as held
 use Rattle.js_store.specs.declared.slot.Slot.{Slot}
 use Rattle.js_store.specs.declared.slot.Slot.TheVariants as slot

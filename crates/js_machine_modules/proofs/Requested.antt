@@ -1,6 +1,6 @@
 -- Paths, part by part.
 use Rattle.std.proofs.Common.{◌≡◌, ◌∙◌, refl, sym, ap, ℕ, suc, ◌-◌, Bool, true, false, List, [], ◌∷◌, ◌++◌, length, take, Some, arith}
-use Rattle.js_run.specs.Requests.{but_last, joined_parts, up}
+use Rattle.js_machine.specs.js_run.Requests.{but_last, joined_parts, up}
 
 -- all parts but the last one
 pub taken_but_last : (l : List (List ℕ)) → take (length l - 1) l ≡ but_last l

@@ -24,15 +24,15 @@ use Rattle.js_store.specs.declared.slot.Held.TheVariants as held
 use Rattle.js_store.specs.declared.slot.Slot.{Slot}
 use Rattle.js_store.specs.declared.slot.Slot.TheVariants as slot
 use Rattle.js_code.specs.Tables.{Tables}
-use Rattle.js_run.specs.Acts.{Act, End, give, throws, with_value}
-use Rattle.js_run.specs.Completions as halt_kind
-use Rattle.js_run.specs.Decisions.{called_at, decides_ask, decides_by_slot, decides_object}
-use Rattle.js_run.specs.Faults.{error_object, faults}
-use Rattle.js_run.specs.Modules.{evaluates_module, get_exports, imported_module, imports, imports_there, loaded_at, mapped, module_value, path_of, requires_by, requires_module, requires_path, requires_there, throws_plain_error}
-use Rattle.js_run.specs.Parties.{Party, Shared, made}
-use Rattle.js_run.specs.Requests.{candidates, directory_of, not_found_text, first_module, first_of, joined_parts, module_at, module_of, parts_of, walked, whole_request}
-use Rattle.js_run.specs.Runs.{answered, settle}
-use Rattle.js_run.specs.declared.intrinsics.TheConstants.{ERROR_PROTOTYPE}
+use Rattle.js_machine.specs.js_run.Acts.{Act, End, give, throws, with_value}
+use Rattle.js_machine.specs.js_run.Completions as halt_kind
+use Rattle.js_machine.specs.js_run.Decisions.{called_at, decides_ask, decides_by_slot, decides_object}
+use Rattle.js_machine.specs.js_run.Faults.{error_object, faults}
+use Rattle.js_machine.specs.js_run.Modules.{evaluates_module, get_exports, imported_module, imports, imports_there, loaded_at, mapped, module_value, path_of, requires_by, requires_module, requires_path, requires_there, throws_plain_error}
+use Rattle.js_machine.specs.js_run.Parties.{Party, Shared, made}
+use Rattle.js_machine.specs.js_run.Requests.{candidates, directory_of, not_found_text, first_module, first_of, joined_parts, module_at, module_of, parts_of, walked, whole_request}
+use Rattle.js_machine.specs.js_run.Runs.{answered, settle}
+use Rattle.js_machine.specs.js_run.declared.intrinsics.TheConstants.{ERROR_PROTOTYPE}
 use Rattle.js_machine.specs.Halts.{halt_number}
 use Rattle.js_machine.specs.Packages.{loaded_in, loaded_of}
 use Rattle.js_machine.specs.Evaluated.{IsImported, module_or, unbegun, waits_for_exports}

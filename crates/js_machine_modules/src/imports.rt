@@ -2,7 +2,7 @@
 
 ghost use Rattle.std.specs.Prelude.{◌≡◌, [], IfOk, Some};
 ghost use Rattle.js_text.specs.Naming.{naming_of};
-ghost use Rattle.js_run.specs.Modules.{imports, imports_there, loaded_at};
+ghost use Rattle.js_machine.specs.js_run.Modules.{imports, imports_there, loaded_at};
 ghost use Rattle.js_machine.specs.Evaluated.{IsImported};
 ghost use Rattle.js_machine.specs.Requested.{imported_place};
 ghost use Rattle.js_machine.specs.Steps.{LeadsTo};

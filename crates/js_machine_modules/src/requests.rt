@@ -3,7 +3,7 @@
 ghost use Rattle.std.specs.Prelude.{◌≡◌, ◌++◌, ◌≤◌, IfOk, length, option_map, Some};
 ghost use Rattle.std.specs.Option.{option_and_then};
 ghost use Rattle.js_text.specs.Texts.{same_units};
-ghost use Rattle.js_run.specs.Requests.{candidates, directory_of, goes_by, is_builtin, is_dots, is_link, is_scope, joined_parts, link_of, not_allowed_text, not_found_text, parts_of, up, walked, whole_request, first_part};
+ghost use Rattle.js_machine.specs.js_run.Requests.{candidates, directory_of, goes_by, is_builtin, is_dots, is_link, is_scope, joined_parts, link_of, not_allowed_text, not_found_text, parts_of, up, walked, whole_request, first_part};
 ghost use Rattle.js_machine.specs.Requested.{link_parts};
 
 use js_machine::requests::text_of;

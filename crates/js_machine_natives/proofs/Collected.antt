@@ -10,11 +10,11 @@ use Rattle.js_desc.specs.declared.ask.Ask.TheVariants as ask
 use Rattle.js_ordinary.specs.Origins.{object_of, there}
 use Rattle.js_ordinary.specs.Targets.{object_seen, origin_of_target}
 use Rattle.js_ordinary.specs.declared.target.Target.{Target}
-use Rattle.js_run.specs.Acts.{as_it_is}
-use Rattle.js_run.specs.Collections.{follows_table, with_table}
-use Rattle.js_run.specs.Decisions.{decides_by_slot, decides_object}
-use Rattle.js_run.specs.Following.{follows_by}
-use Rattle.js_slot_natives.specs.SlotNatives.{table_given}
+use Rattle.js_machine.specs.js_run.Acts.{as_it_is}
+use Rattle.js_machine.specs.js_run.Collections.{follows_table, with_table}
+use Rattle.js_machine.specs.js_run.Decisions.{decides_by_slot, decides_object}
+use Rattle.js_machine.specs.js_run.Following.{follows_by}
+use Rattle.js_machine.specs.js_slot_natives.SlotNatives.{table_given}
 use Rattle.js_slots.specs.declared.entry.TableEntry.{TableEntry}
 use Rattle.js_store.specs.Frozen.{CommonObject, common_ref}
 use Rattle.js_store.specs.Objects.{Object}

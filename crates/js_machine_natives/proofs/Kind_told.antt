@@ -9,14 +9,14 @@ use Rattle.js_text.specs.declared.value.Value.{Value}
 use Rattle.js_text.specs.declared.value.Value.TheVariants as value
 use Rattle.js_desc.specs.declared.ask.Ask.{Ask}
 use Rattle.js_desc.specs.declared.decision.Decision.TheVariants as decision
-use Rattle.js_maker_natives.specs.Kinds.{class_of, object_kind}
-use Rattle.js_maker_natives.specs.MakerDecisions.{MakerDecision}
-use Rattle.js_maker_natives.specs.declared.next.Next.{Next}
-use Rattle.js_maker_natives.specs.declared.next.Next.TheVariants as maker
-use Rattle.js_native_steps.specs.Steps.{NativeStep, of_maker, waits_as}
-use Rattle.js_operations.specs.Looks.{marks_seen}
-use Rattle.js_run.specs.NativeTurns.{follows_native}
-use Rattle.js_run.specs.SlotNatives.{asks_slot, tells_kind}
+use Rattle.js_machine.specs.js_maker_natives.Kinds.{class_of, object_kind}
+use Rattle.js_machine.specs.js_maker_natives.MakerDecisions.{MakerDecision}
+use Rattle.js_machine.specs.js_maker_natives.declared.next.Next.{Next}
+use Rattle.js_machine.specs.js_maker_natives.declared.next.Next.TheVariants as maker
+use Rattle.js_machine.specs.js_native_steps.Steps.{NativeStep, of_maker, waits_as}
+use Rattle.js_machine.specs.js_operations.Looks.{marks_seen}
+use Rattle.js_machine.specs.js_run.NativeTurns.{follows_native}
+use Rattle.js_machine.specs.js_run.SlotNatives.{asks_slot, tells_kind}
 use Rattle.js_machine.specs.Decisions.{object_of_value}
 use Rattle.js_machine.specs.Proxying.{known_if, known_of, marks_if}
 use Rattle.js_machine.specs.SlotAsks.{first_object}

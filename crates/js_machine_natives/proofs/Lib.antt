@@ -5,3 +5,4 @@ pub mod Wanted_numbers
 pub mod Collected
 pub mod Slot_asked
 pub mod Kind_told
+pub use Rattle.js_natives.proofs.of_js_run_laws

@@ -13,15 +13,15 @@ use Rattle.js_desc.specs.declared.reply.Reply.{Reply}
 use Rattle.js_desc.specs.declared.reply.Reply.TheVariants as reply
 use Rattle.js_native.specs.Costs.{native_cost}
 use Rattle.js_natives.specs.Deeds.{Does, NativeDeed, acts_with, goes_on_with}
-use Rattle.js_native_steps.specs.Steps.{NativeStep, waits_as}
-use Rattle.js_native_steps.specs.declared.next.NativeNext.{NativeNext}
-use Rattle.js_operations.specs.Lists.{list_items}
-use Rattle.js_run.specs.Acts.{give}
-use Rattle.js_run.specs.NativeTurns.{charged, follows_native, follows_native_with, listed_units, native_gives, native_goes_on}
-use Rattle.js_run.specs.Natives.{native_acts, runs_native}
-use Rattle.js_run.specs.Operators.{pays}
-use Rattle.js_run.specs.Parties.{Party, Shared}
-use Rattle.js_run.specs.Runs.{answered}
+use Rattle.js_machine.specs.js_native_steps.Steps.{NativeStep, waits_as}
+use Rattle.js_machine.specs.js_native_steps.declared.next.NativeNext.{NativeNext}
+use Rattle.js_machine.specs.js_operations.Lists.{list_items}
+use Rattle.js_machine.specs.js_run.Acts.{give}
+use Rattle.js_machine.specs.js_run.NativeTurns.{charged, follows_native, follows_native_with, listed_units, native_gives, native_goes_on}
+use Rattle.js_machine.specs.js_run.Natives.{native_acts, runs_native}
+use Rattle.js_machine.specs.js_run.Operators.{pays}
+use Rattle.js_machine.specs.js_run.Parties.{Party, Shared}
+use Rattle.js_machine.specs.js_run.Runs.{answered}
 use Rattle.js_store.specs.Objects.{Object}
 use Rattle.js_machine.specs.Natives.{asks_slots}
 use Rattle.js_machine.specs.Steps.{Deed, IsDelivered, LeadsTo, Pays, settles, without_top}

@@ -6,10 +6,10 @@ use Rattle.lava_base.specs.declared.ids.Ref.{Ref}
 use Rattle.js_text.specs.declared.text.TheConstants.{MAX_UNITS}
 use Rattle.js_text.specs.declared.value.Value.TheVariants as value
 use Rattle.js_native.specs.declared.costs.TheConstants.{UNITS_A_STEP}
-use Rattle.js_run.specs.Acts.{Act, End, give}
-use Rattle.js_run.specs.Completions as halt
-use Rattle.js_run.specs.Operators.{given_text, pays}
-use Rattle.js_run.specs.Parties.{Party}
+use Rattle.js_machine.specs.js_run.Acts.{Act, End, give}
+use Rattle.js_machine.specs.js_run.Completions as halt
+use Rattle.js_machine.specs.js_run.Operators.{given_text, pays}
+use Rattle.js_machine.specs.js_run.Parties.{Party}
 use Rattle.js_machine.specs.Steps.{IsDelivered, LeadsTo, Pays, without_top}
 use Rattle.js_machine.specs.Views.{View, party_of}
 use Rattle.js_machine.specs.declared.frame.Frame.TheVariants as frame

@@ -18,26 +18,26 @@ use Rattle.js_desc.specs.declared.descriptor.PartialDescriptor.{PartialDescripto
 use Rattle.js_desc.specs.declared.fault.FaultText.TheVariants as fault
 use Rattle.js_desc.specs.declared.reply.Reply.{Reply}
 use Rattle.js_desc.specs.declared.reply.Reply.TheVariants as reply
-use Rattle.js_operations.specs.Descriptions.{description_resumed, field_come, field_given}
-use Rattle.js_operations.specs.Fields.{function_of_field, with_field, with_get, with_set}
-use Rattle.js_operations.specs.Looks.{marks_seen, marks_there}
-use Rattle.js_operations.specs.declared.descriptions.Description.{Description}
-use Rattle.js_operations.specs.declared.fields.FieldName.{FieldName}
-use Rattle.js_operations.specs.declared.fields.FieldName.TheVariants as field
+use Rattle.js_machine.specs.js_operations.Descriptions.{description_resumed, field_come, field_given}
+use Rattle.js_machine.specs.js_operations.Fields.{function_of_field, with_field, with_get, with_set}
+use Rattle.js_machine.specs.js_operations.Looks.{marks_seen, marks_there}
+use Rattle.js_machine.specs.js_operations.declared.descriptions.Description.{Description}
+use Rattle.js_machine.specs.js_operations.declared.fields.FieldName.{FieldName}
+use Rattle.js_machine.specs.js_operations.declared.fields.FieldName.TheVariants as field
 use Rattle.js_ordinary.specs.Origins.{object_of, there}
 use Rattle.js_ordinary.specs.Targets.{object_seen, origin_of_target}
 use Rattle.js_ordinary.specs.declared.target.Target.{Target}
-use Rattle.js_proxy.specs.Decided.{decided, decided_by_slot, decided_there, resumed}
-use Rattle.js_proxy.specs.Traps.{array_by_class, call_with, decided_by_proxy, decided_slot_ask}
-use Rattle.js_run.specs.Acts.{Act, Proxy_decides}
-use Rattle.js_run.specs.Asking.{waits_for}
-use Rattle.js_run.specs.Conversions.{to_number}
-use Rattle.js_run.specs.Decisions.{decides_by_slot, decides_object}
-use Rattle.js_run.specs.Faults.{faults}
-use Rattle.js_run.specs.Following.{follows_by, see_come}
-use Rattle.js_run.specs.Parties.{Party}
-use Rattle.js_run.specs.Proxies.{follows_proxy, follows_proxy_with, proxy_decides, proxy_goes_on, proxy_has_number, see_target}
-use Rattle.js_run.specs.Runs.{answered}
+use Rattle.js_machine.specs.js_proxy.Decided.{decided, decided_by_slot, decided_there, resumed}
+use Rattle.js_machine.specs.js_proxy.Traps.{array_by_class, call_with, decided_by_proxy, decided_slot_ask}
+use Rattle.js_machine.specs.js_run.Acts.{Act, Proxy_decides}
+use Rattle.js_machine.specs.js_run.Asking.{waits_for}
+use Rattle.js_machine.specs.js_run.Conversions.{to_number}
+use Rattle.js_machine.specs.js_run.Decisions.{decides_by_slot, decides_object}
+use Rattle.js_machine.specs.js_run.Faults.{faults}
+use Rattle.js_machine.specs.js_run.Following.{follows_by, see_come}
+use Rattle.js_machine.specs.js_run.Parties.{Party}
+use Rattle.js_machine.specs.js_run.Proxies.{follows_proxy, follows_proxy_with, proxy_decides, proxy_goes_on, proxy_has_number, see_target}
+use Rattle.js_machine.specs.js_run.Runs.{answered}
 use Rattle.js_store.specs.Foreign.{marks_of}
 use Rattle.js_store.specs.Frozen.{CommonObject, as_read, common_ref}
 use Rattle.js_store.specs.Objects.{Object, object_at, plain_marks}
@@ -46,10 +46,10 @@ use Rattle.js_store.specs.declared.slot.Held.TheVariants as held
 use Rattle.js_store.specs.declared.slot.Proxied.{Proxied}
 use Rattle.js_store.specs.declared.slot.Slot.{Slot}
 use Rattle.js_store.specs.declared.slot.Slot.TheVariants as slot
-use Rattle.js_traps.specs.PropertyTraps.{description_read}
-use Rattle.js_traps.specs.TrapDecisions.{ProxyDecision}
-use Rattle.js_traps.specs.declared.next.Next.{Next as ProxyNext}
-use Rattle.js_traps.specs.declared.next.Next.TheVariants as next
+use Rattle.js_machine.specs.js_traps.PropertyTraps.{description_read}
+use Rattle.js_machine.specs.js_traps.TrapDecisions.{ProxyDecision}
+use Rattle.js_machine.specs.js_traps.declared.next.Next.{Next as ProxyNext}
+use Rattle.js_machine.specs.js_traps.declared.next.Next.TheVariants as next
 use Rattle.js_machine.specs.Decisions.{object_of_value}
 use Rattle.js_machine.specs.Looks.{marks_at, marks_in}
 use Rattle.js_machine.specs.Proxying.{known_at, known_if, known_of, marks_if, object_come, proxy_decided, target_of}

@@ -17,38 +17,38 @@ use Rattle.js_desc.specs.declared.decision.Decision.TheVariants as decision
 use Rattle.js_desc.specs.declared.fault.FaultText.{FaultText}
 use Rattle.js_desc.specs.declared.fault.FaultText.TheVariants as fault
 use Rattle.js_desc.specs.declared.reply.Reply.{Reply}
-use Rattle.js_maker_natives.specs.Kinds.{array_of_class, is_array}
-use Rattle.js_maker_natives.specs.MakerDecisions.{MakerDecision}
+use Rattle.js_machine.specs.js_maker_natives.Kinds.{array_of_class, is_array}
+use Rattle.js_machine.specs.js_maker_natives.MakerDecisions.{MakerDecision}
 use Rattle.js_native.specs.Costs.{native_cost}
-use Rattle.js_native_steps.specs.Steps.{waits_as}
-use Rattle.js_native_steps.specs.declared.next.NativeNext.{NativeNext}
-use Rattle.js_operations.specs.Lists.{list_items}
-use Rattle.js_operations.specs.Looks.{marks_seen}
-use Rattle.js_run.specs.Acts as acts
-use Rattle.js_run.specs.Acts.{Act, Closes, End, Native_decides, Of_maker, Of_slot, ask_there, give}
-use Rattle.js_run.specs.Asking.{open_one, waits_for}
-use Rattle.js_run.specs.Collections.{follows_table}
-use Rattle.js_run.specs.Completions as halt_kind
-use Rattle.js_run.specs.Faults.{faults}
-use Rattle.js_run.specs.Following.{see_value}
-use Rattle.js_run.specs.NativeTurns.{charged, listed_units, native_goes_on}
-use Rattle.js_run.specs.Natives.{runs_native}
-use Rattle.js_run.specs.Operators.{pays}
-use Rattle.js_run.specs.Parties.{Party, Shared, shallower}
-use Rattle.js_run.specs.Runs.{answered}
-use Rattle.js_run.specs.SlotNatives.{asks_collection, asks_slot, charged_unless_sent, follows_slot, proxy_tells, slot_tells}
-use Rattle.js_run.specs.declared.TheConstants.{MAX_DEPTH}
-use Rattle.js_proxy.specs.Traps.{decided_by_proxy}
-use Rattle.js_slot_natives.specs.Collections.{collection_class, is_of_class}
-use Rattle.js_slot_natives.specs.SlotNatives.{SlotDecision, ask_collection, slot_native, table_given, takes}
-use Rattle.js_slot_natives.specs.declared.next.Next.TheVariants as slot_next
+use Rattle.js_machine.specs.js_native_steps.Steps.{waits_as}
+use Rattle.js_machine.specs.js_native_steps.declared.next.NativeNext.{NativeNext}
+use Rattle.js_machine.specs.js_operations.Lists.{list_items}
+use Rattle.js_machine.specs.js_operations.Looks.{marks_seen}
+use Rattle.js_machine.specs.js_run.Acts as acts
+use Rattle.js_machine.specs.js_run.Acts.{Act, Closes, End, Native_decides, Of_maker, Of_slot, ask_there, give}
+use Rattle.js_machine.specs.js_run.Asking.{open_one, waits_for}
+use Rattle.js_machine.specs.js_run.Collections.{follows_table}
+use Rattle.js_machine.specs.js_run.Completions as halt_kind
+use Rattle.js_machine.specs.js_run.Faults.{faults}
+use Rattle.js_machine.specs.js_run.Following.{see_value}
+use Rattle.js_machine.specs.js_run.NativeTurns.{charged, listed_units, native_goes_on}
+use Rattle.js_machine.specs.js_run.Natives.{runs_native}
+use Rattle.js_machine.specs.js_run.Operators.{pays}
+use Rattle.js_machine.specs.js_run.Parties.{Party, Shared, shallower}
+use Rattle.js_machine.specs.js_run.Runs.{answered}
+use Rattle.js_machine.specs.js_run.SlotNatives.{asks_collection, asks_slot, charged_unless_sent, follows_slot, proxy_tells, slot_tells}
+use Rattle.js_machine.specs.js_run.declared.TheConstants.{MAX_DEPTH}
+use Rattle.js_machine.specs.js_proxy.Traps.{decided_by_proxy}
+use Rattle.js_machine.specs.js_slot_natives.Collections.{collection_class, is_of_class}
+use Rattle.js_machine.specs.js_slot_natives.SlotNatives.{SlotDecision, ask_collection, slot_native, table_given, takes}
+use Rattle.js_machine.specs.js_slot_natives.declared.next.Next.TheVariants as slot_next
 use Rattle.js_store.specs.Tables.{entries_of}
 use Rattle.js_store.specs.declared.slot.Entry.{Entry}
 use Rattle.js_store.specs.declared.slot.Slot.{Slot}
 use Rattle.js_store.specs.declared.slot.Slot.TheVariants as slot
-use Rattle.js_traps.specs.TrapDecisions.{ProxyDecision}
-use Rattle.js_traps.specs.declared.next.Next.{Next as ProxyNext}
-use Rattle.js_traps.specs.declared.next.Next.TheVariants as proxy_next
+use Rattle.js_machine.specs.js_traps.TrapDecisions.{ProxyDecision}
+use Rattle.js_machine.specs.js_traps.declared.next.Next.{Next as ProxyNext}
+use Rattle.js_machine.specs.js_traps.declared.next.Next.TheVariants as proxy_next
 use Rattle.js_machine.specs.Collecting.{collected, table_by}
 use Rattle.js_machine.specs.Decisions.{object_of_value}
 use Rattle.js_machine.specs.Looks.{foreign_at}

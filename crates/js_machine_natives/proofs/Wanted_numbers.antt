@@ -14,23 +14,23 @@ use Rattle.js_desc.specs.declared.decision.Decision.TheVariants as decision
 use Rattle.js_desc.specs.declared.fault.FaultText.TheVariants as fault
 use Rattle.js_desc.specs.declared.reply.Reply.{Reply}
 use Rattle.js_desc.specs.declared.reply.Reply.TheVariants as reply
-use Rattle.js_conversions.specs.Conversions.{method_name}
-use Rattle.js_conversions.specs.Primitives as conversions
-use Rattle.js_conversions.specs.Primitives.{ReadsNumbers}
-use Rattle.js_conversions.specs.declared.next.Wanted.TheVariants as wanted
-use Rattle.js_exotic.specs.Verdicts.{ExoticDecision}
-use Rattle.js_exotic.specs.declared.next.Next.{Next as ExoticNext}
-use Rattle.js_operation.specs.Computing.{number_converted, number_of}
-use Rattle.js_operation.specs.declared.operation.Computed.{Computed}
-use Rattle.js_operation.specs.declared.operation.Computed.TheVariants as computed
-use Rattle.js_run.specs.Acts.{Act, Give, on_value}
-use Rattle.js_run.specs.Asking.{waits_for}
-use Rattle.js_run.specs.Completions.{Replied}
-use Rattle.js_run.specs.Conversions.{number_read, to_number}
-use Rattle.js_run.specs.Decisions.{follows, follows_once}
-use Rattle.js_run.specs.Faults.{faults}
-use Rattle.js_run.specs.Parties.{Party, Shared}
-use Rattle.js_run.specs.Runs.{answered}
+use Rattle.js_machine.specs.js_conversions.Conversions.{method_name}
+use Rattle.js_machine.specs.js_conversions.Primitives as conversions
+use Rattle.js_machine.specs.js_conversions.Primitives.{ReadsNumbers}
+use Rattle.js_machine.specs.js_conversions.declared.next.Wanted.TheVariants as wanted
+use Rattle.js_machine.specs.js_exotic.Verdicts.{ExoticDecision}
+use Rattle.js_machine.specs.js_exotic.declared.next.Next.{Next as ExoticNext}
+use Rattle.js_machine.specs.js_operation.Computing.{number_converted, number_of}
+use Rattle.js_machine.specs.js_operation.declared.operation.Computed.{Computed}
+use Rattle.js_machine.specs.js_operation.declared.operation.Computed.TheVariants as computed
+use Rattle.js_machine.specs.js_run.Acts.{Act, Give, on_value}
+use Rattle.js_machine.specs.js_run.Asking.{waits_for}
+use Rattle.js_machine.specs.js_run.Completions.{Replied}
+use Rattle.js_machine.specs.js_run.Conversions.{number_read, to_number}
+use Rattle.js_machine.specs.js_run.Decisions.{follows, follows_once}
+use Rattle.js_machine.specs.js_run.Faults.{faults}
+use Rattle.js_machine.specs.js_run.Parties.{Party, Shared}
+use Rattle.js_machine.specs.js_run.Runs.{answered}
 use Rattle.js_machine.specs.Decisions.{object_of_value}
 use Rattle.js_machine.specs.Looks.{marks_in}
 use Rattle.js_machine.specs.Steps.{LeadsTo, Wakes, settles}

@@ -5,15 +5,15 @@ use Rattle.lava_base.specs.declared.ids.Ref.{Ref}
 use Rattle.js_text.specs.Naming.{Naming}
 use Rattle.js_text.specs.declared.native.Native.{Native}
 use Rattle.js_desc.specs.declared.ask.Ask.{Ask}
-use Rattle.js_maker_natives.specs.MakerDecisions.{MakerDecision}
-use Rattle.js_maker_natives.specs.declared.next.Next.TheVariants as maker
-use Rattle.js_native_steps.specs.declared.next.NativeNext.{NativeNext}
-use Rattle.js_native_steps.specs.declared.next.NativeNext.TheVariants as native_next
-use Rattle.js_run.specs.Acts as acts
-use Rattle.js_run.specs.Acts.{Act, Of_maker}
-use Rattle.js_run.specs.Asking.{object_here, open_one}
-use Rattle.js_run.specs.Parties.{Party, Shared}
-use Rattle.js_run.specs.SlotNatives.{follows_kind, slot_tells}
+use Rattle.js_machine.specs.js_maker_natives.MakerDecisions.{MakerDecision}
+use Rattle.js_machine.specs.js_maker_natives.declared.next.Next.TheVariants as maker
+use Rattle.js_machine.specs.js_native_steps.declared.next.NativeNext.{NativeNext}
+use Rattle.js_machine.specs.js_native_steps.declared.next.NativeNext.TheVariants as native_next
+use Rattle.js_machine.specs.js_run.Acts as acts
+use Rattle.js_machine.specs.js_run.Acts.{Act, Of_maker}
+use Rattle.js_machine.specs.js_run.Asking.{object_here, open_one}
+use Rattle.js_machine.specs.js_run.Parties.{Party, Shared}
+use Rattle.js_machine.specs.js_run.SlotNatives.{follows_kind, slot_tells}
 use Rattle.js_machine.specs.SlotAsks.{slot_wait}
 
 -- what a native waits for whose object tells: `classOf` remembers whether that can be called

@@ -2,10 +2,10 @@
 
 ghost use Rattle.std.specs.Prelude.{◌≡◌, ◌<◌, IfOk, OnOk, length};
 ghost use Rattle.js_text.specs.Naming.{Own, naming_of};
-ghost use Rattle.js_run.specs.Acts.{as_it_is};
-ghost use Rattle.js_run.specs.Collections.{follows_table};
-ghost use Rattle.js_run.specs.Following.{follows_by};
-ghost use Rattle.js_slot_natives.specs.SlotNatives.{table_given};
+ghost use Rattle.js_machine.specs.js_run.Acts.{as_it_is};
+ghost use Rattle.js_machine.specs.js_run.Collections.{follows_table};
+ghost use Rattle.js_machine.specs.js_run.Following.{follows_by};
+ghost use Rattle.js_machine.specs.js_slot_natives.SlotNatives.{table_given};
 ghost use Rattle.js_store.specs.Objects.{object_at};
 ghost use Rattle.js_store.specs.Tables.{entries_of};
 ghost use Rattle.js_machine.specs.Collecting.{collected, table_by, with_entries};

@@ -14,3 +14,5 @@ pub mod natives;
 pub mod proxies;
 pub mod slot_asks;
 pub mod to_number;
+
+pub use js_natives::js_run_laws;

@@ -5,8 +5,8 @@ ghost use Rattle.js_code.specs.Decoded.{term_at, text_at};
 ghost use Rattle.js_text.specs.Naming.{naming_of};
 ghost use Rattle.js_text.specs.declared.value.Key.TheVariants as key_kind;
 ghost use Rattle.js_desc.specs.declared.fault.FaultText.TheVariants as fault_kind;
-ghost use Rattle.js_run.specs.Faults.{faults};
-ghost use Rattle.js_run.specs.Properties.{get_global, global_value, missing_global, put_global, set_global};
+ghost use Rattle.js_machine.specs.js_run.Faults.{faults};
+ghost use Rattle.js_machine.specs.js_run.Properties.{get_global, global_value, missing_global, put_global, set_global};
 ghost use Rattle.js_machine.specs.Steps.{LeadsTo};
 ghost use Rattle.js_machine.specs.Views.{party_of};
 

@@ -3,8 +3,8 @@
 ghost use Rattle.std.specs.Prelude.{◌≡◌, IfOk, Some, length};
 ghost use Rattle.js_text.specs.Naming.{naming_of};
 ghost use Rattle.js_text.specs.declared.value.Value.TheVariants as value_kind;
-ghost use Rattle.js_run.specs.Acts.{give};
-ghost use Rattle.js_run.specs.Operators.{has_instance, has_instance_by, prototype_inherited};
+ghost use Rattle.js_machine.specs.js_run.Acts.{give};
+ghost use Rattle.js_machine.specs.js_run.Operators.{has_instance, has_instance_by, prototype_inherited};
 ghost use Rattle.js_machine.specs.Instances.{bound_target, bound_target_in, unbound_in};
 ghost use Rattle.js_machine.specs.Steps.{LeadsTo, deed_with, under};
 ghost use Rattle.js_machine.specs.Views.{party_of};

@@ -12,3 +12,5 @@ pub mod globals;
 pub mod instances;
 pub mod operators;
 pub mod properties;
+
+pub use js_operators;

@@ -14,9 +14,9 @@ use Rattle.js_term.specs.declared.term.Arguments.{out-Arguments}
 use Rattle.js_term.specs.declared.term.Arguments.TheOpen.{Arguments-F}
 use Rattle.js_term.specs.declared.term.Arguments.TheVariants.{outs-Listed, outs-Of}
 use Rattle.js_term.specs.declared.term.Term.{Term}
-use Rattle.js_run.specs.Calls.{calls_with}
-use Rattle.js_run.specs.Control.{all_values, argument_values, values_at}
-use Rattle.js_run.specs.Rows.{new_callee}
+use Rattle.js_machine.specs.js_run.Calls.{calls_with}
+use Rattle.js_machine.specs.js_run.Control.{all_values, argument_values, values_at}
+use Rattle.js_machine.specs.js_run.Rows.{new_callee}
 use Rattle.js_machine.specs.Steps.{LeadsTo, Waits}
 use Rattle.js_machine.specs.Views.{View, applied, args_on, below, held, party_of, top}
 use Rattle.js_machine.specs.declared.frame.Frame.TheVariants as frame

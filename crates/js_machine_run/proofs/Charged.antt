@@ -6,12 +6,12 @@ use Rattle.js_text.specs.Naming.{Naming, naming_of}
 use Rattle.js_text.specs.declared.value.Value.{Value}
 use Rattle.js_desc.specs.declared.ask.Ask.{Ask}
 use Rattle.js_code.specs.Decoded.{term_at}
-use Rattle.js_run.specs.Acts as acts
-use Rattle.js_run.specs.Completions as halt_kind
-use Rattle.js_run.specs.Completions.{Completion}
-use Rattle.js_run.specs.Parties.{Party, Shared}
-use Rattle.js_run.specs.Runs as runs
-use Rattle.js_run.specs.Runs.{Begins, Charge, Charged, Decides, Due, Env, Gives, Job, Lacks, Nothing, Point, Short, Stopped, Stops, answered, at_steps, charge, run, run_for, settle, work}
+use Rattle.js_machine.specs.js_run.Acts as acts
+use Rattle.js_machine.specs.js_run.Completions as halt_kind
+use Rattle.js_machine.specs.js_run.Completions.{Completion}
+use Rattle.js_machine.specs.js_run.Parties.{Party, Shared}
+use Rattle.js_machine.specs.js_run.Runs as runs
+use Rattle.js_machine.specs.js_run.Runs.{Begins, Charge, Charged, Decides, Due, Env, Gives, Job, Lacks, Nothing, Point, Short, Stopped, Stops, answered, at_steps, charge, run, run_for, settle, work}
 use Rattle.js_machine.specs.Looks.{foreign_in}
 use Rattle.js_machine.specs.Steps.{Keeps, asked_at, point_of, settles}
 use Rattle.js_machine.specs.Stops.{IsRun, IsWorked, RunsFor, RunsOn, Stays, ask_cost, ask_stop, charge_of, cost_of, stop_at, stop_of, told_as, told_stop, with_steps, worked}

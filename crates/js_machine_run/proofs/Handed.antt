@@ -5,8 +5,8 @@ use Rattle.lava_base.specs.Ids.{same_ref}
 use Rattle.lava_base.specs.declared.ids.Ref.{Ref}
 use Rattle.js_text.specs.Naming.{naming_of}
 use Rattle.js_text.specs.declared.value.Value.TheVariants as value
-use Rattle.js_run.specs.Acts.{give}
-use Rattle.js_run.specs.Requests.{is_link}
+use Rattle.js_machine.specs.js_run.Acts.{give}
+use Rattle.js_machine.specs.js_run.Requests.{is_link}
 use Rattle.js_store.specs.Foreign.{marks_of}
 use Rattle.js_machine.specs.Looks.{foreign_in}
 use Rattle.js_machine.specs.Steps.{IsBegun, IsDecided, IsDelivered, Keeps, LeadsTo, point_of}

@@ -8,13 +8,13 @@ use Rattle.js_code.specs.Tables.{Tables}
 use Rattle.js_desc.specs.declared.fault.FaultText.TheVariants as fault
 use Rattle.js_desc.specs.declared.reply.Reply.{Reply}
 use Rattle.js_desc.specs.declared.reply.Reply.TheVariants as reply
-use Rattle.js_run.specs.Acts.{Act, Give, Turns, after_turn, give, on_value}
-use Rattle.js_run.specs.Completions.{Completion, Replied}
-use Rattle.js_run.specs.Control.{finally_ends}
-use Rattle.js_run.specs.Faults.{faults}
-use Rattle.js_run.specs.Going.{go_on}
-use Rattle.js_run.specs.Parties.{Party, Shared}
-use Rattle.js_run.specs.Runs.{answered, settle}
+use Rattle.js_machine.specs.js_run.Acts.{Act, Give, Turns, after_turn, give, on_value}
+use Rattle.js_machine.specs.js_run.Completions.{Completion, Replied}
+use Rattle.js_machine.specs.js_run.Control.{finally_ends}
+use Rattle.js_machine.specs.js_run.Faults.{faults}
+use Rattle.js_machine.specs.js_run.Going.{go_on}
+use Rattle.js_machine.specs.js_run.Parties.{Party, Shared}
+use Rattle.js_machine.specs.js_run.Runs.{answered, settle}
 use Rattle.js_machine.specs.Bodies.{stood_in}
 use Rattle.js_machine.specs.Replies.{deed_replied}
 use Rattle.js_machine.specs.Steps.{IsDelivered, LeadsTo, point_of, settles, under, without_top, deed_with}

@@ -8,15 +8,15 @@ use Rattle.js_text.specs.declared.value.Value.TheVariants as value
 use Rattle.js_code.specs.Decoded.{template_at, term_at}
 use Rattle.js_code.specs.Tables.{Tables}
 use Rattle.js_desc.specs.declared.reply.Reply.TheVariants as reply
-use Rattle.js_native_steps.specs.Steps.{waits_as}
-use Rattle.js_run.specs.Acts.{Act, Give, give, on_value}
-use Rattle.js_run.specs.Completions.{Replied, reply_of}
-use Rattle.js_run.specs.Decisions.{goes_on}
-use Rattle.js_run.specs.Going.{go_on}
-use Rattle.js_run.specs.NativeTurns.{native_goes_on}
-use Rattle.js_run.specs.Parties.{Party, Shared, shallower}
-use Rattle.js_run.specs.Proxies.{proxy_goes_on}
-use Rattle.js_run.specs.Runs.{answered}
+use Rattle.js_machine.specs.js_native_steps.Steps.{waits_as}
+use Rattle.js_machine.specs.js_run.Acts.{Act, Give, give, on_value}
+use Rattle.js_machine.specs.js_run.Completions.{Replied, reply_of}
+use Rattle.js_machine.specs.js_run.Decisions.{goes_on}
+use Rattle.js_machine.specs.js_run.Going.{go_on}
+use Rattle.js_machine.specs.js_run.NativeTurns.{native_goes_on}
+use Rattle.js_machine.specs.js_run.Parties.{Party, Shared, shallower}
+use Rattle.js_machine.specs.js_run.Proxies.{proxy_goes_on}
+use Rattle.js_machine.specs.js_run.Runs.{answered}
 use Rattle.js_machine.specs.Constructions.{constructs_made}
 use Rattle.js_machine.specs.Steps.{IsDelivered, Wakes, comes, point_of, settles}
 use Rattle.js_machine.specs.Views.{Around, View, completion_with, first_wait, fitting, is_completion, next_of_wait, next_of_want, party_of, top, values_without, waits_under}

@@ -3,9 +3,9 @@
 ghost use Rattle.std.specs.Prelude.{◌+◌, ◌++◌, ◌∷◌, [], IfOk, drop};
 ghost use Rattle.js_text.specs.Naming.{naming_of};
 ghost use Rattle.js_code.specs.Decoded.{arguments_at, term_at, terms_of};
-ghost use Rattle.js_run.specs.Calls.{calls_with};
-ghost use Rattle.js_run.specs.Control.{all_values, argument_values};
-ghost use Rattle.js_run.specs.Rows.{new_callee};
+ghost use Rattle.js_machine.specs.js_run.Calls.{calls_with};
+ghost use Rattle.js_machine.specs.js_run.Control.{all_values, argument_values};
+ghost use Rattle.js_machine.specs.js_run.Rows.{new_callee};
 ghost use Rattle.js_machine.specs.Steps.{LeadsTo};
 ghost use Rattle.js_machine.specs.Views.{applied, args_on, below, held, party_of, top};
 

@@ -3,13 +3,13 @@
 ghost use Rattle.std.specs.Prelude.{◌≡◌, ◌-◌, IfOk, OnOk};
 ghost use Rattle.js_text.specs.Naming.{naming_of};
 ghost use Rattle.js_desc.specs.declared.decision.Decision.TheVariants as decision_kind;
-ghost use Rattle.js_exotic.specs.Decided.{decided, exotic_resumed};
-ghost use Rattle.js_exotic.specs.Verdicts.{as_exotic};
-ghost use Rattle.js_run.specs.Acts.{End};
-ghost use Rattle.js_run.specs.Decisions.{decides_object, follows, follows_once, follows_with, goes_on};
+ghost use Rattle.js_machine.specs.js_exotic.Decided.{decided, exotic_resumed};
+ghost use Rattle.js_machine.specs.js_exotic.Verdicts.{as_exotic};
+ghost use Rattle.js_machine.specs.js_run.Acts.{End};
+ghost use Rattle.js_machine.specs.js_run.Decisions.{decides_object, follows, follows_once, follows_with, goes_on};
 ghost use Rattle.js_machine.specs.Decisions.{object_of_value};
-ghost use Rattle.js_run.specs.Completions.{Replied};
-ghost use Rattle.js_run.specs.Going.{go_on};
+ghost use Rattle.js_machine.specs.js_run.Completions.{Replied};
+ghost use Rattle.js_machine.specs.js_run.Going.{go_on};
 ghost use Rattle.js_machine.specs.Steps.{IsDecided, IsDelivered, LeadsTo, Wakes, over, under};
 ghost use Rattle.js_machine.specs.Views.{party_of};
 ghost use Rattle.js_machine.specs.declared.frame.Frame.TheVariants as frame;
@@ -22,11 +22,11 @@ use js_desc::ask::Ask;
 use js_desc::decision::Decision;
 use js_desc::fault::FaultText;
 use js_desc::reply::Reply;
-use js_exotic::decide::resume;
-use js_exotic::next::Next as ExoticNext;
 use js_machine::asked::{Answer, NumberFor, Wait};
 use js_machine::decisions::object_of_value;
 use js_machine::frame::Mode;
+use js_machine::js_exotic::decide::resume;
+use js_machine::js_exotic::next::Next as ExoticNext;
 use js_machine::machine::Machine;
 use js_machine::ways::Way;
 use js_machine_calls::closures::run_function;
@@ -108,7 +108,7 @@ fn table_decision(machine: &mut Machine, me: Ref) -> Result<Decision<ExoticNext>
         IfOk result (λ d. (d, machine.new.objects) ≡ decided) }
     ensures rest { OnOk result (machine.new ≡ record machine.old { objects = machine.new.objects }) }
 {
-    js_exotic::decide::decide(
+    js_machine::js_exotic::decide::decide(
         machine.alloc,
         &mut machine.store,
         &machine.common,

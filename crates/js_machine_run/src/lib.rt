@@ -36,3 +36,6 @@ pub mod stop;
 pub mod supers;
 pub mod to_number;
 pub mod wakes;
+
+pub use js_machine_modules;
+pub use js_machine_natives::js_run_laws;

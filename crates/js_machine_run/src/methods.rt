@@ -3,8 +3,8 @@
 ghost use Rattle.std.specs.Prelude.{◌≡◌, Bool, IfOk};
 ghost use Rattle.js_code.specs.Decoded.{arguments_at, term_at};
 ghost use Rattle.js_text.specs.Naming.{naming_of};
-ghost use Rattle.js_run.specs.Rows.{call_on_key};
-ghost use Rattle.js_run.specs.Truth.{is_nullish};
+ghost use Rattle.js_machine.specs.js_run.Rows.{call_on_key};
+ghost use Rattle.js_machine.specs.js_run.Truth.{is_nullish};
 ghost use Rattle.js_machine.specs.Steps.{LeadsTo};
 ghost use Rattle.js_machine.specs.Views.{below, party_of, top};
 

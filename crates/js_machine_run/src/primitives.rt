@@ -5,7 +5,7 @@ ghost use Rattle.lava_base.specs.declared.ids.Ref.{Ref};
 ghost use Rattle.js_text.specs.Naming.{naming_of};
 ghost use Rattle.js_text.specs.declared.value.Value.TheVariants as text_value;
 ghost use Rattle.js_ordinary.specs.Primitives.{base_of};
-ghost use Rattle.js_run.specs.Decisions.{deletes, primitive_decided, primitive_set};
+ghost use Rattle.js_machine.specs.js_run.Decisions.{deletes, primitive_decided, primitive_set};
 ghost use Rattle.js_store.specs.Frozen.{common_ref};
 
 use js_desc::ask::Ask;

@@ -3,7 +3,7 @@
 ghost use Rattle.std.specs.Prelude.{IfOk};
 ghost use Rattle.js_text.specs.Naming.{naming_of};
 ghost use Rattle.js_desc.specs.declared.decision.Decision.TheVariants as proxy_decision;
-ghost use Rattle.js_run.specs.Proxies.{follows_proxy, proxy_goes_on};
+ghost use Rattle.js_machine.specs.js_run.Proxies.{follows_proxy, proxy_goes_on};
 ghost use Rattle.js_machine.specs.Proxying.{proxy_decided};
 ghost use Rattle.js_machine.specs.Steps.{LeadsTo};
 ghost use Rattle.js_machine.specs.Views.{party_of};
@@ -13,9 +13,9 @@ use js_desc::decision::Decision;
 use js_desc::reply::Reply;
 use js_machine::asked::NumberFor;
 use js_machine::frame::Mode;
+use js_machine::js_traps::next::Next as ProxyNext;
 use js_machine::machine::Machine;
 use js_machine_natives::proxies::{follow_proxy_once, next_of_proxy, proxy_decision};
-use js_traps::next::Next as ProxyNext;
 use lava_base::ids::Ref;
 use lava_base::memory::OutOfMemory;
 

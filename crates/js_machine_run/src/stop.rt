@@ -1,7 +1,7 @@
 // How a run stops, and what is charged for.
 
 ghost use Rattle.std.specs.Prelude.{◌≡◌, ◌+◌, ◌≤◌, nat_lt};
-ghost use Rattle.js_run.specs.Runs.{charge, is_past};
+ghost use Rattle.js_machine.specs.js_run.Runs.{charge, is_past};
 ghost use Rattle.js_machine.specs.declared.stop.Charge.TheVariants as charge_kind;
 ghost use Rattle.js_machine.specs.declared.frame.Mode.TheVariants as mode_kind;
 ghost use Rattle.js_text.specs.Naming.{naming_of};

@@ -4,7 +4,7 @@ ghost use Rattle.std.specs.Prelude.{IfOk, Some};
 ghost use Rattle.js_code.specs.Decoded.{arguments_at, term_at};
 ghost use Rattle.js_text.specs.Naming.{naming_of};
 ghost use Rattle.js_desc.specs.declared.reply.Reply.TheVariants as reply_kind;
-ghost use Rattle.js_run.specs.Properties.{get_above};
+ghost use Rattle.js_machine.specs.js_run.Properties.{get_above};
 ghost use Rattle.js_machine.specs.Conversions.{super_frame};
 ghost use Rattle.js_machine.specs.Replies.{deed_replied};
 ghost use Rattle.js_machine.specs.Steps.{IsDelivered, LeadsTo, over, under};

@@ -2,8 +2,8 @@
 
 ghost use Rattle.std.specs.Prelude.{IfOk};
 ghost use Rattle.js_text.specs.Naming.{naming_of};
-ghost use Rattle.js_run.specs.Asking.{waits_for};
-ghost use Rattle.js_run.specs.Conversions.{to_number};
+ghost use Rattle.js_machine.specs.js_run.Asking.{waits_for};
+ghost use Rattle.js_machine.specs.js_run.Conversions.{to_number};
 ghost use Rattle.js_machine.specs.Steps.{LeadsTo, Wakes};
 ghost use Rattle.js_machine.specs.Views.{party_of};
 ghost use Rattle.js_machine.specs.Wanting.{goes_computed, goes_with, number_method_gave, number_comes};
@@ -14,11 +14,11 @@ use js_desc::reply::Reply;
 use js_machine::asked::NumberFor;
 use js_machine::decisions::object_of_value;
 use js_machine::frame::Mode;
+use js_machine::js_operation::operation::Computed;
 use js_machine::machine::Machine;
 use js_machine_natives::proxies::proxy_has_number;
 use js_machine_natives::to_number::{ask_number_method, try_number_rest};
-use js_operation::operation::Computed;
-use js_operators::numbers::number_of;
+use js_machine_operators::js_operators::numbers::number_of;
 use js_text::value::Value;
 use lava_base::ids::Ref;
 use lava_base::memory::OutOfMemory;

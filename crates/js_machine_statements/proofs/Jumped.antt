@@ -7,9 +7,9 @@ use Rattle.js_term.specs.declared.term.Jump.{Jump, out-Jump}
 use Rattle.js_term.specs.declared.term.Jump.TheVariants as jump_kind
 use Rattle.js_term.specs.declared.term.Jump.TheVariants.{outs-Break, outs-Continue, outs-Return}
 use Rattle.js_code.specs.Decoded.{term_at, text_at}
-use Rattle.js_run.specs.Acts.{Give}
-use Rattle.js_run.specs.Completions.{Returns}
-use Rattle.js_run.specs.Control.{jump, jump_at}
+use Rattle.js_machine.specs.js_run.Acts.{Give}
+use Rattle.js_machine.specs.js_run.Completions.{Returns}
+use Rattle.js_machine.specs.js_run.Control.{jump, jump_at}
 use Rattle.js_machine.specs.Steps.{LeadsTo, Waits}
 use Rattle.js_machine.specs.Views.{View, party_of}
 use Rattle.js_machine.specs.declared.frame.Frame.TheVariants as frame

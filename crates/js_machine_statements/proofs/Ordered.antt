@@ -3,8 +3,8 @@ use Rattle.std.proofs.Common.{◌≡◌, ℕ, suc, ◌+◌, ◌-◌, ◌≤◌, 
 use Rattle.js_text.specs.declared.value.Value.TheVariants as value
 use Rattle.js_code.specs.Decoded.{term_at}
 use Rattle.js_code.specs.Tables.{part_of}
-use Rattle.js_run.specs.Acts.{Become, Evaluate, give, with_value}
-use Rattle.js_run.specs.Control.{in_order}
+use Rattle.js_machine.specs.js_run.Acts.{Become, Evaluate, give, with_value}
+use Rattle.js_machine.specs.js_run.Control.{in_order}
 use Rattle.js_machine.specs.Steps.{LeadsTo, Waits}
 use Rattle.js_machine.specs.Views.{View, party_of}
 use Rattle.js_machine.specs.declared.frame.Frame.TheVariants as frame

@@ -6,9 +6,9 @@ use Rattle.js_text.specs.Naming.{naming_of}
 use Rattle.js_text.specs.declared.value.Value.{Value}
 use Rattle.js_text.specs.declared.value.Value.TheVariants as value
 use Rattle.js_desc.specs.declared.fault.FaultText.TheVariants as fault
-use Rattle.js_run.specs.Faults.{faults}
-use Rattle.js_run.specs.Acts.{give}
-use Rattle.js_run.specs.Properties.{get_slot, init_slot, read_slot, set_slot, write_slot}
+use Rattle.js_machine.specs.js_run.Faults.{faults}
+use Rattle.js_machine.specs.js_run.Acts.{give}
+use Rattle.js_machine.specs.js_run.Properties.{get_slot, init_slot, read_slot, set_slot, write_slot}
 use Rattle.js_state.specs.Scopes.{outwards, slot_of}
 use Rattle.js_machine.specs.Bodies.{scope_of}
 use Rattle.js_machine.specs.Steps.{LeadsTo}

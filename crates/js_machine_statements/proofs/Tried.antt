@@ -9,9 +9,9 @@ use Rattle.js_text.specs.declared.value.Value.{Value}
 use Rattle.js_code.specs.Decoded.{term_at}
 use Rattle.js_code.specs.Tables.{Tables}
 use Rattle.js_code.specs.declared.node.GuardedRow.{GuardedRow}
-use Rattle.js_run.specs.Control.{finishes, inside, try_ends}
-use Rattle.js_run.specs.Parties.{Party}
-use Rattle.js_run.specs.Runs.{answered}
+use Rattle.js_machine.specs.js_run.Control.{finishes, inside, try_ends}
+use Rattle.js_machine.specs.js_run.Parties.{Party}
+use Rattle.js_machine.specs.js_run.Runs.{answered}
 use Rattle.js_state.specs.Scopes.{Scope, no_scope, with_slot, with_value}
 use Rattle.js_term.specs.declared.term.Term.{Term}
 use Rattle.js_machine.specs.Bodies.{scope_of, stood_in}

@@ -9,8 +9,8 @@ use Rattle.js_text.specs.declared.value.Value.TheVariants as value
 use Rattle.js_code.specs.Decoded.{no_turn_row, term_at, text_at}
 use Rattle.js_code.specs.Tables.{Tables, part_of}
 use Rattle.js_code.specs.declared.node.TurnRow.{TurnRow}
-use Rattle.js_run.specs.Acts.{Evaluate, Give, Tested, give, is_label, next_turn}
-use Rattle.js_run.specs.Completions.{Breaks, Continues}
+use Rattle.js_machine.specs.js_run.Acts.{Evaluate, Give, Tested, give, is_label, next_turn}
+use Rattle.js_machine.specs.js_run.Completions.{Breaks, Continues}
 use Rattle.js_machine.specs.Steps.{IsDelivered, LeadsTo, Waits}
 use Rattle.js_machine.specs.Views.{View, below, is_completion, party_of, turns_at}
 use Rattle.js_machine.specs.declared.frame.Frame.TheVariants as frame

@@ -2,10 +2,10 @@
 
 ghost use Rattle.std.specs.Prelude.{◌≡◌, IfOk, OnOk, None, true, replicate};
 ghost use Rattle.js_code.specs.Decoded.{term_at, text_at};
-ghost use Rattle.js_run.specs.Acts.{Give, give};
-ghost use Rattle.js_run.specs.Completions.{Breaks, Continues};
-ghost use Rattle.js_run.specs.Control.{inside};
-ghost use Rattle.js_run.specs.Parties.{refreshed};
+ghost use Rattle.js_machine.specs.js_run.Acts.{Give, give};
+ghost use Rattle.js_machine.specs.js_run.Completions.{Breaks, Continues};
+ghost use Rattle.js_machine.specs.js_run.Control.{inside};
+ghost use Rattle.js_machine.specs.js_run.Parties.{refreshed};
 ghost use Rattle.js_text.specs.declared.value.Value.TheVariants as undefined_value;
 ghost use Rattle.js_machine.specs.Steps.{IsDelivered, LeadsTo};
 ghost use Rattle.js_machine.specs.Views.{is_completion, party_of, with_copy, with_scope};

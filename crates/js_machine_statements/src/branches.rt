@@ -3,10 +3,10 @@
 ghost use Rattle.std.specs.Prelude.{◌≡◌, IfOk, if◌then◌else◌};
 ghost use Rattle.std.specs.Option.{option_map};
 ghost use Rattle.js_code.specs.Decoded.{term_at};
-ghost use Rattle.js_run.specs.Acts.{Become, give};
-ghost use Rattle.js_run.specs.Control.{branch, otherwise};
-ghost use Rattle.js_run.specs.Operators.{short_value};
-ghost use Rattle.js_run.specs.Truth.{is_nullish, to_boolean};
+ghost use Rattle.js_machine.specs.js_run.Acts.{Become, give};
+ghost use Rattle.js_machine.specs.js_run.Control.{branch, otherwise};
+ghost use Rattle.js_machine.specs.js_run.Operators.{short_value};
+ghost use Rattle.js_machine.specs.js_run.Truth.{is_nullish, to_boolean};
 ghost use Rattle.js_machine.specs.Steps.{LeadsTo};
 ghost use Rattle.js_machine.specs.Views.{keeps_left, party_of};
 

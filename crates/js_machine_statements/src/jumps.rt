@@ -2,7 +2,7 @@
 
 ghost use Rattle.std.specs.Prelude.{IfOk, None, Some};
 ghost use Rattle.js_code.specs.Decoded.{term_at, text_at};
-ghost use Rattle.js_run.specs.Control.{jump};
+ghost use Rattle.js_machine.specs.js_run.Control.{jump};
 ghost use Rattle.js_term.specs.declared.term.Jump.TheVariants as jump_kind;
 ghost use Rattle.js_machine.specs.Steps.{LeadsTo};
 ghost use Rattle.js_machine.specs.Views.{party_of};

@@ -1,9 +1,9 @@
 // Loops.
 
 ghost use Rattle.std.specs.Prelude.{IfOk, if◌then◌else◌};
-ghost use Rattle.js_run.specs.Acts.{Evaluate, Tested, Turned, give};
-ghost use Rattle.js_run.specs.Control.{loop_begins};
-ghost use Rattle.js_run.specs.Truth.{to_boolean};
+ghost use Rattle.js_machine.specs.js_run.Acts.{Evaluate, Tested, Turned, give};
+ghost use Rattle.js_machine.specs.js_run.Control.{loop_begins};
+ghost use Rattle.js_machine.specs.js_run.Truth.{to_boolean};
 ghost use Rattle.js_text.specs.declared.value.Value.TheVariants as undefined_value;
 ghost use Rattle.js_machine.specs.Steps.{LeadsTo};
 ghost use Rattle.js_machine.specs.Views.{party_of, turns_at};

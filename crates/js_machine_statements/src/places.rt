@@ -2,10 +2,10 @@
 
 ghost use Rattle.std.specs.Prelude.{◌≡◌, IfOk};
 ghost use Rattle.js_text.specs.Naming.{naming_of};
-ghost use Rattle.js_run.specs.Acts.{give};
-ghost use Rattle.js_run.specs.Parties.{first_body};
-ghost use Rattle.js_run.specs.Properties.{on_this};
-ghost use Rattle.js_run.specs.Rows.{target_value};
+ghost use Rattle.js_machine.specs.js_run.Acts.{give};
+ghost use Rattle.js_machine.specs.js_run.Parties.{first_body};
+ghost use Rattle.js_machine.specs.js_run.Properties.{on_this};
+ghost use Rattle.js_machine.specs.js_run.Rows.{target_value};
 ghost use Rattle.js_machine.specs.Steps.{LeadsTo};
 ghost use Rattle.js_machine.specs.Views.{party_of};
 

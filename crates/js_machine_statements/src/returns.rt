@@ -3,7 +3,7 @@
 ghost use Rattle.std.specs.Prelude.{◌≡◌, IfOk, true};
 ghost use Rattle.js_text.specs.Naming.{naming_of};
 ghost use Rattle.js_text.specs.declared.value.Value.TheVariants as value_kind;
-ghost use Rattle.js_run.specs.Bodies.{built, constructed, derived_constructed, derived_this};
+ghost use Rattle.js_machine.specs.js_run.Bodies.{built, constructed, derived_constructed, derived_this};
 ghost use Rattle.js_machine.specs.Opened.{returned_value};
 ghost use Rattle.js_machine.specs.Steps.{IsDelivered, LeadsTo};
 ghost use Rattle.js_machine.specs.Views.{is_completion, party_of, top, values_without};

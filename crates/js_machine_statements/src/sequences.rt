@@ -2,7 +2,7 @@
 
 ghost use Rattle.std.specs.Prelude.{◌+◌, IfOk};
 ghost use Rattle.js_code.specs.Decoded.{term_at, terms_of};
-ghost use Rattle.js_run.specs.Control.{in_order};
+ghost use Rattle.js_machine.specs.js_run.Control.{in_order};
 ghost use Rattle.js_machine.specs.Steps.{LeadsTo};
 ghost use Rattle.js_machine.specs.Views.{party_of};
 

@@ -2,8 +2,8 @@
 
 ghost use Rattle.std.specs.Prelude.{is_some, ◌≡◌, IfOk, None};
 ghost use Rattle.js_text.specs.Naming.{naming_of};
-ghost use Rattle.js_run.specs.Acts.{give};
-ghost use Rattle.js_run.specs.Properties.{get_slot, init_slot, set_slot};
+ghost use Rattle.js_machine.specs.js_run.Acts.{give};
+ghost use Rattle.js_machine.specs.js_run.Properties.{get_slot, init_slot, set_slot};
 ghost use Rattle.js_state.specs.Scopes.{outwards, slot_of};
 ghost use Rattle.js_machine.specs.Bodies.{scope_of, stood_in};
 ghost use Rattle.js_machine.specs.Steps.{LeadsTo};

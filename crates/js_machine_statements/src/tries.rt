@@ -2,8 +2,8 @@
 
 ghost use Rattle.std.specs.Prelude.{◌≡◌, ◌∷◌, [], IfOk, OnOk, Some, true};
 ghost use Rattle.js_code.specs.Decoded.{term_at};
-ghost use Rattle.js_run.specs.Acts.{Evaluate, Then};
-ghost use Rattle.js_run.specs.Control.{finishes, inside, try_ends};
+ghost use Rattle.js_machine.specs.js_run.Acts.{Evaluate, Then};
+ghost use Rattle.js_machine.specs.js_run.Control.{finishes, inside, try_ends};
 ghost use Rattle.js_machine.specs.Steps.{Follows, GoesOn, IsDelivered, LeadsTo, deed_with, under};
 ghost use Rattle.js_machine.specs.Views.{finalizer_of, guarded_at, handler_of, is_completion, party_of, with_scope};
 ghost use Rattle.js_machine.specs.declared.frame.Frame.TheVariants as frame;

@@ -3,7 +3,7 @@
 ghost use Rattle.std.specs.Prelude.{◌≡◌, IfOk, map, true};
 ghost use Rattle.js_code.specs.Decoded.{text_at};
 ghost use Rattle.js_code.specs.Tables.{part_of};
-ghost use Rattle.js_run.specs.Acts.{give, is_label, next_turn};
+ghost use Rattle.js_machine.specs.js_run.Acts.{give, is_label, next_turn};
 ghost use Rattle.js_text.specs.Texts.{same_units};
 ghost use Rattle.js_machine.specs.Steps.{IsDelivered, LeadsTo};
 ghost use Rattle.js_machine.specs.Views.{is_completion, party_of, turns_at};

@@ -7,7 +7,7 @@ use Rattle.lava_base.specs.declared.ids.Ref.{Ref}
 use Rattle.js_text.specs.declared.value.Key.TheVariants as key
 use Rattle.js_text.specs.declared.value.Value.{Value}
 use Rattle.js_store.specs.Objects.{Object, at_place}
-use Rattle.js_operations.specs.MadeObjects.{with_data, with_elements}
+use Rattle.js_conversions.specs.js_operations.MadeObjects.{with_data, with_elements}
 
 -- two changes of one object are one
 pub at_twice : (os : List (Object Ref MadeSymbol)) (id : ℕ) (f g : Object Ref MadeSymbol → Object Ref MadeSymbol) → id < length os

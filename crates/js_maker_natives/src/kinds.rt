@@ -3,17 +3,17 @@
 ghost use Rattle.std.specs.Prelude.{◌≡◌, IfOk};
 ghost use Rattle.js_text.specs.Naming.{naming_of, origin_of};
 ghost use Rattle.js_text.specs.declared.value.Value.TheVariants as value;
-ghost use Rattle.js_operations.specs.Looks.{marks_seen};
+ghost use Rattle.js_conversions.specs.js_operations.Looks.{marks_seen};
 ghost use Rattle.js_maker_natives.specs.Kinds.{array_of_class, ask_proxy, class_name, class_of, is_array, is_common, kind_name, object_kind, symbol_for, value_kind};
 ghost use Rattle.js_maker_natives.specs.MakerDecisions.{given};
 
 use crate::next::Next;
+use js_conversions::js_operations::looks::marks_seen;
+use js_conversions::js_operations::names::ascii_text;
 use js_desc::ask::Ask;
 use js_desc::decision::Decision;
 use js_desc::fault::FaultText;
 use js_desc::reply::Reply;
-use js_operations::looks::marks_seen;
-use js_operations::names::ascii_text;
 use js_store::foreign::Foreign;
 use js_store::frozen::FrozenStore;
 use js_store::store::Store;

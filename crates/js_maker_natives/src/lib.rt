@@ -11,3 +11,5 @@ pub mod kinds;
 pub mod makers;
 pub mod next;
 pub mod resume;
+
+pub use js_slot_natives;

@@ -10,8 +10,8 @@ use Rattle.js_text.specs.declared.value.Key.TheVariants as key
 use Rattle.js_text.specs.declared.value.Value.{Value}
 use Rattle.js_desc.specs.declared.descriptor.Descriptor.{Descriptor}
 use Rattle.js_desc.specs.declared.descriptor.Descriptor.TheVariants.{Data}
-use Rattle.js_operations.specs.MadeObjects as operations
-use Rattle.js_operations.specs.MadeObjects.{with_elements}
+use Rattle.js_run.specs.js_operations.MadeObjects as operations
+use Rattle.js_run.specs.js_operations.MadeObjects.{with_elements}
 use Rattle.js_store.specs.Frozen.{common_ref}
 use Rattle.js_store.specs.Objects.{Object, written}
 use Rattle.js_store.specs.declared.slot.Slot.TheVariants as slot

@@ -6,11 +6,11 @@ use Rattle.js_text.specs.declared.value.Value.{Value}
 use Rattle.js_desc.specs.declared.decision.Decision.{Decision}
 use Rattle.js_desc.specs.declared.decision.Decision.TheVariants.{Done, Fault, Ask, Number, Run, End}
 use Rattle.js_desc.specs.declared.fault.FaultText.TheVariants as fault
-use Rattle.js_conversions.specs.Primitives.{Conversion}
-use Rattle.js_maker_natives.specs.MakerDecisions.{MakerDecision}
+use Rattle.js_run.specs.js_conversions.Primitives.{Conversion}
+use Rattle.js_run.specs.js_maker_natives.MakerDecisions.{MakerDecision}
 use Rattle.js_native.specs.NativeDecisions.{NativeDecision}
-use Rattle.js_object_natives.specs.ObjectDecisions.{ObjectDecision}
-use Rattle.js_slot_natives.specs.SlotNatives.{SlotDecision}
+use Rattle.js_run.specs.js_object_natives.ObjectDecisions.{ObjectDecision}
+use Rattle.js_run.specs.js_slot_natives.SlotNatives.{SlotDecision}
 use Rattle.js_store.specs.Objects.{Object}
 use Rattle.js_run.specs.Acts as acts
 use Rattle.js_run.specs.Acts.{Of_conversion, Of_maker, Of_object, Of_slot}

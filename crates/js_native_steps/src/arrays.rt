@@ -4,7 +4,7 @@ ghost use Rattle.std.specs.Prelude.{◌≡◌, ◌++◌, ◌∷◌, [], OnOk, If
 ghost use Rattle.js_text.specs.Naming.{naming_of};
 ghost use Rattle.js_run.specs.Functions.{array_of};
 
-use js_operations::made_objects::make_array;
+use js_run::js_operations::made_objects::make_array;
 use js_store::flat::FlatStore;
 use js_text::value::Value;
 use lava_base::ids::ObjId;

@@ -3,13 +3,13 @@
 ghost use Rattle.std.specs.Prelude.{◌≡◌};
 ghost use Rattle.js_native_steps.specs.Steps.{of_conversion, of_maker, of_object, of_slot, of_text};
 
-use js_conversions::next::Next as ConversionNext;
 use js_desc::decision::Decision;
 use js_desc::fault::FaultText;
-use js_maker_natives::next::Next as MakerNext;
 use js_native::next::Next as TextNext;
-use js_object_natives::next::Next as ObjectNext;
-use js_slot_natives::next::Next as SlotNext;
+use js_run::js_conversions::next::Next as ConversionNext;
+use js_run::js_maker_natives::next::Next as MakerNext;
+use js_run::js_object_natives::next::Next as ObjectNext;
+use js_run::js_slot_natives::next::Next as SlotNext;
 
 /// What a native waits for: those on objects, those that make objects, those on collections, and conversions.
 #[derive(Drop)]

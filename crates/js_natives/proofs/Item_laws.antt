@@ -9,27 +9,27 @@ use Rattle.js_text.specs.declared.native.Native.{Native}
 use Rattle.js_text.specs.declared.native.Native.TheVariants as native
 use Rattle.js_text.specs.declared.text.TheConstants.{MAX_UNITS}
 use Rattle.js_text.specs.declared.value.Value.TheVariants as value
-use Rattle.js_conversions.specs.Primitives.{ReadsNumbers}
-use Rattle.js_conversions.specs.Primitives as primitives
+use Rattle.js_run_laws.specs.js_conversions.Primitives.{ReadsNumbers}
+use Rattle.js_run_laws.specs.js_conversions.Primitives as primitives
 use Rattle.js_desc.specs.declared.decision.Decision.TheVariants as decision
 use Rattle.js_desc.specs.declared.decision.EndKind.TheVariants as end
 use Rattle.js_desc.specs.declared.fault.FaultText.TheVariants as fault
 use Rattle.js_native.specs.NativeDecisions.{given, given_text}
 use Rattle.js_native.specs.declared.costs.TheConstants.{UNITS_A_STEP}
 use Rattle.js_native.specs.TextNatives.{are_texts, text_of_value}
-use Rattle.js_operations.specs.Lists.{list_items}
+use Rattle.js_run_laws.specs.js_operations.Lists.{list_items}
 use Rattle.js_store.specs.Frozen.{CommonObject}
-use Rattle.js_run.specs.Acts as acts
-use Rattle.js_run.specs.Asking.{waits_for}
-use Rattle.js_run.specs.Completions as halt
-use Rattle.js_run.specs.Faults.{faults}
-use Rattle.js_run.specs.Conversions as conversions
-use Rattle.js_run.specs.NativeTurns.{follows_native_with}
-use Rattle.js_run.specs.Natives.{gives_places, gives_units, native_acts, sorts_items, units_of}
-use Rattle.js_run.specs.Operators as operators
-use Rattle.js_run.specs.Parties.{Shared}
-use Rattle.js_run.specs.Runs.{answered}
-use Rattle.js_run.specs.Sorting.{sorted_places}
+use Rattle.js_run_laws.specs.js_run.Acts as acts
+use Rattle.js_run_laws.specs.js_run.Asking.{waits_for}
+use Rattle.js_run_laws.specs.js_run.Completions as halt
+use Rattle.js_run_laws.specs.js_run.Faults.{faults}
+use Rattle.js_run_laws.specs.js_run.Conversions as conversions
+use Rattle.js_run_laws.specs.js_run.NativeTurns.{follows_native_with}
+use Rattle.js_run_laws.specs.js_run.Natives.{gives_places, gives_units, native_acts, sorts_items, units_of}
+use Rattle.js_run_laws.specs.js_run.Operators as operators
+use Rattle.js_run_laws.specs.js_run.Parties.{Shared}
+use Rattle.js_run_laws.specs.js_run.Runs.{answered}
+use Rattle.js_run_laws.specs.js_run.Sorting.{sorted_places}
 use Rattle.js_natives.specs.Deeds.{Does, MachineAct, MachineNaming, MachineParty, acts_with, having, knowing, sharing}
 use Rattle.js_natives.specs.Items.{calls_items, from_items, has_object, item_step, items_have_object, places_made, reads_items, sorted_items, unit_of_conversion, unit_of_number, unit_taken, units_given}
 use Rattle.js_native_steps.specs.Steps.{MachineObjects, MachineValue, NativeStep, of_text, waits_as}

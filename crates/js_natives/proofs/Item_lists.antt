@@ -6,7 +6,7 @@ use Rattle.lava_base.specs.declared.ids.Ref.{Ref}
 use Rattle.js_text.specs.Naming.{Naming}
 use Rattle.js_text.specs.declared.native.Native.{Native}
 use Rattle.js_text.specs.declared.native.Native.TheVariants as native
-use Rattle.js_operations.specs.Lists.{list_items}
+use Rattle.js_run_laws.specs.js_operations.Lists.{list_items}
 use Rattle.js_store.specs.Frozen.{CommonObject}
 use Rattle.js_native.specs.TextNatives.{are_texts, is_text}
 use Rattle.js_natives.specs.Items.{from_items, has_object, is_object, item_step, unit_read, unit_taken, units_given, units_native}

@@ -5,3 +5,4 @@ pub mod Resumed_laws
 pub mod Item_lists
 pub mod Sorted_once
 pub mod Item_laws
+pub use Rattle.js_run_laws.proofs as of_js_run_laws

@@ -8,27 +8,27 @@ use Rattle.js_text.specs.Naming.{naming_of, origin_of}
 use Rattle.js_text.specs.declared.native.Native.{Native}
 use Rattle.js_text.specs.declared.native.Native.TheVariants as native
 use Rattle.js_text.specs.declared.value.Value.TheVariants as value
-use Rattle.js_conversions.specs.Conversions.{convert, convert_key, convert_text}
-use Rattle.js_conversions.specs.Primitives.{ReadsNumbers}
-use Rattle.js_conversions.specs.declared.next.Wanted.TheVariants as wanted
-use Rattle.js_maker_natives.specs.Kinds.{class_of, is_common, symbol_for}
-use Rattle.js_maker_natives.specs.Makers.{bind, make_array, make_map, make_object, make_proxy, make_symbol, revoke}
-use Rattle.js_maker_natives.specs.MakerDecisions.{MakerDecision}
-use Rattle.js_maker_natives.specs.Resumed.{make_error}
+use Rattle.js_run_laws.specs.js_conversions.Conversions.{convert, convert_key, convert_text}
+use Rattle.js_run_laws.specs.js_conversions.Primitives.{ReadsNumbers}
+use Rattle.js_run_laws.specs.js_conversions.declared.next.Wanted.TheVariants as wanted
+use Rattle.js_run_laws.specs.js_maker_natives.Kinds.{class_of, is_common, symbol_for}
+use Rattle.js_run_laws.specs.js_maker_natives.Makers.{bind, make_array, make_map, make_object, make_proxy, make_symbol, revoke}
+use Rattle.js_run_laws.specs.js_maker_natives.MakerDecisions.{MakerDecision}
+use Rattle.js_run_laws.specs.js_maker_natives.Resumed.{make_error}
 use Rattle.js_native.specs.TextNatives.{FindsFirst, ascii_text, concat_texts, index_in, slice_text, unit_at}
-use Rattle.js_object_natives.specs.CallNatives.{apply, construct, construct_by, constructor_of}
-use Rattle.js_object_natives.specs.ObjectNatives.{object_native}
-use Rattle.js_operations.specs.Lists.{list_items}
-use Rattle.js_operations.specs.Looks.{marks_seen}
+use Rattle.js_run_laws.specs.js_object_natives.CallNatives.{apply, construct, construct_by, constructor_of}
+use Rattle.js_run_laws.specs.js_object_natives.ObjectNatives.{object_native}
+use Rattle.js_run_laws.specs.js_operations.Lists.{list_items}
+use Rattle.js_run_laws.specs.js_operations.Looks.{marks_seen}
 use Rattle.js_store.specs.Frozen.{CommonObject}
-use Rattle.js_run.specs.Acts.{Of_maker}
-use Rattle.js_run.specs.Asking.{see_marks}
-use Rattle.js_run.specs.Following.{see_value}
-use Rattle.js_run.specs.NativeTurns.{follows_native_with}
-use Rattle.js_run.specs.Natives.{asks_object, makes, native_acts}
-use Rattle.js_run.specs.Parties.{Shared}
-use Rattle.js_run.specs.Runs.{Env, answered}
-use Rattle.js_run.specs.SlotNatives.{follows_kind}
+use Rattle.js_run_laws.specs.js_run.Acts.{Of_maker}
+use Rattle.js_run_laws.specs.js_run.Asking.{see_marks}
+use Rattle.js_run_laws.specs.js_run.Following.{see_value}
+use Rattle.js_run_laws.specs.js_run.NativeTurns.{follows_native_with}
+use Rattle.js_run_laws.specs.js_run.Natives.{asks_object, makes, native_acts}
+use Rattle.js_run_laws.specs.js_run.Parties.{Shared}
+use Rattle.js_run_laws.specs.js_run.Runs.{Env, answered}
+use Rattle.js_run_laws.specs.js_run.SlotNatives.{follows_kind}
 use Rattle.js_natives.specs.Decided.{native_step}
 use Rattle.js_natives.specs.Deeds.{Does, MachineAct, MachineParty, acts_with, asks_kind, having, knowing, sharing}
 use Rattle.js_natives.specs.Items.{reads_items}

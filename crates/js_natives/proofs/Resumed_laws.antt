@@ -9,33 +9,33 @@ use Rattle.js_text.specs.declared.native.Native.{Native}
 use Rattle.js_text.specs.declared.value.Value.TheVariants as value
 use Rattle.js_desc.specs.declared.reply.Reply.{Reply}
 use Rattle.js_desc.specs.declared.reply.Reply.TheVariants as reply
-use Rattle.js_conversions.specs.Conversions.{conversion_resumed}
-use Rattle.js_conversions.specs.Primitives.{Conversion, ReadsNumbers}
-use Rattle.js_conversions.specs.declared.next.Next.{Next as ConversionNext}
-use Rattle.js_conversions.specs.declared.next.Next.TheVariants as conversion
-use Rattle.js_maker_natives.specs.MakerDecisions.{MakerDecision}
-use Rattle.js_object_natives.specs.ObjectDecisions.{ObjectDecision}
-use Rattle.js_maker_natives.specs.Resumed.{maker_resumed, messaging}
-use Rattle.js_maker_natives.specs.declared.next.Next.{Next as MakerNext}
-use Rattle.js_maker_natives.specs.declared.next.Next.TheVariants as maker
-use Rattle.js_object_natives.specs.Keyed.{converting, defining}
-use Rattle.js_object_natives.specs.Resumed.{native_resumed}
-use Rattle.js_object_natives.specs.declared.next.Next.{Next as ObjectNext}
-use Rattle.js_object_natives.specs.declared.next.Next.TheVariants as object
-use Rattle.js_operations.specs.Looks.{marks_seen}
-use Rattle.js_operations.specs.Descriptions.{field_come, field_given}
-use Rattle.js_operations.specs.Fields.{function_of_field, with_get, with_set}
+use Rattle.js_run_laws.specs.js_conversions.Conversions.{conversion_resumed}
+use Rattle.js_run_laws.specs.js_conversions.Primitives.{Conversion, ReadsNumbers}
+use Rattle.js_run_laws.specs.js_conversions.declared.next.Next.{Next as ConversionNext}
+use Rattle.js_run_laws.specs.js_conversions.declared.next.Next.TheVariants as conversion
+use Rattle.js_run_laws.specs.js_maker_natives.MakerDecisions.{MakerDecision}
+use Rattle.js_run_laws.specs.js_object_natives.ObjectDecisions.{ObjectDecision}
+use Rattle.js_run_laws.specs.js_maker_natives.Resumed.{maker_resumed, messaging}
+use Rattle.js_run_laws.specs.js_maker_natives.declared.next.Next.{Next as MakerNext}
+use Rattle.js_run_laws.specs.js_maker_natives.declared.next.Next.TheVariants as maker
+use Rattle.js_run_laws.specs.js_object_natives.Keyed.{converting, defining}
+use Rattle.js_run_laws.specs.js_object_natives.Resumed.{native_resumed}
+use Rattle.js_run_laws.specs.js_object_natives.declared.next.Next.{Next as ObjectNext}
+use Rattle.js_run_laws.specs.js_object_natives.declared.next.Next.TheVariants as object
+use Rattle.js_run_laws.specs.js_operations.Looks.{marks_seen}
+use Rattle.js_run_laws.specs.js_operations.Descriptions.{field_come, field_given}
+use Rattle.js_run_laws.specs.js_operations.Fields.{function_of_field, with_get, with_set}
 use Rattle.js_desc.specs.declared.descriptor.PartialDescriptor.{PartialDescriptor}
-use Rattle.js_operations.specs.declared.fields.FieldName.{FieldName}
-use Rattle.js_operations.specs.declared.fields.FieldName.TheVariants as field
-use Rattle.js_slot_natives.specs.SlotNatives.{slot_native_resumed}
+use Rattle.js_run_laws.specs.js_operations.declared.fields.FieldName.{FieldName}
+use Rattle.js_run_laws.specs.js_operations.declared.fields.FieldName.TheVariants as field
+use Rattle.js_run_laws.specs.js_slot_natives.SlotNatives.{slot_native_resumed}
 use Rattle.js_store.specs.Frozen.{CommonObject}
 use Rattle.js_store.specs.Objects.{plain_marks}
-use Rattle.js_run.specs.Acts.{Of_conversion, Of_maker, Of_object}
-use Rattle.js_run.specs.Following.{see_come}
-use Rattle.js_run.specs.NativeTurns.{follows_native, follows_native_with, native_goes_on, native_turns}
-use Rattle.js_run.specs.Parties.{Shared}
-use Rattle.js_run.specs.Runs.{Env, answered}
+use Rattle.js_run_laws.specs.js_run.Acts.{Of_conversion, Of_maker, Of_object}
+use Rattle.js_run_laws.specs.js_run.Following.{see_come}
+use Rattle.js_run_laws.specs.js_run.NativeTurns.{follows_native, follows_native_with, native_goes_on, native_turns}
+use Rattle.js_run_laws.specs.js_run.Parties.{Shared}
+use Rattle.js_run_laws.specs.js_run.Runs.{Env, answered}
 use Rattle.js_natives.specs.Decided.{step_resumed}
 use Rattle.js_natives.specs.Deeds.{Does, MachineAct, MachineNaming, MachineParty, goes_on_with, having, knowing, sharing}
 use Rattle.js_natives.specs.Seen.{reply_is_there}

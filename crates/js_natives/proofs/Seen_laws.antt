@@ -4,15 +4,15 @@ use Rattle.lava_base.specs.declared.ids.Ref.{Ref}
 use Rattle.lava_base.specs.declared.marks.Marks.{Marks}
 use Rattle.js_text.specs.Naming.{Origin, Own, Common, Foreign, naming_of, origin_of}
 use Rattle.js_text.specs.declared.value.Value.TheVariants as value
-use Rattle.js_operations.specs.Looks.{marks_seen, marks_there}
+use Rattle.js_run_laws.specs.js_operations.Looks.{marks_seen, marks_there}
 use Rattle.js_ordinary.specs.Origins.{there}
 use Rattle.js_store.specs.Frozen.{CommonObject}
 use Rattle.js_store.specs.Objects.{plain_marks}
-use Rattle.js_run.specs.Asking.{see_marks, see_there}
-use Rattle.js_run.specs.Following.{see_value}
-use Rattle.js_run.specs.Parties.{Shared}
-use Rattle.js_run.specs.Runs as runs
-use Rattle.js_run.specs.Runs.{Env, answered}
+use Rattle.js_run_laws.specs.js_run.Asking.{see_marks, see_there}
+use Rattle.js_run_laws.specs.js_run.Following.{see_value}
+use Rattle.js_run_laws.specs.js_run.Parties.{Shared}
+use Rattle.js_run_laws.specs.js_run.Runs as runs
+use Rattle.js_run_laws.specs.js_run.Runs.{Env, answered}
 use Rattle.js_natives.specs.Deeds.{MachineAct, MachineParty, having, knowing, sharing}
 use Rattle.js_natives.specs.Seen.{is_there, value_is_there}
 use Rattle.js_native_steps.specs.Steps.{MachineObjects, MachineValue}

@@ -13,7 +13,7 @@ use Rattle.std.proofs.lemmas.List.Sums.{sum_by-cons}
 use Rattle.js_text.specs.Search.{order_of_units}
 use Rattle.js_native.specs.SortedPlaces.{IsSortedPlaces, placed_cmp, placed_texts}
 use Rattle.js_native.specs.declared.sorts.PlacedText.{PlacedText}
-use Rattle.js_run.specs.Sorting.{Places_are_sorted, sorted_places}
+use Rattle.js_run_laws.specs.js_run.Sorting.{Places_are_sorted, sorted_places}
 
 -- 1 where an order is no `Greater`
 abbrev up_to : Ordering → ℕ

@@ -9,15 +9,15 @@ use Rattle.js_text.specs.declared.native.Native.TheVariants as native
 use Rattle.js_desc.specs.declared.ask.Ask.{Ask}
 use Rattle.js_desc.specs.declared.decision.Decision.{Decision}
 use Rattle.js_desc.specs.declared.decision.Decision.TheVariants as decision
-use Rattle.js_maker_natives.specs.MakerDecisions.{MakerDecision}
+use Rattle.js_run_laws.specs.js_maker_natives.MakerDecisions.{MakerDecision}
 use Rattle.js_native.specs.NativeDecisions.{NativeDecision}
-use Rattle.js_run.specs.Acts as acts
-use Rattle.js_run.specs.Acts.{Closes, Native_decides, Of_maker, ask_there}
-use Rattle.js_run.specs.Asking.{open_one}
-use Rattle.js_run.specs.NativeTurns.{follows_native, follows_native_with}
-use Rattle.js_run.specs.Natives.{follows_text}
-use Rattle.js_run.specs.Parties.{Shared}
-use Rattle.js_run.specs.SlotNatives.{asks_slot, follows_kind}
+use Rattle.js_run_laws.specs.js_run.Acts as acts
+use Rattle.js_run_laws.specs.js_run.Acts.{Closes, Native_decides, Of_maker, ask_there}
+use Rattle.js_run_laws.specs.js_run.Asking.{open_one}
+use Rattle.js_run_laws.specs.js_run.NativeTurns.{follows_native, follows_native_with}
+use Rattle.js_run_laws.specs.js_run.Natives.{follows_text}
+use Rattle.js_run_laws.specs.js_run.Parties.{Shared}
+use Rattle.js_run_laws.specs.js_run.SlotNatives.{asks_slot, follows_kind}
 use Rattle.lava_base.specs.declared.marks.Marks.{Marks}
 use Rattle.js_store.specs.Frozen.{CommonObject}
 use Rattle.js_natives.specs.Decided.{conversion_native, convert_value, family_step, text_native}

@@ -9,17 +9,17 @@ use Rattle.js_text.specs.declared.native.Native.TheVariants as native
 use Rattle.js_desc.specs.declared.decision.Decision.TheVariants.{Fault}
 use Rattle.js_desc.specs.declared.fault.FaultText.TheVariants as fault
 use Rattle.js_desc.specs.declared.reply.Reply.{Reply}
-use Rattle.js_conversions.specs.Conversions.{conversion_resumed, convert, convert_key, convert_text}
-use Rattle.js_conversions.specs.declared.next.Wanted.TheVariants as wanted
-use Rattle.js_maker_natives.specs.Kinds.{class_of, is_common, symbol_for}
-use Rattle.js_maker_natives.specs.Makers.{bind, make_array, make_map, make_object, make_proxy, make_symbol, revoke}
-use Rattle.js_maker_natives.specs.Resumed.{make_error, maker_resumed}
+use Rattle.js_run_laws.specs.js_conversions.Conversions.{conversion_resumed, convert, convert_key, convert_text}
+use Rattle.js_run_laws.specs.js_conversions.declared.next.Wanted.TheVariants as wanted
+use Rattle.js_run_laws.specs.js_maker_natives.Kinds.{class_of, is_common, symbol_for}
+use Rattle.js_run_laws.specs.js_maker_natives.Makers.{bind, make_array, make_map, make_object, make_proxy, make_symbol, revoke}
+use Rattle.js_run_laws.specs.js_maker_natives.Resumed.{make_error, maker_resumed}
 use Rattle.js_native.specs.TextNatives.{ascii_text, concat_texts, index_in, slice_text, unit_at}
-use Rattle.js_object_natives.specs.CallNatives.{apply, construct}
-use Rattle.js_object_natives.specs.ObjectNatives.{object_native}
-use Rattle.js_object_natives.specs.Resumed.{native_resumed}
-use Rattle.js_operations.specs.Lists.{list_items}
-use Rattle.js_slot_natives.specs.SlotNatives.{slot_native_resumed}
+use Rattle.js_run_laws.specs.js_object_natives.CallNatives.{apply, construct}
+use Rattle.js_run_laws.specs.js_object_natives.ObjectNatives.{object_native}
+use Rattle.js_run_laws.specs.js_object_natives.Resumed.{native_resumed}
+use Rattle.js_run_laws.specs.js_operations.Lists.{list_items}
+use Rattle.js_run_laws.specs.js_slot_natives.SlotNatives.{slot_native_resumed}
 use Rattle.js_store.specs.Frozen.{CommonObject}
 use Rattle.js_native_steps.specs.Steps.{MachineObjects, MachineValue, NativeStep, made_step, object_step, of_conversion, of_maker, of_object, of_slot, of_text}
 use Rattle.js_natives.specs.Families.{family_of}

@@ -9,16 +9,16 @@ use Rattle.js_text.specs.declared.native.Native.{Native}
 use Rattle.js_text.specs.declared.native.Native.TheVariants as native
 use Rattle.js_desc.specs.declared.decision.Decision.TheVariants as decision
 use Rattle.js_desc.specs.declared.reply.Reply.{Reply}
-use Rattle.js_conversions.specs.Primitives.{ReadsNumbers}
+use Rattle.js_run_laws.specs.js_conversions.Primitives.{ReadsNumbers}
 use Rattle.js_native.specs.TextNatives.{FindsFirst}
 use Rattle.js_store.specs.Foreign.{marks_of}
 use Rattle.js_store.specs.Frozen.{CommonObject}
-use Rattle.js_run.specs.Acts.{Act}
-use Rattle.js_run.specs.NativeTurns.{follows_native_with, native_goes_on}
-use Rattle.js_run.specs.Natives.{native_acts}
-use Rattle.js_run.specs.Parties as parties
-use Rattle.js_run.specs.Parties.{Shared}
-use Rattle.js_run.specs.Runs.{Env, answered}
+use Rattle.js_run_laws.specs.js_run.Acts.{Act}
+use Rattle.js_run_laws.specs.js_run.NativeTurns.{follows_native_with, native_goes_on}
+use Rattle.js_run_laws.specs.js_run.Natives.{native_acts}
+use Rattle.js_run_laws.specs.js_run.Parties as parties
+use Rattle.js_run_laws.specs.js_run.Parties.{Shared}
+use Rattle.js_run_laws.specs.js_run.Runs.{Env, answered}
 use Rattle.js_native_steps.specs.Steps.{MachineObjects, MachineValue, NativeStep, waits_as}
 use Rattle.js_native_steps.specs.declared.next.NativeNext.{NativeNext}
 

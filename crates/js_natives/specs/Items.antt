@@ -10,12 +10,12 @@ use Rattle.js_text.specs.declared.value.Value.TheVariants as value
 use Rattle.js_desc.specs.declared.decision.Decision.TheVariants.{Done, Fault, End}
 use Rattle.js_desc.specs.declared.fault.FaultText.TheVariants as fault
 use Rattle.js_desc.specs.declared.reply.Reply.TheVariants as reply
-use Rattle.js_conversions.specs.Primitives.{Conversion, to_number}
+use Rattle.js_run_laws.specs.js_conversions.Primitives.{Conversion, to_number}
 use Rattle.js_native.specs.NativeDecisions.{given_text}
 use Rattle.js_native.specs.TextNatives.{are_texts, text_of_value}
-use Rattle.js_operations.specs.Lists.{list_items}
-use Rattle.js_run.specs.Functions.{array_of}
-use Rattle.js_run.specs.Sorting.{sorted_places}
+use Rattle.js_run_laws.specs.js_operations.Lists.{list_items}
+use Rattle.js_run_laws.specs.js_run.Functions.{array_of}
+use Rattle.js_run_laws.specs.js_run.Sorting.{sorted_places}
 use Rattle.js_store.specs.Frozen.{CommonObject}
 use Rattle.js_native_steps.specs.Steps.{MachineObjects, MachineValue, NativeStep, of_text}
 use Rattle.js_natives.specs.declared.items.UnitRead.{UnitRead}

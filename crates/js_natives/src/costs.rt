@@ -3,11 +3,11 @@
 ghost use Rattle.std.specs.Prelude.{◌≡◌, ◌≤◌, ◌*◌, ◌∷◌, [], IfOk};
 ghost use Rattle.js_text.specs.Naming.{naming_of};
 ghost use Rattle.js_native.specs.Costs.{native_cost};
-ghost use Rattle.js_operations.specs.Lists.{list_items};
-ghost use Rattle.js_run.specs.NativeTurns.{listed_units, units_of_items, units_of_lists};
+ghost use Rattle.js_run_laws.specs.js_operations.Lists.{list_items};
+ghost use Rattle.js_run_laws.specs.js_run.NativeTurns.{listed_units, units_of_items, units_of_lists};
 
 use js_native::costs::{native_cost, units_of_values};
-use js_operations::lists::list_items;
+use js_run_laws::js_operations::lists::list_items;
 use js_store::flat::FlatStore;
 use js_store::frozen::FrozenStore;
 use js_text::native::Native;

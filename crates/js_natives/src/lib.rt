@@ -19,3 +19,5 @@ pub mod objects;
 pub mod resume;
 pub mod seen;
 pub mod texts;
+
+pub use js_run_laws;

@@ -2,16 +2,16 @@
 
 ghost use Rattle.std.specs.Prelude.{◌≡◌, IfOk};
 ghost use Rattle.js_text.specs.Naming.{naming_of};
-ghost use Rattle.js_operations.specs.Looks.{marks_seen};
+ghost use Rattle.js_run_laws.specs.js_operations.Looks.{marks_seen};
 ghost use Rattle.js_natives.specs.Decided.{maker_native};
 
 use js_desc::decision::Decision;
 use js_desc::fault::FaultText;
-use js_maker_natives::makers::{
+use js_native_steps::next::{NativeNext, of_maker};
+use js_run_laws::js_maker_natives::makers::{
     bind, make_array, make_map, make_object, make_proxy, make_symbol, revoke,
 };
-use js_maker_natives::resume::make_error;
-use js_native_steps::next::{NativeNext, of_maker};
+use js_run_laws::js_maker_natives::resume::make_error;
 use js_store::flat::FlatStore;
 use js_store::foreign::Foreign;
 use js_store::frozen::FrozenStore;

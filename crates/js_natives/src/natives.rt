@@ -2,9 +2,9 @@
 
 ghost use Rattle.std.specs.Prelude.{◌≡◌, ℕ, ℤ, List, Option, IfOk};
 ghost use Rattle.js_text.specs.Naming.{naming_of};
-ghost use Rattle.js_conversions.specs.Primitives.{ReadsNumbers};
+ghost use Rattle.js_run_laws.specs.js_conversions.Primitives.{ReadsNumbers};
 ghost use Rattle.js_native.specs.TextNatives.{FindsFirst};
-ghost use Rattle.js_operations.specs.Looks.{marks_seen};
+ghost use Rattle.js_run_laws.specs.js_operations.Looks.{marks_seen};
 ghost use Rattle.js_natives.specs.Decided.{native_step};
 ghost use Rattle.js_natives.specs.Deeds.{Does, acts_with, asks_here, asks_kind, is_here};
 

@@ -2,15 +2,15 @@
 
 ghost use Rattle.std.specs.Prelude.{◌≡◌, IfOk};
 ghost use Rattle.js_text.specs.Naming.{naming_of};
-ghost use Rattle.js_operations.specs.Looks.{marks_seen};
+ghost use Rattle.js_run_laws.specs.js_operations.Looks.{marks_seen};
 ghost use Rattle.js_natives.specs.Decided.{call_native, telling_native};
 
 use js_desc::decision::Decision;
 use js_desc::fault::FaultText;
-use js_maker_natives::kinds::{class_of, is_common, symbol_for};
 use js_native_steps::next::{NativeNext, of_maker, of_object};
-use js_object_natives::call_natives::{apply, construct};
-use js_object_natives::object_natives::object_native;
+use js_run_laws::js_maker_natives::kinds::{class_of, is_common, symbol_for};
+use js_run_laws::js_object_natives::call_natives::{apply, construct};
+use js_run_laws::js_object_natives::object_natives::object_native;
 use js_store::flat::FlatStore;
 use js_store::foreign::Foreign;
 use js_store::frozen::FrozenStore;

@@ -2,19 +2,19 @@
 
 ghost use Rattle.std.specs.Prelude.{◌≡◌, ℕ, ℤ, List, Option, IfOk};
 ghost use Rattle.js_text.specs.Naming.{naming_of};
-ghost use Rattle.js_conversions.specs.Primitives.{ReadsNumbers};
-ghost use Rattle.js_operations.specs.Looks.{marks_seen};
+ghost use Rattle.js_run_laws.specs.js_conversions.Primitives.{ReadsNumbers};
+ghost use Rattle.js_run_laws.specs.js_operations.Looks.{marks_seen};
 ghost use Rattle.js_natives.specs.Decided.{step_resumed};
 ghost use Rattle.js_natives.specs.Deeds.{Does, goes_on_with};
 
 use crate::seen::reply_is_there;
-use js_conversions::conversions::resume_conversion;
 use js_desc::decision::Decision;
 use js_desc::reply::Reply;
-use js_maker_natives::resume::resume_maker;
 use js_native_steps::next::{NativeNext, of_conversion, of_maker, of_object, of_slot};
-use js_object_natives::resume::resume_native;
-use js_slot_natives::slot_natives::resume_slot_native;
+use js_run_laws::js_conversions::conversions::resume_conversion;
+use js_run_laws::js_maker_natives::resume::resume_maker;
+use js_run_laws::js_object_natives::resume::resume_native;
+use js_run_laws::js_slot_natives::slot_natives::resume_slot_native;
 use js_store::flat::FlatStore;
 use js_store::foreign::Foreign;
 use js_store::frozen::FrozenStore;

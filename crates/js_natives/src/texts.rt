@@ -1,16 +1,16 @@
 // The natives on texts, and those that convert their operand.
 
 ghost use Rattle.std.specs.Prelude.{◌≡◌, ℕ, ℤ, List, Option, IfOk};
-ghost use Rattle.js_conversions.specs.Primitives.{ReadsNumbers};
+ghost use Rattle.js_run_laws.specs.js_conversions.Primitives.{ReadsNumbers};
 ghost use Rattle.js_native.specs.TextNatives.{FindsFirst};
 ghost use Rattle.js_natives.specs.Decided.{conversion_native, convert_value, text_native};
 
-use js_conversions::conversions::{convert, convert_key, convert_text};
-use js_conversions::next::Wanted;
 use js_desc::decision::Decision;
 use js_desc::fault::FaultText;
 use js_native::text_natives::{ascii_text, concat_texts, index_in, slice_text, unit_at};
 use js_native_steps::next::{NativeNext, of_conversion, of_text};
+use js_run_laws::js_conversions::conversions::{convert, convert_key, convert_text};
+use js_run_laws::js_conversions::next::Wanted;
 use js_text::native::Native;
 use js_text::value::Value;
 use lava_base::memory::OutOfMemory;

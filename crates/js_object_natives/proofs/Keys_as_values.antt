@@ -2,7 +2,7 @@
 use Rattle.std.proofs.Common.{◌≡◌, ℕ, zero, suc, ◌+◌, ◌<◌, ◌≤◌, List, [], ◌∷◌, ◌++◌, length, take, get_or, refl, ap, ◌∙◌, arith}
 use Rattle.js_text.specs.declared.value.Key.{Key}
 use Rattle.js_text.specs.declared.value.Value.{Value}
-use Rattle.js_operations.specs.Names.{key_value}
+use Rattle.js_conversions.specs.js_operations.Names.{key_value}
 use Rattle.js_object_natives.specs.Resumed.{values_of_keys}
 
 module _ {R S : Type 0} where

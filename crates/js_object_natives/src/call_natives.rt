@@ -2,17 +2,17 @@
 
 ghost use Rattle.std.specs.Prelude.{◌≡◌, IfOk};
 ghost use Rattle.js_text.specs.Naming.{naming_of};
-ghost use Rattle.js_operations.specs.Lists.{list_items};
-ghost use Rattle.js_operations.specs.Looks.{marks_seen};
+ghost use Rattle.js_conversions.specs.js_operations.Lists.{list_items};
+ghost use Rattle.js_conversions.specs.js_operations.Looks.{marks_seen};
 ghost use Rattle.js_object_natives.specs.CallNatives.{apply, apply_to, construct, construct_by, construct_for, construct_with, constructor_of};
 
 use crate::keyed::asked;
 use crate::next::Next;
+use js_conversions::js_operations::lists::list_items;
+use js_conversions::js_operations::looks::marks_seen;
 use js_desc::ask::Ask;
 use js_desc::decision::Decision;
 use js_desc::fault::FaultText;
-use js_operations::lists::list_items;
-use js_operations::looks::marks_seen;
 use js_store::foreign::Foreign;
 use js_store::frozen::FrozenStore;
 use js_store::store::Store;

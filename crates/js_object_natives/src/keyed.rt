@@ -6,13 +6,13 @@ ghost use Rattle.js_object_natives.specs.ObjectDecisions.{asked};
 
 use crate::next::{KeyedCall, Next};
 use js_conversions::conversions::convert_key;
+use js_conversions::js_operations::descriptions::{DescriptionStep, to_property_descriptor};
+use js_conversions::js_operations::names::key_of_value;
 use js_conversions::next::Next as Conversion;
 use js_desc::ask::Ask;
 use js_desc::decision::Decision;
 use js_desc::fault::FaultText;
 use js_desc::reply::Reply;
-use js_operations::descriptions::{DescriptionStep, to_property_descriptor};
-use js_operations::names::key_of_value;
 use js_text::value::{Key, Value};
 use lava_base::ids::Ref;
 use lava_base::memory::OutOfMemory;

@@ -12,3 +12,6 @@ mod keyed;
 pub mod next;
 pub mod object_natives;
 pub mod resume;
+
+pub use js_conversions;
+pub use js_conversions::js_operations;

@@ -1,7 +1,7 @@
 // What a native on objects that waits needs to go on. It is plain data.
 
+use js_conversions::js_operations::descriptions::Description;
 use js_conversions::next::Next as Conversion;
-use js_operations::descriptions::Description;
 use js_text::value::{Key, Value};
 use lava_base::ids::{MadeSymbol, Ref};
 

@@ -2,22 +2,22 @@
 
 ghost use Rattle.std.specs.Prelude.{◌≡◌, ℕ, ℤ, List, Option, IfOk, OnErr};
 ghost use Rattle.js_text.specs.Naming.{naming_of};
-ghost use Rattle.js_operations.specs.Looks.{marks_seen};
-ghost use Rattle.js_operations.specs.MadeObjects.{StandFirst};
+ghost use Rattle.js_conversions.specs.js_operations.Looks.{marks_seen};
+ghost use Rattle.js_conversions.specs.js_operations.MadeObjects.{StandFirst};
 ghost use Rattle.js_conversions.specs.Primitives.{ReadsNumbers};
 ghost use Rattle.js_object_natives.specs.Resumed.{answered, described, given_object, listed, native_resumed, property_described, values_of_keys};
 
 use crate::keyed::{converting, defining};
 use crate::next::Next;
 use js_conversions::conversions::resume_conversion;
+use js_conversions::js_operations::descriptions::resume_description;
+use js_conversions::js_operations::made_objects::{make_array, make_description};
+use js_conversions::js_operations::names::{key_value, proto_value};
 use js_desc::complete::fields;
 use js_desc::decision::Decision;
 use js_desc::descriptor::Descriptor;
 use js_desc::fault::FaultText;
 use js_desc::reply::Reply;
-use js_operations::descriptions::resume_description;
-use js_operations::made_objects::{make_array, make_description};
-use js_operations::names::{key_value, proto_value};
 use js_store::foreign::Foreign;
 use js_store::frozen::FrozenStore;
 use js_store::store::Store;

@@ -4,7 +4,7 @@ use Rattle.std.specs.Ordering.{int_eq, is_lt}
 use Rattle.lava_base.specs.Ids.{same_made_symbol, same_ref}
 use Rattle.lava_base.specs.declared.ids.MadeSymbol.{MadeSymbol}
 use Rattle.lava_base.specs.declared.ids.Ref.{Ref}
-use Rattle.js_conversions.specs.Primitives.{Conversion, to_number, to_string}
+use Rattle.js_run.specs.js_conversions.Primitives.{Conversion, to_number, to_string}
 use Rattle.js_num.specs.declared.safe.NotSafe.{NotSafe}
 use Rattle.js_text.specs.Indices.{key_of_text}
 use Rattle.js_text.specs.Search.{order_of_units}

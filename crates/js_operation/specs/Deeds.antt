@@ -2,7 +2,7 @@
 use Rattle.std.specs.Prelude.{◌≡◌, ℕ, Bool, true, false, not, codes, if◌then◌else◌}
 use Rattle.lava_base.specs.declared.ids.MadeSymbol.{MadeSymbol}
 use Rattle.lava_base.specs.declared.ids.Ref.{Ref}
-use Rattle.js_conversions.specs.Primitives.{ReadsNumbers}
+use Rattle.js_run.specs.js_conversions.Primitives.{ReadsNumbers}
 use Rattle.js_text.specs.Naming.{Naming, naming_of}
 use Rattle.js_text.specs.declared.value.Key.{Key}
 use Rattle.js_text.specs.declared.value.Value.TheVariants as value

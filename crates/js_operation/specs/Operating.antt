@@ -12,8 +12,8 @@ use Rattle.js_text.specs.declared.value.Value as values
 use Rattle.js_text.specs.declared.value.Value.TheVariants as value
 use Rattle.js_desc.specs.declared.decision.EndKind.TheVariants as end
 use Rattle.js_desc.specs.declared.fault.FaultText.TheVariants as fault
-use Rattle.js_conversions.specs.declared.next.Wanted.{Wanted}
-use Rattle.js_conversions.specs.declared.next.Wanted.TheVariants as wanted
+use Rattle.js_run.specs.js_conversions.declared.next.Wanted.{Wanted}
+use Rattle.js_run.specs.js_conversions.declared.next.Wanted.TheVariants as wanted
 use Rattle.js_tree.specs.declared.operator.BinaryOperator.{BinaryOperator}
 use Rattle.js_tree.specs.declared.operator.BinaryOperator.TheVariants as op
 use Rattle.js_tree.specs.declared.operator.UnaryOperator.{UnaryOperator}

@@ -7,3 +7,8 @@
 #![tactic(auto)]
 
 pub mod operation;
+
+pub use js_run;
+pub use js_run::{
+    js_conversions, js_exotic, js_maker_natives, js_operations, js_proxy, js_slot_natives, js_traps,
+};

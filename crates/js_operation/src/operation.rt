@@ -3,9 +3,9 @@
 ghost use Rattle.std.specs.Prelude.{◌≡◌};
 ghost use Rattle.js_operation.specs.Operating.{flag, flag_operation, number_operation, number_value, object_of, wanted_by};
 
-use js_conversions::next::Wanted;
 use js_desc::decision::EndKind;
 use js_desc::fault::FaultText;
+use js_run::js_conversions::next::Wanted;
 use js_text::text::Text;
 use js_text::value::{Key, Value};
 use js_tree::operator::{BinaryOperator, UnaryOperator};

@@ -5,11 +5,11 @@ use Rattle.js_text.specs.declared.value.Key.{Key}
 use Rattle.js_text.specs.declared.value.Value.TheVariants as value
 use Rattle.lava_base.specs.declared.ids.MadeSymbol.{MadeSymbol}
 use Rattle.lava_base.specs.declared.ids.Ref.{Ref}
-use Rattle.js_run.specs.Acts.{asks}
-use Rattle.js_run.specs.Conversions.{number_read, primitive_to_key}
-use Rattle.js_run.specs.Operators.{number_of, text_of, to_primitive}
-use Rattle.js_run.specs.Parties.{Shared}
-use Rattle.js_conversions.specs.Primitives as primitives
+use Rattle.js_operation.specs.js_run.Acts.{asks}
+use Rattle.js_operation.specs.js_run.Conversions.{number_read, primitive_to_key}
+use Rattle.js_operation.specs.js_run.Operators.{number_of, text_of, to_primitive}
+use Rattle.js_operation.specs.js_run.Parties.{Shared}
+use Rattle.js_operation.specs.js_conversions.Primitives as primitives
 use Rattle.js_operation.specs.Computing as computing
 use Rattle.js_operation.specs.Computing.{key_computed, key_of, number_converted, numbers_of, texts_of, then_computed}
 use Rattle.js_operation.specs.Deeds.{MachineAct, MachineNaming, MachineParty, act_of}

@@ -2,18 +2,18 @@
 use Rattle.std.proofs.Common.{◌≡◌, ℕ, Bool, true, false, List, Option, refl, ◌∙◌, ap, Result, Ok, Err, IfOk}
 use Rattle.std.specs.Prelude.{ℤ}
 use Rattle.lava_base.specs.declared.ids.Ref.{Ref}
-use Rattle.js_conversions.specs.Primitives.{ReadsNumbers}
+use Rattle.js_operation.specs.js_conversions.Primitives.{ReadsNumbers}
 use Rattle.js_text.specs.Naming.{naming_of}
 use Rattle.js_text.specs.declared.value.Value.TheVariants as value
 use Rattle.js_tree.specs.declared.operator.BinaryOperator.{BinaryOperator}
 use Rattle.js_tree.specs.declared.operator.BinaryOperator.TheVariants as op
 use Rattle.js_tree.specs.declared.operator.UnaryOperator.{UnaryOperator}
 use Rattle.js_tree.specs.declared.operator.UnaryOperator.TheVariants as unary
-use Rattle.js_run.specs.Acts.{asks, give}
-use Rattle.js_run.specs.Conversions.{primitive_to_key}
-use Rattle.js_run.specs.Operators as operators
-use Rattle.js_run.specs.Operators.{binary_value, is_in, is_instance, to_primitive, unary_value}
-use Rattle.js_run.specs.Parties.{Shared}
+use Rattle.js_operation.specs.js_run.Acts.{asks, give}
+use Rattle.js_operation.specs.js_run.Conversions.{primitive_to_key}
+use Rattle.js_operation.specs.js_run.Operators as operators
+use Rattle.js_operation.specs.js_run.Operators.{binary_value, is_in, is_instance, to_primitive, unary_value}
+use Rattle.js_operation.specs.js_run.Parties.{Shared}
 use Rattle.js_operation.specs.Deeds.{MachineAct, Does, MachineNaming, MachineParty, act_of, asks_key, gives, has_key_value, left_value, primitive_binary_value, primitive_unary_value, rest_deed}
 use Rattle.js_operation.specs.Operating.{MachineValue, binary_operation, converted, in_by, in_object, instance_of, integer_operation, key_converted, left_by, left_operand, left_primitive, loose_equality, object_equality, object_of, primitive_unary, right_by, right_operand, takes_numbers, type_of, unary_by, unary_numeric, unary_operation}
 use Rattle.js_operation.specs.declared.operation.Operation.{Operation}

@@ -11,7 +11,7 @@ use Rattle.lava_base.specs.SafeIntegers.{IsSafe}
 use Rattle.js_num.specs.Arithmetic.{IsPower}
 use Rattle.js_num.specs.SafeRange.{NoSafe}
 use Rattle.js_num.specs.declared.safe.NotSafe.{NotSafe}
-use Rattle.js_run.specs.Operators.{exponentiate}
+use Rattle.js_operation.specs.js_run.Operators.{exponentiate}
 use Rattle.js_operation.specs.Computing.{number_or_end, safe_or_end}
 use Rattle.js_operators.proofs.Safe_numbers.{safe_given, size_safe, unsafe_ends}
 

@@ -9,11 +9,11 @@ use Rattle.js_desc.specs.declared.decision.EndKind.TheVariants as end
 use Rattle.js_native.specs.declared.costs.TheConstants.{UNITS_A_STEP}
 use Rattle.js_tree.specs.declared.operator.BinaryOperator.{BinaryOperator}
 use Rattle.js_tree.specs.declared.operator.BinaryOperator.TheVariants as op
-use Rattle.js_run.specs.Acts.{End, give}
-use Rattle.js_run.specs.Completions as halt
-use Rattle.js_run.specs.Operators as operators
-use Rattle.js_run.specs.Operators.{either_is_text, given_number, given_text, is_safe, number_of, numeric, pays, primitive_is_less, primitives_are_equal}
-use Rattle.js_run.specs.Parties.{Shared}
+use Rattle.js_operation.specs.js_run.Acts.{End, give}
+use Rattle.js_operation.specs.js_run.Completions as halt
+use Rattle.js_operation.specs.js_run.Operators as operators
+use Rattle.js_operation.specs.js_run.Operators.{either_is_text, given_number, given_text, is_safe, number_of, numeric, pays, primitive_is_less, primitives_are_equal}
+use Rattle.js_operation.specs.js_run.Parties.{Shared}
 use Rattle.js_operation.specs.Computing.{calculate, is_less_than, is_loosely_equal, number_or_end, numbers_are_less, numbers_of, then_computed}
 use Rattle.js_operation.specs.Deeds.{MachineParty, act_of, gives, primitive_binary_value}
 use Rattle.js_operation.specs.Operating.{MachineValue, added, flag, flag_operation, joined, number_operation, primitive_binary, text_or_end}

@@ -6,7 +6,7 @@ use Rattle.std.proofs.lemmas.Bool.Decides.{leb_tells}
 use Rattle.lava_base.specs.SafeIntegers.{IsSafe}
 use Rattle.lava_base.specs.declared.limits.TheConstants.{MAX_SAFE_INTEGER}
 use Rattle.js_num.specs.declared.safe.NotSafe.{NotSafe}
-use Rattle.js_run.specs.Operators.{is_safe}
+use Rattle.js_operation.specs.js_run.Operators.{is_safe}
 use Rattle.js_operation.specs.Computing.{number_or_end, safe_or_end}
 use Rattle.js_operation.specs.declared.operation.Computed.{Computed}
 use Rattle.js_operation.specs.declared.operation.Computed.TheVariants as computed

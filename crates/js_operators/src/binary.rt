@@ -1,8 +1,8 @@
 // Binary operators.
 
 ghost use Rattle.std.specs.Prelude.{◌≡◌, ℕ, ℤ, List, Option, IfOk};
-ghost use Rattle.js_conversions.specs.Primitives.{ReadsNumbers};
-ghost use Rattle.js_run.specs.Operators.{binary_value};
+ghost use Rattle.js_operation.specs.js_conversions.Primitives.{ReadsNumbers};
+ghost use Rattle.js_operation.specs.js_run.Operators.{binary_value};
 ghost use Rattle.js_operation.specs.Deeds.{Does};
 ghost use Rattle.js_operation.specs.Operating.{binary_operation, left_by, left_primitive, loose_by, object_by, primitive_binary, primitive_by, right_by, strict_equality, takes_numbers};
 

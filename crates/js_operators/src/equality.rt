@@ -1,9 +1,9 @@
 // Whether two values are equal.
 
 ghost use Rattle.std.specs.Prelude.{◌≡◌, ℕ, ℤ, List, Option, IfOk};
-ghost use Rattle.js_conversions.specs.Primitives.{ReadsNumbers};
+ghost use Rattle.js_operation.specs.js_conversions.Primitives.{ReadsNumbers};
 ghost use Rattle.js_text.specs.Naming.{naming_of};
-ghost use Rattle.js_run.specs.Truth.{is_nullish, is_strictly_equal};
+ghost use Rattle.js_operation.specs.js_run.Truth.{is_nullish, is_strictly_equal};
 ghost use Rattle.js_operation.specs.Computing.{is_loosely_equal, is_symbol, numbers_are_equal};
 
 use crate::numbers::numbers_of;

@@ -2,7 +2,7 @@
 
 ghost use Rattle.std.specs.Prelude.{◌≡◌, IfOk};
 ghost use Rattle.js_text.specs.declared.value.Value.TheVariants.{Int};
-ghost use Rattle.js_run.specs.Operators.{binary_value};
+ghost use Rattle.js_operation.specs.js_run.Operators.{binary_value};
 ghost use Rattle.js_operation.specs.Deeds.{Does};
 ghost use Rattle.js_operation.specs.Operating.{integer_operation};
 

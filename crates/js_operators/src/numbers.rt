@@ -1,18 +1,18 @@
 // Numbers, and what operators calculate with them.
 
 ghost use Rattle.std.specs.Prelude.{◌≡◌, ℕ, ℤ, List, Option, IfOk};
-ghost use Rattle.js_conversions.specs.Primitives.{ReadsNumbers};
-ghost use Rattle.js_run.specs.Operators.{divide, numeric, remainder};
+ghost use Rattle.js_operation.specs.js_conversions.Primitives.{ReadsNumbers};
+ghost use Rattle.js_operation.specs.js_run.Operators.{divide, numeric, remainder};
 ghost use Rattle.js_operation.specs.Computing.{calculate, number_converted, number_of, number_or_end, numbers_of, safe_or_end};
 ghost use Rattle.lava_base.specs.SafeIntegers.{IsSafe};
 
-use js_conversions::next::Next;
-use js_conversions::primitives::to_number;
 use js_desc::decision::{Decision, EndKind};
 use js_desc::fault::FaultText;
 use js_desc::reply::Reply;
 use js_num::bits::BitOp;
 use js_num::safe::{NotSafe, Safe};
+use js_operation::js_conversions::next::Next;
+use js_operation::js_conversions::primitives::to_number;
 use js_operation::operation::Computed;
 use js_text::value::Value;
 use js_tree::operator::BinaryOperator;

@@ -1,7 +1,7 @@
 // Operators that ask objects.
 
 ghost use Rattle.std.specs.Prelude.{◌≡◌, IfOk};
-ghost use Rattle.js_run.specs.Operators.{has_instance_by, prototype_inherited};
+ghost use Rattle.js_operation.specs.js_run.Operators.{has_instance_by, prototype_inherited};
 ghost use Rattle.js_operation.specs.Deeds.{Does, look_deed};
 ghost use Rattle.js_operation.specs.Operating.{has_instance, has_key, in_by, in_object, instance_of, looked, prototype_come};
 

@@ -1,7 +1,7 @@
 // The order of values that are no objects.
 
 ghost use Rattle.std.specs.Prelude.{◌≡◌, ℕ, ℤ, List, Option, IfOk};
-ghost use Rattle.js_conversions.specs.Primitives.{ReadsNumbers};
+ghost use Rattle.js_operation.specs.js_conversions.Primitives.{ReadsNumbers};
 ghost use Rattle.js_operation.specs.Computing.{is_less_than, numbers_are_less};
 
 use crate::numbers::numbers_of;

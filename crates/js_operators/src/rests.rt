@@ -1,7 +1,7 @@
 // What operators do once an object became a primitive value.
 
 ghost use Rattle.std.specs.Prelude.{◌≡◌, ℕ, ℤ, List, Option, IfOk};
-ghost use Rattle.js_conversions.specs.Primitives.{ReadsNumbers};
+ghost use Rattle.js_operation.specs.js_conversions.Primitives.{ReadsNumbers};
 ghost use Rattle.js_operation.specs.Deeds.{Does, rest_deed};
 ghost use Rattle.js_operation.specs.Operating.{converted, key_converted};
 

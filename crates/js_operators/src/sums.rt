@@ -1,8 +1,8 @@
 // Sums, of numbers and of texts.
 
 ghost use Rattle.std.specs.Prelude.{◌≡◌, ◌++◌, ℕ, ℤ, List, Option, IfOk};
-ghost use Rattle.js_conversions.specs.Primitives.{ReadsNumbers};
-ghost use Rattle.js_run.specs.Operators.{either_is_text};
+ghost use Rattle.js_operation.specs.js_conversions.Primitives.{ReadsNumbers};
+ghost use Rattle.js_operation.specs.js_run.Operators.{either_is_text};
 ghost use Rattle.js_operation.specs.Operating.{added, joined, text_or_end};
 
 use crate::numbers::calculate;

@@ -3,11 +3,11 @@
 ghost use Rattle.std.specs.Prelude.{◌≡◌, IfOk, option_map};
 ghost use Rattle.js_operation.specs.Computing.{both_texts, key_computed, key_of, text_converted, text_of, texts_of};
 
-use js_conversions::next::Next;
-use js_conversions::primitives::to_string;
 use js_desc::decision::Decision;
 use js_desc::fault::FaultText;
 use js_desc::reply::Reply;
+use js_operation::js_conversions::next::Next;
+use js_operation::js_conversions::primitives::to_string;
 use js_operation::operation::Computed;
 use js_text::copy::copy_symbol;
 use js_text::index::key_of_text;

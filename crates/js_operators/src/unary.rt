@@ -1,21 +1,21 @@
 // Unary operators.
 
 ghost use Rattle.std.specs.Prelude.{◌≡◌, ℕ, ℤ, negsuc, List, Option, IfOk};
-ghost use Rattle.js_conversions.specs.Primitives.{ReadsNumbers};
+ghost use Rattle.js_operation.specs.js_conversions.Primitives.{ReadsNumbers};
 ghost use Rattle.js_num.specs.Bits.{bitwise};
 ghost use Rattle.js_num.specs.declared.bits.BitOp.TheVariants as BitOp;
 ghost use Rattle.js_text.specs.declared.value.Value.TheVariants as value;
 ghost use Rattle.js_operation.specs.Deeds.{Does};
 ghost use Rattle.js_operation.specs.Operating.{primitive_unary, type_of, unary_by, unary_numeric, unary_operation};
 ghost use Rattle.js_operation.specs.declared.operation.Operation.TheVariants as operation;
-ghost use Rattle.js_run.specs.Operators.{unary_value};
-ghost use Rattle.js_run.specs.Truth.{to_boolean};
+ghost use Rattle.js_operation.specs.js_run.Operators.{unary_value};
+ghost use Rattle.js_operation.specs.js_run.Truth.{to_boolean};
 
 use crate::numbers::{number_of, safe};
 use js_num::bits::BitOp;
 use js_num::safe::Safe;
+use js_operation::js_operations::names::ascii_text;
 use js_operation::operation::{Computed, Look, Operation, Rest, object_of};
-use js_operations::names::ascii_text;
 use js_text::value::Value;
 use js_tree::operator::UnaryOperator;
 use lava_base::ids::Ref;

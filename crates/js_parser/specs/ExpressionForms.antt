@@ -4,19 +4,19 @@ use Rattle.js_grammar.specs.declared.symbols.Production.{Production}
 use Rattle.js_grammar.specs.declared.symbols.Production.TheVariants as production
 use Rattle.js_phrase.specs.declared.phrase.Phrase.{Phrase}
 use Rattle.js_phrase.specs.declared.phrase.Phrase.TheVariants as phrase
-use Rattle.js_expr.specs.Arrays.{spread, comma_element, array_literal}
-use Rattle.js_expr.specs.Arrows.{expression_body, arrow_function}
-use Rattle.js_expr.specs.Assignments.{assignment, operator_assignment}
-use Rattle.js_expr.specs.Commas.{comma_expression}
-use Rattle.js_expr.specs.Covers.{cover_rest, cover_comma, cover_parenthesized}
-use Rattle.js_expr.specs.Literals.{this_expression, null_or_boolean, numeric_literal, string_literal}
-use Rattle.js_expr.specs.Members.{member_name, member_key, call_expression, optional_expression, optional_name, key_step, call_step}
-use Rattle.js_expr.specs.Names.{identifier_reference}
-use Rattle.js_expr.specs.News.{new_target, new_expression, new_with_arguments, super_name, super_expression}
-use Rattle.js_expr.specs.Objects.{property_value, cover_initialized_name, named_property, keyed_property, object_literal}
-use Rattle.js_expr.specs.Operations.{unary, prefix_update, postfix_update, binary, logical, conditional}
-use Rattle.js_expr.specs.PropertyNames.{word_name, string_name, numeric_name, computed_property_name}
-use Rattle.js_expr.specs.Templates.{no_substitution_template, substitution_template, template_middle}
+use Rattle.js_stmt.specs.js_expr.Arrays.{spread, comma_element, array_literal}
+use Rattle.js_stmt.specs.js_expr.Arrows.{expression_body, arrow_function}
+use Rattle.js_stmt.specs.js_expr.Assignments.{assignment, operator_assignment}
+use Rattle.js_stmt.specs.js_expr.Commas.{comma_expression}
+use Rattle.js_stmt.specs.js_expr.Covers.{cover_rest, cover_comma, cover_parenthesized}
+use Rattle.js_stmt.specs.js_expr.Literals.{this_expression, null_or_boolean, numeric_literal, string_literal}
+use Rattle.js_stmt.specs.js_expr.Members.{member_name, member_key, call_expression, optional_expression, optional_name, key_step, call_step}
+use Rattle.js_stmt.specs.js_expr.Names.{identifier_reference}
+use Rattle.js_stmt.specs.js_expr.News.{new_target, new_expression, new_with_arguments, super_name, super_expression}
+use Rattle.js_stmt.specs.js_expr.Objects.{property_value, cover_initialized_name, named_property, keyed_property, object_literal}
+use Rattle.js_stmt.specs.js_expr.Operations.{unary, prefix_update, postfix_update, binary, logical, conditional}
+use Rattle.js_stmt.specs.js_expr.PropertyNames.{word_name, string_name, numeric_name, computed_property_name}
+use Rattle.js_stmt.specs.js_expr.Templates.{no_substitution_template, substitution_template, template_middle}
 
 -- names and literals, and what stands between parentheses
 -- own: other productions make nothing here

@@ -5,7 +5,7 @@ use Rattle.js_grammar.specs.declared.symbols.Production.TheVariants as productio
 use Rattle.js_phrase.specs.declared.phrase.Phrase.{Phrase}
 use Rattle.js_phrase.specs.declared.phrase.Phrase.TheVariants as phrase
 use Rattle.js_parser.specs.ExpressionForms.{expression_form}
-use Rattle.js_expr.specs.Parts.{part}
+use Rattle.js_stmt.specs.js_expr.Parts.{part}
 use Rattle.js_stmt.specs.Bindings.{binding_identifier, initializer, binding_element, binding_rest, second_part, named_binding_property, keyed_binding_property, object_binding_pattern, array_binding_pattern, comma_binding_element}
 use Rattle.js_stmt.specs.Branches.{if_statement, if_else_statement}
 use Rattle.js_stmt.specs.Classes.{class_heritage, class_expression, class_declaration}

@@ -3,27 +3,37 @@
 ghost use Rattle.std.specs.Prelude.{◌≡◌, IfOk};
 ghost use Rattle.js_parser.specs.ExpressionForms as spec;
 
-use js_expr::arrays::{array_literal, comma_element, spread};
-use js_expr::arrows::{arrow_function, expression_body};
-use js_expr::assignments::{assignment, operator_assignment};
-use js_expr::commas::comma_expression;
-use js_expr::covers::{cover_comma, cover_parenthesized, cover_rest};
-use js_expr::literals::{null_or_boolean, numeric_literal, string_literal, this_expression};
-use js_expr::members::{
-    call_expression, call_step, key_step, member_key, member_name, optional_expression,
-    optional_name,
-};
-use js_expr::names::identifier_reference;
-use js_expr::news::{new_expression, new_target, new_with_arguments, super_expression, super_name};
-use js_expr::objects::{
-    cover_initialized_name, keyed_property, named_property, object_literal, property_value,
-};
-use js_expr::operations::{binary, conditional, logical, postfix_update, prefix_update, unary};
-use js_expr::property_names::{computed_property_name, numeric_name, string_name, word_name};
-use js_expr::templates::{no_substitution_template, substitution_template, template_middle};
 use js_grammar::symbols::Production;
 use js_phrase::phrase::Phrase;
 use js_phrase::queue::Queue;
+use js_stmt::js_expr::arrays::{array_literal, comma_element, spread};
+use js_stmt::js_expr::arrows::{arrow_function, expression_body};
+use js_stmt::js_expr::assignments::{assignment, operator_assignment};
+use js_stmt::js_expr::commas::comma_expression;
+use js_stmt::js_expr::covers::{cover_comma, cover_parenthesized, cover_rest};
+use js_stmt::js_expr::literals::{
+    null_or_boolean, numeric_literal, string_literal, this_expression,
+};
+use js_stmt::js_expr::members::{
+    call_expression, call_step, key_step, member_key, member_name, optional_expression,
+    optional_name,
+};
+use js_stmt::js_expr::names::identifier_reference;
+use js_stmt::js_expr::news::{
+    new_expression, new_target, new_with_arguments, super_expression, super_name,
+};
+use js_stmt::js_expr::objects::{
+    cover_initialized_name, keyed_property, named_property, object_literal, property_value,
+};
+use js_stmt::js_expr::operations::{
+    binary, conditional, logical, postfix_update, prefix_update, unary,
+};
+use js_stmt::js_expr::property_names::{
+    computed_property_name, numeric_name, string_name, word_name,
+};
+use js_stmt::js_expr::templates::{
+    no_substitution_template, substitution_template, template_middle,
+};
 use lava_base::memory::OutOfMemory;
 use std::alloc::Global;
 

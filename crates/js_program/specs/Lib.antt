@@ -1,1 +1,2 @@
 pub mod Programs
+pub use Rattle.js_parser.specs as js_parser

@@ -8,3 +8,5 @@
 
 pub mod laws;
 pub mod program;
+
+pub use js_parser;

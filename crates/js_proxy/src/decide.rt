@@ -2,8 +2,8 @@
 
 ghost use Rattle.std.specs.Prelude.{◌≡◌, IfOk, OnErr};
 ghost use Rattle.js_text.specs.Naming.{naming_of};
-ghost use Rattle.js_operations.specs.Looks.{marks_seen};
-ghost use Rattle.js_operations.specs.MadeObjects.{StandFirst};
+ghost use Rattle.js_traps.specs.js_operations.Looks.{marks_seen};
+ghost use Rattle.js_traps.specs.js_operations.MadeObjects.{StandFirst};
 ghost use Rattle.js_proxy.specs.Decided.{decided, decided_by_slot, resumed};
 
 use crate::traps::{after_trap, decided_by_proxy};

@@ -10,3 +10,5 @@
 pub mod decide;
 pub mod laws;
 mod traps;
+
+pub use js_traps;

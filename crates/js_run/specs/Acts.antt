@@ -10,13 +10,13 @@ use Rattle.js_text.specs.declared.value.Value.TheVariants as value
 use Rattle.js_desc.specs.declared.ask.Ask as a
 use Rattle.js_desc.specs.declared.ask.Ask.TheVariants as ask
 use Rattle.js_desc.specs.declared.reply.Reply.TheVariants as reply
-use Rattle.js_conversions.specs.declared.next.Next.{Next as ConversionNext}
+use Rattle.js_object_natives.specs.js_conversions.declared.next.Next.{Next as ConversionNext}
 use Rattle.js_exotic.specs.declared.next.Next.{Next as ExoticNext}
 use Rattle.js_maker_natives.specs.declared.next.Next.{Next as MakerNext}
 use Rattle.js_object_natives.specs.declared.next.Next.{Next as ObjectNext}
-use Rattle.js_slot_natives.specs.declared.next.Next.{Next as SlotNext}
+use Rattle.js_maker_natives.specs.js_slot_natives.declared.next.Next.{Next as SlotNext}
 use Rattle.js_term.specs.declared.term.Term.{Term}
-use Rattle.js_traps.specs.declared.next.Next.{Next as ProxyNext}
+use Rattle.js_proxy.specs.js_traps.declared.next.Next.{Next as ProxyNext}
 use Rattle.js_run.specs.Completions.{Completion, Replied, Breaks, Continues, Halt}
 use Rattle.js_run.specs.Outside.{OutsideCall, OutsideAnswer}
 use Rattle.js_run.specs.Parties.{Party}

@@ -40,3 +40,11 @@ pub mod View
 pub mod Mine
 pub mod Starts
 pub mod Converted
+pub use Rattle.js_exotic.specs as js_exotic
+pub use Rattle.js_object_natives.specs.js_operations
+pub use Rattle.js_proxy.specs.js_traps
+pub use Rattle.js_proxy.specs as js_proxy
+pub use Rattle.js_object_natives.specs.js_conversions
+pub use Rattle.js_object_natives.specs as js_object_natives
+pub use Rattle.js_maker_natives.specs.js_slot_natives
+pub use Rattle.js_maker_natives.specs as js_maker_natives

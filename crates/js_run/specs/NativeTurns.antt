@@ -12,12 +12,12 @@ use Rattle.js_desc.specs.declared.decision.Decision.{Decision}
 use Rattle.js_desc.specs.declared.decision.Decision.TheVariants as decision
 use Rattle.js_desc.specs.declared.reply.Reply.{Reply}
 use Rattle.js_desc.specs.declared.reply.Reply.TheVariants as reply
-use Rattle.js_conversions.specs.Conversions.{conversion_resumed}
+use Rattle.js_object_natives.specs.js_conversions.Conversions.{conversion_resumed}
 use Rattle.js_maker_natives.specs.Resumed.{maker_resumed}
 use Rattle.js_native.specs.Costs.{makes_text, native_cost, units_of_values}
 use Rattle.js_object_natives.specs.Resumed.{native_resumed}
-use Rattle.js_operations.specs.Lists.{list_items}
-use Rattle.js_slot_natives.specs.SlotNatives.{slot_native_resumed}
+use Rattle.js_object_natives.specs.js_operations.Lists.{list_items}
+use Rattle.js_maker_natives.specs.js_slot_natives.SlotNatives.{slot_native_resumed}
 use Rattle.js_store.specs.Objects.{Object}
 use Rattle.js_run.specs.Acts.{Act, Give, NativeNext, Native_decides, Of_conversion, Of_maker, Of_object, Of_slot, give}
 use Rattle.js_run.specs.Completions.{Replied}

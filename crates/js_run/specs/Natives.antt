@@ -8,9 +8,9 @@ use Rattle.js_text.specs.declared.value.Value.{Value}
 use Rattle.js_text.specs.declared.value.Value.TheVariants as value
 use Rattle.js_desc.specs.declared.decision.Decision.TheVariants as decision
 use Rattle.js_desc.specs.declared.fault.FaultText.TheVariants as fault
-use Rattle.js_conversions.specs.Conversions.{convert, convert_key, convert_text}
-use Rattle.js_conversions.specs.Primitives.{Conversion}
-use Rattle.js_conversions.specs.declared.next.Wanted.TheVariants as wanted
+use Rattle.js_object_natives.specs.js_conversions.Conversions.{convert, convert_key, convert_text}
+use Rattle.js_object_natives.specs.js_conversions.Primitives.{Conversion}
+use Rattle.js_object_natives.specs.js_conversions.declared.next.Wanted.TheVariants as wanted
 use Rattle.js_maker_natives.specs.Kinds.{is_common, symbol_for}
 use Rattle.js_maker_natives.specs.MakerDecisions.{MakerDecision}
 use Rattle.js_maker_natives.specs.Makers.{bind, make_array, make_map, make_object, make_proxy, make_symbol, revoke}

@@ -13,12 +13,12 @@ use Rattle.js_desc.specs.declared.decision.Decision.TheVariants as decision
 use Rattle.js_desc.specs.declared.fault.FaultText.TheVariants as fault
 use Rattle.js_maker_natives.specs.Kinds.{class_of, is_array}
 use Rattle.js_proxy.specs.Traps.{decided_by_proxy}
-use Rattle.js_slot_natives.specs.SlotNatives.{slot_native}
+use Rattle.js_maker_natives.specs.js_slot_natives.SlotNatives.{slot_native}
 use Rattle.js_store.specs.declared.slot.Entry.{Entry}
 use Rattle.js_store.specs.declared.slot.Slot.{Slot}
 use Rattle.js_store.specs.declared.slot.Slot.TheVariants as slot
-use Rattle.js_traps.specs.TrapDecisions.{ProxyDecision}
-use Rattle.js_traps.specs.declared.next.Next.TheVariants as wait
+use Rattle.js_proxy.specs.js_traps.TrapDecisions.{ProxyDecision}
+use Rattle.js_proxy.specs.js_traps.declared.next.Next.TheVariants as wait
 use Rattle.js_run.specs.Acts.{Act, Closes, NativeNext, Native_decides, Of_maker, Of_slot, Send}
 use Rattle.js_run.specs.Asking.{object_here, open_one, waits_for}
 use Rattle.js_run.specs.Collections.{collection_decides}

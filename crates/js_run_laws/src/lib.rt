@@ -9,6 +9,10 @@ ghost use Rattle.js_run.specs.Sorting.{Places_are_sorted};
 ghost use Rattle.js_run.specs.View.{Each_has_its_view, Same_things_same_runs};
 ghost use Rattle.js_run_laws.specs.Given.{Alone_is_well_made, Given_is_well_made};
 
+pub use js_run::{
+    js_conversions, js_maker_natives, js_object_natives, js_operations, js_slot_natives,
+};
+
 /// An application is well made where what its packages are given is marked, listed, and has left its owner.
 #[tactic(none)]
 pub fn given_is_well_made()

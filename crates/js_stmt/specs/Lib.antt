@@ -11,3 +11,4 @@ pub mod Methods
 pub mod Statements
 pub mod Switches
 pub mod Tries
+pub use Rattle.js_expr.specs as js_expr

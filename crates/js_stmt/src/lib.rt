@@ -23,3 +23,5 @@ pub mod methods;
 pub mod statements;
 pub mod switches;
 pub mod tries;
+
+pub use js_expr;

@@ -18,3 +18,5 @@ mod property_traps;
 mod prototype_traps;
 pub mod resume;
 mod value_traps;
+
+pub use js_operations;

@@ -8,25 +8,25 @@ use Rattle.js_text.specs.Naming.{naming_of}
 use Rattle.js_desc.specs.Identities.{ask_identities, reply_identities}
 use Rattle.js_desc.specs.declared.ask.Ask.{Ask}
 use Rattle.js_desc.specs.declared.reply.Reply.{Reply}
-use Rattle.js_run.specs.Acts.{Next}
-use Rattle.js_run.specs.Completions.{reply_of}
-use Rattle.js_run.specs.Heap as heap
-use Rattle.js_run.specs.Heap.{Over_with, cross, goes_on, hands, has_asked, has_run, replies_of}
-use Rattle.js_run.specs.Identities.{Replies, Requests, request_identities}
-use Rattle.js_run.specs.Journal.{Application, Crossing, asked_party, crossing, end_of, owner_of, put, with_marks_of}
-use Rattle.js_run.specs.Local.{own_marks}
-use Rattle.js_run.specs.Parties.{Party}
-use Rattle.js_run.specs.Runs.{Asks, Imports, Request}
-use Rattle.js_machine.specs.Begun.{own_of}
-use Rattle.js_machine.specs.Shown.{no_ask}
-use Rattle.js_machine.specs.Views.{View, completion_of, nexts_of}
-use Rattle.js_machine.specs.declared.asked.Asked.{Asked}
-use Rattle.js_machine.specs.declared.asked.Imported.{Imported}
-use Rattle.js_machine.specs.declared.frame.Halt.{Halt}
-use Rattle.js_machine.specs.declared.frame.Mode.{Mode}
-use Rattle.js_machine.specs.declared.stop.Pause.{Pause}
-use Rattle.js_machine.specs.declared.stop.Stop.{Stop}
-use Rattle.js_machine.specs.declared.stop.Stop.TheVariants as stop
+use Rattle.js_crossing.specs.js_run.Acts.{Next}
+use Rattle.js_crossing.specs.js_run.Completions.{reply_of}
+use Rattle.js_crossing.specs.js_run.Heap as heap
+use Rattle.js_crossing.specs.js_run.Heap.{Over_with, cross, goes_on, hands, has_asked, has_run, replies_of}
+use Rattle.js_crossing.specs.js_run.Identities.{Replies, Requests, request_identities}
+use Rattle.js_crossing.specs.js_run.Journal.{Application, Crossing, asked_party, crossing, end_of, owner_of, put, with_marks_of}
+use Rattle.js_crossing.specs.js_run.Local.{own_marks}
+use Rattle.js_crossing.specs.js_run.Parties.{Party}
+use Rattle.js_crossing.specs.js_run.Runs.{Asks, Imports, Request}
+use Rattle.js_crossing.specs.js_machine.Begun.{own_of}
+use Rattle.js_crossing.specs.js_machine.Shown.{no_ask}
+use Rattle.js_crossing.specs.js_machine.Views.{View, completion_of, nexts_of}
+use Rattle.js_crossing.specs.js_machine.declared.asked.Asked.{Asked}
+use Rattle.js_crossing.specs.js_machine.declared.asked.Imported.{Imported}
+use Rattle.js_crossing.specs.js_machine.declared.frame.Halt.{Halt}
+use Rattle.js_crossing.specs.js_machine.declared.frame.Mode.{Mode}
+use Rattle.js_crossing.specs.js_machine.declared.stop.Pause.{Pause}
+use Rattle.js_crossing.specs.js_machine.declared.stop.Stop.{Stop}
+use Rattle.js_crossing.specs.js_machine.declared.stop.Stop.TheVariants as stop
 use Rattle.js_world.specs.Crossings.{Follows, GoesOn, HandsOver, HasGiven, IsResumed, IsSent, IsTaken, Rests, RunsHere, newest}
 use Rattle.js_crossing.specs.Newest.{ask_references, reply_references, traced_ask, traced_import, traced_reply}
 use Rattle.js_crossing.specs.Shows.{makes_none, shows_ask, shows_ref, with_table}

@@ -1,9 +1,9 @@
 -- A run from crossing to crossing.
 use Rattle.std.proofs.Common.{◌≡◌, ℕ, zero, suc, ◌+◌, refl, ap, ◌∙◌, subst, arith}
-use Rattle.js_run.specs.Heap as heap
-use Rattle.js_run.specs.Heap.{cross}
-use Rattle.js_run.specs.Journal.{Application}
-use Rattle.js_machine.specs.declared.frame.Mode.{Mode}
+use Rattle.js_crossing.specs.js_run.Heap as heap
+use Rattle.js_crossing.specs.js_run.Heap.{cross}
+use Rattle.js_crossing.specs.js_run.Journal.{Application}
+use Rattle.js_crossing.specs.js_machine.declared.frame.Mode.{Mode}
 use Rattle.js_world.specs.Ends.{Ends, IsOn, after_crossings}
 use Rattle.js_world.specs.Worlds.{After, Crosses, Stands, WorldView}
 use Rattle.js_crossing.specs.declared.ending.Turn.{Turn}

@@ -1,12 +1,12 @@
 -- A machine that has done nothing yet.
 use Rattle.std.proofs.Common.{◌≡◌, ℕ, zero, suc, ◌+◌, List, [], ◌∷◌, ◌++◌, get_or, length, replicate, refl, sym, ap, ◌∙◌, subst, arith, Result, Ok, Err, IfOk, Some, if◌then◌else◌}
-use Rattle.js_machine.specs.Begun.{Own}
-use Rattle.js_machine.specs.Views.{View}
-use Rattle.js_run.specs.Heap.{begins}
-use Rattle.js_run.specs.Journal.{root_link}
-use Rattle.js_run.specs.Runs.{Imports}
-use Rattle.js_machine.specs.declared.asked.Imported.{Imported}
-use Rattle.js_machine.specs.declared.frame.Mode.{Mode}
+use Rattle.js_crossing.specs.js_machine.Begun.{Own}
+use Rattle.js_crossing.specs.js_machine.Views.{View}
+use Rattle.js_crossing.specs.js_run.Heap.{begins}
+use Rattle.js_crossing.specs.js_run.Journal.{root_link}
+use Rattle.js_crossing.specs.js_run.Runs.{Imports}
+use Rattle.js_crossing.specs.js_machine.declared.asked.Imported.{Imported}
+use Rattle.js_crossing.specs.js_machine.declared.frame.Mode.{Mode}
 use Rattle.js_world.specs.Crossings.{IsTaken}
 use Rattle.js_world.specs.First.{IsBegun, RestsFirst, as_new}
 use Rattle.js_crossing.specs.Newest.{traced_import}

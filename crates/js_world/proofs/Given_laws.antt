@@ -4,8 +4,8 @@ use Rattle.lava_base.specs.declared.ids.MadeSymbol.{MadeSymbol}
 use Rattle.lava_base.specs.declared.ids.Ref.{Ref}
 use Rattle.js_text.specs.declared.value.Value.{Value}
 use Rattle.js_desc.specs.declared.reply.Reply.{Reply}
-use Rattle.js_machine.specs.Views.{View}
-use Rattle.js_machine.specs.declared.asked.Answer.{Answer}
+use Rattle.js_crossing.specs.js_machine.Views.{View}
+use Rattle.js_crossing.specs.js_machine.declared.asked.Answer.{Answer}
 use Rattle.js_world.specs.Crossings.{HasGiven}
 use Rattle.js_crossing.specs.Shows.{shows_reply}
 use Rattle.js_world.specs.Worlds.{WorldView, charged}

@@ -10,22 +10,22 @@ use Rattle.lava_base.specs.declared.marks.Marks.{Marks}
 use Rattle.js_text.specs.Naming.{naming_of}
 use Rattle.js_store.specs.Foreign.{marks_of}
 use Rattle.js_store.specs.Objects.{plain_marks}
-use Rattle.js_run.specs.Acts.{Next}
-use Rattle.js_run.specs.Heap as heap
-use Rattle.js_run.specs.Heap.{Control, Runs, cross, has_run}
-use Rattle.js_run.specs.Journal.{Application, Crossing, env_of, foreign_of, put, table_of}
-use Rattle.js_run.specs.Parties.{Party}
-use Rattle.js_run.specs.Requests.{is_link}
-use Rattle.js_run.specs.Runs.{run}
-use Rattle.js_machine.specs.Begun.{Own, own_of}
-use Rattle.js_machine.specs.Steps.{Keeps, point_of}
-use Rattle.js_machine.specs.Stops.{stop_of}
-use Rattle.js_machine.specs.Views.{Around, Values, View, Waits, fitting, templates_at}
-use Rattle.js_machine.specs.declared.asked.Answer.{Answer}
-use Rattle.js_machine.specs.declared.asked.Asked.{Asked}
-use Rattle.js_machine.specs.declared.frame.Frame.{Frame}
-use Rattle.js_machine.specs.declared.frame.Mode.{Mode}
-use Rattle.js_machine.specs.declared.stop.Stop.{Stop}
+use Rattle.js_crossing.specs.js_run.Acts.{Next}
+use Rattle.js_crossing.specs.js_run.Heap as heap
+use Rattle.js_crossing.specs.js_run.Heap.{Control, Runs, cross, has_run}
+use Rattle.js_crossing.specs.js_run.Journal.{Application, Crossing, env_of, foreign_of, put, table_of}
+use Rattle.js_crossing.specs.js_run.Parties.{Party}
+use Rattle.js_crossing.specs.js_run.Requests.{is_link}
+use Rattle.js_crossing.specs.js_run.Runs.{run}
+use Rattle.js_crossing.specs.js_machine.Begun.{Own, own_of}
+use Rattle.js_crossing.specs.js_machine.Steps.{Keeps, point_of}
+use Rattle.js_crossing.specs.js_machine.Stops.{stop_of}
+use Rattle.js_crossing.specs.js_machine.Views.{Around, Values, View, Waits, fitting, templates_at}
+use Rattle.js_crossing.specs.js_machine.declared.asked.Answer.{Answer}
+use Rattle.js_crossing.specs.js_machine.declared.asked.Asked.{Asked}
+use Rattle.js_crossing.specs.js_machine.declared.frame.Frame.{Frame}
+use Rattle.js_crossing.specs.js_machine.declared.frame.Mode.{Mode}
+use Rattle.js_crossing.specs.js_machine.declared.stop.Stop.{Stop}
 use Rattle.js_world.specs.Crossings.{Rests, RunsHere}
 use Rattle.js_world.specs.Worlds.{Counts, HasOwn, HasStopped, Reads, Stands, Suits, WorldView, around, charged, no_own, own_here, party_with, steps_of, waits_of}
 use Rattle.js_world.specs.declared.waiting.Waiting.{Waiting}

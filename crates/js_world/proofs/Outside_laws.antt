@@ -1,19 +1,19 @@
 -- A crossing that goes on with an answer of the outside.
 use Rattle.std.proofs.Common.{◌≡◌, ◌<◌, ℕ, length, None, sym, ap, ◌∙◌, subst, Result, Ok, Err, IfOk}
 use Rattle.js_text.specs.Naming.{naming_of}
-use Rattle.js_run.specs.Heap as heap
-use Rattle.js_run.specs.Heap.{has_run}
-use Rattle.js_run.specs.Journal.{Application, outside_of}
-use Rattle.js_machine.specs.Outsides.{IsAnswered, answer_of}
-use Rattle.js_machine.specs.Steps.{point_of}
-use Rattle.js_machine.specs.Stops.{RunsOn, runs_on, stop_of}
-use Rattle.js_machine.specs.Views.{Around, View}
-use Rattle.js_machine.specs.declared.frame.Mode.{Mode}
-use Rattle.js_machine.specs.declared.frame.Mode.TheVariants as mode
-use Rattle.js_machine.specs.declared.outside.HostAnswer.{HostAnswer}
-use Rattle.js_machine.specs.declared.stop.Pause.{Pause}
-use Rattle.js_machine.specs.declared.stop.Stop.{Stop}
-use Rattle.js_machine.specs.declared.stop.Stop.TheVariants as stop
+use Rattle.js_crossing.specs.js_run.Heap as heap
+use Rattle.js_crossing.specs.js_run.Heap.{has_run}
+use Rattle.js_crossing.specs.js_run.Journal.{Application, outside_of}
+use Rattle.js_crossing.specs.js_machine.Outsides.{IsAnswered, answer_of}
+use Rattle.js_crossing.specs.js_machine.Steps.{point_of}
+use Rattle.js_crossing.specs.js_machine.Stops.{RunsOn, runs_on, stop_of}
+use Rattle.js_crossing.specs.js_machine.Views.{Around, View}
+use Rattle.js_crossing.specs.js_machine.declared.frame.Mode.{Mode}
+use Rattle.js_crossing.specs.js_machine.declared.frame.Mode.TheVariants as mode
+use Rattle.js_crossing.specs.js_machine.declared.outside.HostAnswer.{HostAnswer}
+use Rattle.js_crossing.specs.js_machine.declared.stop.Pause.{Pause}
+use Rattle.js_crossing.specs.js_machine.declared.stop.Stop.{Stop}
+use Rattle.js_crossing.specs.js_machine.declared.stop.Stop.TheVariants as stop
 use Rattle.js_world.specs.Asked_outside.{Answers, GoesOnAfter}
 use Rattle.js_world.specs.Crossings.{Follows}
 use Rattle.js_world.specs.Worlds.{Counts, HasNewest, HasOwn, HasStopped, Suits, WorldView, around}

@@ -5,14 +5,14 @@ use Rattle.lava_base.specs.declared.ids.Ref.{Ref}
 use Rattle.lava_base.specs.declared.marks.Marks.{Marks}
 use Rattle.js_text.specs.Naming.{naming_of}
 use Rattle.js_desc.specs.declared.reply.Reply.{Reply}
-use Rattle.js_run.specs.Heap as heap
-use Rattle.js_run.specs.Identities.{message_identities}
-use Rattle.js_run.specs.Journal.{Application, Crossing, foreign_of}
-use Rattle.js_run.specs.Local.{own_marks}
-use Rattle.js_run.specs.Parties.{Party}
-use Rattle.js_run.specs.Runs.{Request}
-use Rattle.js_machine.specs.Looks.{marks_in}
-use Rattle.js_machine.specs.Views.{View}
+use Rattle.js_crossing.specs.js_run.Heap as heap
+use Rattle.js_crossing.specs.js_run.Identities.{message_identities}
+use Rattle.js_crossing.specs.js_run.Journal.{Application, Crossing, foreign_of}
+use Rattle.js_crossing.specs.js_run.Local.{own_marks}
+use Rattle.js_crossing.specs.js_run.Parties.{Party}
+use Rattle.js_crossing.specs.js_run.Runs.{Request}
+use Rattle.js_crossing.specs.js_machine.Looks.{marks_in}
+use Rattle.js_crossing.specs.js_machine.Views.{View}
 use Rattle.js_world.specs.Crossings.{GoesOn, HandsOver, Rests}
 use Rattle.js_crossing.specs.Newest.{crossing_of, newest_crossing, references_in, with_their_marks}
 use Rattle.js_world.specs.Worlds.{HasAnswered, HasNewest, WorldView, noted}

@@ -6,21 +6,21 @@ use Rattle.lava_base.specs.declared.ids.Ref.{Ref}
 use Rattle.js_text.specs.Naming.{naming_of}
 use Rattle.js_desc.specs.declared.ask.Ask.{Ask}
 use Rattle.js_desc.specs.declared.reply.Reply.{Reply}
-use Rattle.js_run.specs.Acts.{Give}
-use Rattle.js_run.specs.Completions.{Replied}
-use Rattle.js_run.specs.Heap as heap
-use Rattle.js_run.specs.Heap.{Control, Runs}
-use Rattle.js_run.specs.Journal.{Application, env_of, owner_of, table_of}
-use Rattle.js_run.specs.Local.{serves}
-use Rattle.js_run.specs.Parties.{Party}
-use Rattle.js_run.specs.Requests.{is_link}
-use Rattle.js_run.specs.Runs.{Asks, Gives, Imports, Point, Request, settle}
-use Rattle.js_machine.specs.Begun.{Left, Own, own_of, with_left}
-use Rattle.js_machine.specs.Evaluated.{IsImported}
-use Rattle.js_machine.specs.Served.{IsServed}
-use Rattle.js_machine.specs.Steps.{Keeps, LeadsTo, point_of}
-use Rattle.js_machine.specs.Views.{Around, View, fitting, nexts_of, party_of}
-use Rattle.js_machine.specs.declared.frame.Mode.{Mode}
+use Rattle.js_crossing.specs.js_run.Acts.{Give}
+use Rattle.js_crossing.specs.js_run.Completions.{Replied}
+use Rattle.js_crossing.specs.js_run.Heap as heap
+use Rattle.js_crossing.specs.js_run.Heap.{Control, Runs}
+use Rattle.js_crossing.specs.js_run.Journal.{Application, env_of, owner_of, table_of}
+use Rattle.js_crossing.specs.js_run.Local.{serves}
+use Rattle.js_crossing.specs.js_run.Parties.{Party}
+use Rattle.js_crossing.specs.js_run.Requests.{is_link}
+use Rattle.js_crossing.specs.js_run.Runs.{Asks, Gives, Imports, Point, Request, settle}
+use Rattle.js_crossing.specs.js_machine.Begun.{Left, Own, own_of, with_left}
+use Rattle.js_crossing.specs.js_machine.Evaluated.{IsImported}
+use Rattle.js_crossing.specs.js_machine.Served.{IsServed}
+use Rattle.js_crossing.specs.js_machine.Steps.{Keeps, LeadsTo, point_of}
+use Rattle.js_crossing.specs.js_machine.Views.{Around, View, fitting, nexts_of, party_of}
+use Rattle.js_crossing.specs.js_machine.declared.frame.Mode.{Mode}
 use Rattle.js_world.specs.Crossings.{GoesOn, HandsOver, IsResumed, IsTaken, Replies, Rests}
 use Rattle.js_world.specs.Worlds.{HasNewest, Stands, WorldView, around, exchanged, no_own, own_here, party_with, turned}
 use Rattle.js_world.specs.declared.waiting.Waiting.{Waiting}

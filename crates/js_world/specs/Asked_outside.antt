@@ -1,15 +1,15 @@
 -- What the machine does with an answer of the outside.
 use Rattle.std.specs.Prelude.{◌≡◌, None}
-use Rattle.js_run.specs.Heap as heap
-use Rattle.js_run.specs.Journal.{Application, outside_of}
-use Rattle.js_machine.specs.Outsides.{IsAnswered, answer_of}
-use Rattle.js_machine.specs.Stops.{RunsOn}
-use Rattle.js_machine.specs.Views.{View}
-use Rattle.js_machine.specs.declared.frame.Mode.{Mode}
-use Rattle.js_machine.specs.declared.outside.HostAnswer.{HostAnswer}
-use Rattle.js_machine.specs.declared.stop.Pause.{Pause}
-use Rattle.js_machine.specs.declared.stop.Stop.{Stop}
-use Rattle.js_machine.specs.declared.stop.Stop.TheVariants as stop
+use Rattle.js_crossing.specs.js_run.Heap as heap
+use Rattle.js_crossing.specs.js_run.Journal.{Application, outside_of}
+use Rattle.js_crossing.specs.js_machine.Outsides.{IsAnswered, answer_of}
+use Rattle.js_crossing.specs.js_machine.Stops.{RunsOn}
+use Rattle.js_crossing.specs.js_machine.Views.{View}
+use Rattle.js_crossing.specs.js_machine.declared.frame.Mode.{Mode}
+use Rattle.js_crossing.specs.js_machine.declared.outside.HostAnswer.{HostAnswer}
+use Rattle.js_crossing.specs.js_machine.declared.stop.Pause.{Pause}
+use Rattle.js_crossing.specs.js_machine.declared.stop.Stop.{Stop}
+use Rattle.js_crossing.specs.js_machine.declared.stop.Stop.TheVariants as stop
 use Rattle.js_world.specs.Worlds.{After, HasStopped, WorldView}
 use Rattle.js_crossing.specs.declared.ending.Turn.{Turn}
 

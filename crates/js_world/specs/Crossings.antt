@@ -5,20 +5,20 @@ use Rattle.lava_base.specs.declared.ids.Ref.{Ref}
 use Rattle.js_text.specs.declared.value.Value.{Value}
 use Rattle.js_desc.specs.declared.ask.Ask.{Ask}
 use Rattle.js_desc.specs.declared.reply.Reply.{Reply}
-use Rattle.js_run.specs.Acts.{Give}
-use Rattle.js_run.specs.Completions.{Replied}
-use Rattle.js_run.specs.Heap as heap
-use Rattle.js_run.specs.Heap.{goes_on, hands}
-use Rattle.js_run.specs.Journal.{Application, is_host, owner_of}
-use Rattle.js_run.specs.Runs.{Asks, Request}
-use Rattle.js_machine.specs.Begun.{Left, with_left}
-use Rattle.js_machine.specs.Steps.{LeadsTo}
-use Rattle.js_machine.specs.Stops.{IsRun}
-use Rattle.js_machine.specs.Views.{View, party_of}
-use Rattle.js_machine.specs.declared.asked.Answer.{Answer}
-use Rattle.js_machine.specs.declared.frame.Mode.{Mode}
-use Rattle.js_machine.specs.declared.stop.Stop.{Stop}
-use Rattle.js_machine.specs.declared.stop.Stop.TheVariants as stop
+use Rattle.js_crossing.specs.js_run.Acts.{Give}
+use Rattle.js_crossing.specs.js_run.Completions.{Replied}
+use Rattle.js_crossing.specs.js_run.Heap as heap
+use Rattle.js_crossing.specs.js_run.Heap.{goes_on, hands}
+use Rattle.js_crossing.specs.js_run.Journal.{Application, is_host, owner_of}
+use Rattle.js_crossing.specs.js_run.Runs.{Asks, Request}
+use Rattle.js_crossing.specs.js_machine.Begun.{Left, with_left}
+use Rattle.js_crossing.specs.js_machine.Steps.{LeadsTo}
+use Rattle.js_crossing.specs.js_machine.Stops.{IsRun}
+use Rattle.js_crossing.specs.js_machine.Views.{View, party_of}
+use Rattle.js_crossing.specs.js_machine.declared.asked.Answer.{Answer}
+use Rattle.js_crossing.specs.js_machine.declared.frame.Mode.{Mode}
+use Rattle.js_crossing.specs.js_machine.declared.stop.Stop.{Stop}
+use Rattle.js_crossing.specs.js_machine.declared.stop.Stop.TheVariants as stop
 use Rattle.js_crossing.specs.Shows.{shows_reply}
 use Rattle.js_world.specs.Worlds.{After, Counts, HasNewest, HasOwn, HasStopped, Stands, Suits, WorldView, charged, steps_of, waits_of}
 use Rattle.js_crossing.specs.declared.ending.Turn.{Turn}

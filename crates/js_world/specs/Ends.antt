@@ -1,9 +1,9 @@
 -- A run of all parties, to its end or to a call of the outside.
 use Rattle.std.specs.Prelude.{◌≡◌, ◌+◌, ℕ, zero, suc, Bool, true, false}
-use Rattle.js_run.specs.Heap as heap
-use Rattle.js_run.specs.Heap.{cross}
-use Rattle.js_run.specs.Journal.{Application}
-use Rattle.js_machine.specs.declared.frame.Mode.{Mode}
+use Rattle.js_crossing.specs.js_run.Heap as heap
+use Rattle.js_crossing.specs.js_run.Heap.{cross}
+use Rattle.js_crossing.specs.js_run.Journal.{Application}
+use Rattle.js_crossing.specs.js_machine.declared.frame.Mode.{Mode}
 use Rattle.js_world.specs.Worlds.{After, Stands, WorldView}
 use Rattle.js_crossing.specs.declared.ending.Turn.{Turn}
 use Rattle.js_crossing.specs.declared.ending.Turn.TheVariants as turn

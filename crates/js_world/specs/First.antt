@@ -1,11 +1,11 @@
 -- How all parties stand before anything has run.
 use Rattle.std.specs.Prelude.{◌≡◌, ◌<◌, ℕ, List, [], None, false, length, replicate}
-use Rattle.js_run.specs.Heap.{begins}
-use Rattle.js_run.specs.Journal.{Application, foreign_of}
-use Rattle.js_machine.specs.Begun.{Own}
-use Rattle.js_machine.specs.Views.{View}
+use Rattle.js_crossing.specs.js_run.Heap.{begins}
+use Rattle.js_crossing.specs.js_run.Journal.{Application, foreign_of}
+use Rattle.js_crossing.specs.js_machine.Begun.{Own}
+use Rattle.js_crossing.specs.js_machine.Views.{View}
 use Rattle.js_world.specs.Crossings.{Rests}
-use Rattle.js_machine.specs.declared.frame.Mode.{Mode}
+use Rattle.js_crossing.specs.js_machine.declared.frame.Mode.{Mode}
 use Rattle.js_world.specs.Worlds.{Stands, Suits, WorldView, own_here, party_with}
 use Rattle.js_crossing.specs.declared.leads.Lead.{Lead}
 

@@ -4,26 +4,26 @@ use Rattle.lava_base.specs.declared.ids.MadeSymbol.{MadeSymbol}
 use Rattle.lava_base.specs.declared.ids.Ref.{Ref}
 use Rattle.js_text.specs.Naming.{naming_of}
 use Rattle.js_desc.specs.declared.reply.Reply.{Reply}
-use Rattle.js_conversions.specs.Primitives.{ReadsNumbers}
+use Rattle.js_crossing.specs.js_conversions.Primitives.{ReadsNumbers}
 use Rattle.js_native.specs.TextNatives.{FindsFirst}
 use Rattle.js_code.specs.Tables.{Tables}
-use Rattle.js_run.specs.Acts.{Next}
-use Rattle.js_run.specs.Heap as heap
-use Rattle.js_run.specs.Heap.{Control, Over_with, Runs, cross, has_run}
-use Rattle.js_run.specs.Identities.{Message, Requests, Replies}
-use Rattle.js_run.specs.Journal as journal
-use Rattle.js_run.specs.Journal.{Application, Crossing, env_of, foreign_of, table_of}
-use Rattle.js_run.specs.Parties.{Party}
-use Rattle.js_run.specs.Requests.{is_link}
-use Rattle.js_machine.specs.Begun.{Own, left_of, nothing_left, own_of, with_left, with_own}
-use Rattle.js_machine.specs.Packages.{Package, loaded_in}
-use Rattle.js_machine.specs.Shown.{no_ask}
-use Rattle.js_machine.specs.Steps.{point_of}
-use Rattle.js_machine.specs.Stops.{stop_of}
-use Rattle.js_machine.specs.Views.{Around, View, halt_of, nexts_of, templates_at}
-use Rattle.js_machine.specs.declared.frame.Mode.{Mode}
-use Rattle.js_machine.specs.declared.stop.Stop.{Stop}
-use Rattle.js_machine.specs.declared.stop.Stop.TheVariants as stop
+use Rattle.js_crossing.specs.js_run.Acts.{Next}
+use Rattle.js_crossing.specs.js_run.Heap as heap
+use Rattle.js_crossing.specs.js_run.Heap.{Control, Over_with, Runs, cross, has_run}
+use Rattle.js_crossing.specs.js_run.Identities.{Message, Requests, Replies}
+use Rattle.js_crossing.specs.js_run.Journal as journal
+use Rattle.js_crossing.specs.js_run.Journal.{Application, Crossing, env_of, foreign_of, table_of}
+use Rattle.js_crossing.specs.js_run.Parties.{Party}
+use Rattle.js_crossing.specs.js_run.Requests.{is_link}
+use Rattle.js_crossing.specs.js_machine.Begun.{Own, left_of, nothing_left, own_of, with_left, with_own}
+use Rattle.js_crossing.specs.js_machine.Packages.{Package, loaded_in}
+use Rattle.js_crossing.specs.js_machine.Shown.{no_ask}
+use Rattle.js_crossing.specs.js_machine.Steps.{point_of}
+use Rattle.js_crossing.specs.js_machine.Stops.{stop_of}
+use Rattle.js_crossing.specs.js_machine.Views.{Around, View, halt_of, nexts_of, templates_at}
+use Rattle.js_crossing.specs.js_machine.declared.frame.Mode.{Mode}
+use Rattle.js_crossing.specs.js_machine.declared.stop.Stop.{Stop}
+use Rattle.js_crossing.specs.js_machine.declared.stop.Stop.TheVariants as stop
 use Rattle.js_crossing.specs.Leads.{leads_among}
 use Rattle.js_crossing.specs.Newest.{newest_crossing}
 use Rattle.js_crossing.specs.Shows.{shows_ask, shows_ref}

@@ -1,14 +1,14 @@
 // The first import of a run.
 
 ghost use Rattle.std.specs.Prelude.{◌≡◌, [], IfOk};
-ghost use Rattle.js_run.specs.Journal.{root_link};
+ghost use Rattle.js_crossing.specs.js_run.Journal.{root_link};
 ghost use Rattle.js_world.specs.First.{IsBegun};
 
 use crate::crossing::HOST;
 use crate::world::World;
-use js_machine::asked::Imported;
-use js_machine::frame::Mode;
-use js_machine::requests::text_of;
+use js_crossing::js_machine::asked::Imported;
+use js_crossing::js_machine::frame::Mode;
+use js_crossing::js_machine::requests::text_of;
 use lava_base::memory::OutOfMemory;
 use std::alloc::Global;
 

@@ -1,12 +1,12 @@
 // From one crossing to the next.
 
 ghost use Rattle.std.specs.Prelude.{◌≡◌, ◌<◌, [], drop, length, IfOk, OnOk, Some, true};
-ghost use Rattle.js_run.specs.Completions.{reply_of};
-ghost use Rattle.js_run.specs.Journal.{end_of, is_host, owner_of};
-ghost use Rattle.js_run.specs.Runs.{Asks};
-ghost use Rattle.js_machine.specs.Served.{IsServed};
-ghost use Rattle.js_machine.specs.Views.{completion_of};
-ghost use Rattle.js_machine.specs.declared.stop.Stop.TheVariants as stop;
+ghost use Rattle.js_crossing.specs.js_run.Completions.{reply_of};
+ghost use Rattle.js_crossing.specs.js_run.Journal.{end_of, is_host, owner_of};
+ghost use Rattle.js_crossing.specs.js_run.Runs.{Asks};
+ghost use Rattle.js_crossing.specs.js_machine.Served.{IsServed};
+ghost use Rattle.js_crossing.specs.js_machine.Views.{completion_of};
+ghost use Rattle.js_crossing.specs.js_machine.declared.stop.Stop.TheVariants as stop;
 ghost use Rattle.js_world.specs.Crossings.{Follows, HasGiven, IsResumed, IsTaken, Replies, RunsHere, newest};
 ghost use Rattle.js_crossing.specs.Newest.{traced_reply};
 ghost use Rattle.js_crossing.specs.Shows.{makes_none};
@@ -15,13 +15,13 @@ ghost use Rattle.js_world.specs.Worlds.{Crosses, IsTurnOf, ending_of, noted, sen
 use crate::waiting::Waiting;
 use crate::world::World;
 use js_crossing::ending::{Ending, Turn};
+use js_crossing::js_machine::frame::{Halt, Mode};
+use js_crossing::js_machine::own::Left;
+use js_crossing::js_machine::stop::Stop;
 use js_crossing::newest::owner_of;
 use js_crossing::shows::{show_ask, show_reply};
 use js_desc::ask::Ask;
 use js_desc::reply::Reply;
-use js_machine::frame::{Halt, Mode};
-use js_machine::own::Left;
-use js_machine::stop::Stop;
 use js_machine_run::run::run;
 use lava_base::ids::Ref;
 use lava_base::memory::OutOfMemory;

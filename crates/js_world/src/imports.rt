@@ -1,19 +1,19 @@
 // Imports of other parties.
 
 ghost use Rattle.std.specs.Prelude.{◌≡◌, ◌<◌, [], length, slice_get, IfOk, OnOk, Some};
-ghost use Rattle.js_run.specs.Runs.{Imports};
-ghost use Rattle.js_machine.specs.Evaluated.{IsImported};
-ghost use Rattle.js_machine.specs.declared.stop.Stop.TheVariants as stop;
+ghost use Rattle.js_crossing.specs.js_run.Runs.{Imports};
+ghost use Rattle.js_crossing.specs.js_machine.Evaluated.{IsImported};
+ghost use Rattle.js_crossing.specs.js_machine.declared.stop.Stop.TheVariants as stop;
 ghost use Rattle.js_world.specs.Crossings.{Follows, IsTaken};
 ghost use Rattle.js_crossing.specs.Leads.{leads_among};
 ghost use Rattle.js_world.specs.Worlds.{import_away, leads_to};
 
 use crate::world::World;
 use js_crossing::ending::Turn;
+use js_crossing::js_machine::asked::Imported;
+use js_crossing::js_machine::frame::Mode;
 use js_crossing::leads::{Lead, lead_of};
-use js_machine::asked::Imported;
-use js_machine::frame::Mode;
-use js_machine_modules::imports::{import, sent_import};
+use js_machine_run::js_machine_modules::imports::{import, sent_import};
 use js_text::text::Text;
 use lava_base::list::List;
 use lava_base::memory::OutOfMemory;

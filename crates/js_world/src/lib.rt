@@ -18,3 +18,7 @@ pub mod run;
 pub mod tracing;
 pub mod waiting;
 pub mod world;
+
+pub use js_crossing;
+pub use js_crossing::{js_machine, js_run};
+pub use js_machine_run::{js_machine_modules, js_run_laws};

@@ -5,9 +5,9 @@ ghost use Rattle.js_world.specs.Asked_outside.{Answers, GoesOnAfter};
 
 use crate::world::World;
 use js_crossing::ending::Turn;
-use js_machine::outside::HostAnswer;
-use js_machine::stop::{Pause, Stop};
-use js_machine_modules::outside::answer_outside;
+use js_crossing::js_machine::outside::HostAnswer;
+use js_crossing::js_machine::stop::{Pause, Stop};
+use js_machine_run::js_machine_modules::outside::answer_outside;
 use js_machine_run::run::run_on;
 use lava_base::memory::OutOfMemory;
 

@@ -5,7 +5,7 @@ ghost use Rattle.js_world.specs.Ends.{Ends, runs_still};
 
 use crate::world::World;
 use js_crossing::ending::Turn;
-use js_machine::frame::Mode;
+use js_crossing::js_machine::frame::Mode;
 use lava_base::memory::OutOfMemory;
 
 impl World {

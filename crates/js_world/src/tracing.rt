@@ -1,17 +1,17 @@
 // A trace of the crossings: the newest one is kept, where a trace is wanted.
 
 ghost use Rattle.std.specs.Prelude.{◌≡◌, option_map, OnOk, true};
-ghost use Rattle.js_run.specs.Heap as heap;
-ghost use Rattle.js_run.specs.Journal.{Application};
+ghost use Rattle.js_crossing.specs.js_run.Heap as heap;
+ghost use Rattle.js_crossing.specs.js_run.Journal.{Application};
 ghost use Rattle.js_world.specs.Crossings.{Rests};
 ghost use Rattle.js_crossing.specs.Newest.{traced_ask, traced_import, traced_reply};
 ghost use Rattle.js_world.specs.Worlds.{noted};
 
 use crate::world::World;
+use js_crossing::js_machine::asked::Imported;
 use js_crossing::newest::{TracedCrossing, traced_ask, traced_import, traced_reply};
 use js_desc::ask::Ask;
 use js_desc::reply::Reply;
-use js_machine::asked::Imported;
 use lava_base::ids::Ref;
 use lava_base::memory::OutOfMemory;
 

@@ -1,6 +1,6 @@
 // A body that waits for a reply.
 
-use js_machine::own::Left;
+use js_crossing::js_machine::own::Left;
 
 /// What is left of a body that waits, and whose it is.
 #[derive(Drop)]

@@ -5,11 +5,11 @@ ghost use Rattle.js_world.specs.First.{RestsFirst, as_new};
 ghost use Rattle.js_world.specs.Worlds.{aside, charged, exchanged, turned};
 
 use crate::waiting::Waiting;
+use js_crossing::js_machine::machine::Machine;
+use js_crossing::js_machine::own::Own;
 use js_crossing::leads::Lead;
 use js_crossing::newest::TracedCrossing;
 use js_desc::reply::Reply;
-use js_machine::machine::Machine;
-use js_machine::own::Own;
 use lava_base::list::List;
 use lava_base::memory::OutOfMemory;
 use std::alloc::Global;

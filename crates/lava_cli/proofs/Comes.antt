@@ -3,14 +3,14 @@ use Rattle.std.proofs.Common.{◌≡◌, ℕ, List, Ok, sym, ◌∙◌, subst}
 use Rattle.pkg_graph.specs.declared.graph.Package.{Package}
 use Rattle.lava_host.specs.Hosts.{HostWorld}
 use Rattle.lava_runner.specs.Reports.{IsRunOf}
-use Rattle.lava_report.specs.declared.report.Mode.{Mode}
-use Rattle.lava_report.specs.declared.report.Report.{Report}
-use Rattle.lava_loading.specs.Loads.{IsLoading}
+use Rattle.lava_runner.specs.lava_report.declared.report.Mode.{Mode}
+use Rattle.lava_runner.specs.lava_report.declared.report.Report.{Report}
+use Rattle.lava_runner.specs.lava_loading.Loads.{IsLoading}
 use Rattle.lava_cli.specs.RunAnswers.{HasReadFolder, RunComes, RunsOf}
-use Rattle.lava_report.specs.Tells.{EndsAs, ended_in}
-use Rattle.lava_loading.specs.declared.loading.LoadedApplication.{LoadedApplication}
-use Rattle.lava_report.specs.declared.outcome.RunOutcome.{RunOutcome}
-use Rattle.lava_report.specs.declared.outcome.RunOutcome.TheVariants as outcome
+use Rattle.lava_runner.specs.lava_report.Tells.{EndsAs, ended_in}
+use Rattle.lava_runner.specs.lava_loading.declared.loading.LoadedApplication.{LoadedApplication}
+use Rattle.lava_runner.specs.lava_report.declared.outcome.RunOutcome.{RunOutcome}
+use Rattle.lava_runner.specs.lava_report.declared.outcome.RunOutcome.TheVariants as outcome
 
 -- it was loaded, and then it ran
 pub ran_so : (mode : Mode) (directory : List ℕ) (budget : ℕ) (before mid after : HostWorld) (app : LoadedApplication) (o : RunOutcome) → IsLoading before.folder.told directory (Ok app) → HasReadFolder before mid (Ok app)

@@ -4,17 +4,17 @@ use Rattle.lava_host.specs.Hosts.{HostWorld}
 use Rattle.lava_lines.specs.Puts as puts
 use Rattle.lava_lines.specs.declared.status.TheConstants as texts
 use Rattle.lava_runner.specs.Reports.{IsRunOf}
-use Rattle.lava_report.specs.declared.report.Mode.{Mode}
+use Rattle.lava_runner.specs.lava_report.declared.report.Mode.{Mode}
 use Rattle.lava_streams.specs.Outside.{Outside, outside}
 use Rattle.lava_tree.specs.TreeAnswers.{TreeAnswers}
-use Rattle.ses_prelude.specs.Preludes.{IsPreludeFault, prelude}
-use Rattle.lava_loading.specs.Loads.{CountsLoading, IsLoading}
-use Rattle.lava_report.specs.Words.{Asked, Runs, Trees, command_of}
-use Rattle.lava_loading.specs.declared.loading.LoadedApplication.{LoadedApplication}
-use Rattle.lava_loading.specs.declared.loading.LoadingFault.{LoadingFault}
-use Rattle.lava_loading.specs.declared.loading.LoadingFault.TheVariants as loading
-use Rattle.lava_report.specs.declared.outcome.RunOutcome.{RunOutcome}
-use Rattle.lava_report.specs.declared.outcome.RunOutcome.TheVariants as outcome
+use Rattle.lava_runner.specs.ses_prelude.Preludes.{IsPreludeFault, prelude}
+use Rattle.lava_runner.specs.lava_loading.Loads.{CountsLoading, IsLoading}
+use Rattle.lava_runner.specs.lava_report.Words.{Asked, Runs, Trees, command_of}
+use Rattle.lava_runner.specs.lava_loading.declared.loading.LoadedApplication.{LoadedApplication}
+use Rattle.lava_runner.specs.lava_loading.declared.loading.LoadingFault.{LoadingFault}
+use Rattle.lava_runner.specs.lava_loading.declared.loading.LoadingFault.TheVariants as loading
+use Rattle.lava_runner.specs.lava_report.declared.outcome.RunOutcome.{RunOutcome}
+use Rattle.lava_runner.specs.lava_report.declared.outcome.RunOutcome.TheVariants as outcome
 
 -- THE CAUSES
 

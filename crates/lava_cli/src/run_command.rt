@@ -3,12 +3,12 @@
 ghost use Rattle.lava_host.specs.Hosts.{host_world};
 ghost use Rattle.lava_cli.specs.RunAnswers.{RunComes, RunsOf};
 
-use lava_loading::loading::{LoadedApplication, LoadingFault, load_application};
-use lava_packages::common::RunFault;
-use lava_report::ended::ended;
-use lava_report::outcome::RunOutcome;
-use lava_report::report::Mode;
 use lava_runner::app::run_app;
+use lava_runner::lava_loading::loading::{LoadedApplication, LoadingFault, load_application};
+use lava_runner::lava_packages::common::RunFault;
+use lava_runner::lava_report::ended::ended;
+use lava_runner::lava_report::outcome::RunOutcome;
+use lava_runner::lava_report::report::Mode;
 use lava_streams::clock::Clock;
 use lava_streams::folder::Folder;
 use lava_streams::sink::Sink;

@@ -2,12 +2,12 @@
 use Rattle.std.proofs.Common.{◌≡◌, ◌<◌, ℕ, zero, suc, ◌+◌, Bool, true, false, List, [], ◌∷◌, ◌++◌, length, get_or, Option, Some, None, refl, sym, ap, ◌∙◌, subst, arith, Result, Ok, Err, IfOk, OnOk}
 use Rattle.std.specs.Option.{option_map}
 use Rattle.js_desc.specs.declared.ending.Ending as desc
-use Rattle.js_run.specs.Heap.{World, begins, heap}
-use Rattle.js_run.specs.Journal.{Application, Crossing}
+use Rattle.js_world.specs.js_run.Heap.{World, begins, heap}
+use Rattle.js_world.specs.js_run.Journal.{Application, Crossing}
 use Rattle.js_world.specs.Crossings.{Rests}
 use Rattle.js_world.specs.Worlds.{IsOver, WorldView, ending_of}
-use Rattle.js_crossing.specs.declared.ending.Turn.TheVariants as turn
-use Rattle.js_crossing.specs.declared.newest.TracedCrossing.{TracedCrossing}
+use Rattle.js_world.specs.js_crossing.declared.ending.Turn.TheVariants as turn
+use Rattle.js_world.specs.js_crossing.declared.newest.TracedCrossing.{TracedCrossing}
 use Rattle.lava_host.specs.Hosts.{HostWorld}
 use Rattle.lava_journal.specs.Lines.{end_text}
 use Rattle.lava_driver.specs.Ran.{HasRun}

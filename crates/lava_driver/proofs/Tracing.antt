@@ -5,28 +5,28 @@ use Rattle.lava_base.specs.declared.ids.Ref.{Ref}
 use Rattle.js_text.specs.Naming.{naming_of}
 use Rattle.js_desc.specs.declared.reply.Reply.{Reply}
 use Rattle.js_desc.specs.declared.reply.Reply.TheVariants as reply
-use Rattle.js_run.specs.Acts.{Next}
-use Rattle.js_run.specs.Completions.{reply_of}
-use Rattle.js_run.specs.Heap.{Control, Over_with, Runs, World, begins, charged, cross, has_asked, has_run, heap, replies_of, with_own}
-use Rattle.js_run.specs.Identities.{Replies, Requests}
-use Rattle.js_run.specs.Journal as journal
-use Rattle.js_run.specs.Journal.{Application, Crossing, asked_party, crossing, end_of, env_of, first_import, has_room, table_of}
-use Rattle.js_run.specs.Parties.{Party}
-use Rattle.js_run.specs.Runs.{Gave, Point, Request, Sent, Short, Stop, Stopped, run}
-use Rattle.js_machine.specs.Steps.{point_of}
-use Rattle.js_machine.specs.Stops.{stop_of}
-use Rattle.js_machine.specs.declared.frame.Mode.{Mode}
-use Rattle.js_machine.specs.declared.outside.HostAnswer.{HostAnswer}
-use Rattle.js_machine.specs.declared.stop.Pause.{Pause}
-use Rattle.js_machine.specs.declared.stop.Stop.TheVariants as stop
+use Rattle.js_world.specs.js_run.Acts.{Next}
+use Rattle.js_world.specs.js_run.Completions.{reply_of}
+use Rattle.js_world.specs.js_run.Heap.{Control, Over_with, Runs, World, begins, charged, cross, has_asked, has_run, heap, replies_of, with_own}
+use Rattle.js_world.specs.js_run.Identities.{Replies, Requests}
+use Rattle.js_world.specs.js_run.Journal as journal
+use Rattle.js_world.specs.js_run.Journal.{Application, Crossing, asked_party, crossing, end_of, env_of, first_import, has_room, table_of}
+use Rattle.js_world.specs.js_run.Parties.{Party}
+use Rattle.js_world.specs.js_run.Runs.{Gave, Point, Request, Sent, Short, Stop, Stopped, run}
+use Rattle.js_world.specs.js_machine.Steps.{point_of}
+use Rattle.js_world.specs.js_machine.Stops.{stop_of}
+use Rattle.js_world.specs.js_machine.declared.frame.Mode.{Mode}
+use Rattle.js_world.specs.js_machine.declared.outside.HostAnswer.{HostAnswer}
+use Rattle.js_world.specs.js_machine.declared.stop.Pause.{Pause}
+use Rattle.js_world.specs.js_machine.declared.stop.Stop.TheVariants as stop
 use Rattle.js_world.specs.Asked_outside.{Answers}
 use Rattle.js_world.specs.Crossings.{Rests}
 use Rattle.js_world.specs.First.{IsBegun}
-use Rattle.js_crossing.specs.Newest.{newest_crossing}
+use Rattle.js_world.specs.js_crossing.Newest.{newest_crossing}
 use Rattle.js_world.specs.Worlds.{After, Crosses, HasNewest, HasStopped, Stands, WorldView, around}
-use Rattle.js_crossing.specs.declared.ending.Ending.TheVariants as ending
-use Rattle.js_crossing.specs.declared.ending.Turn.{Turn}
-use Rattle.js_crossing.specs.declared.ending.Turn.TheVariants as turn
+use Rattle.js_world.specs.js_crossing.declared.ending.Ending.TheVariants as ending
+use Rattle.js_world.specs.js_crossing.declared.ending.Turn.{Turn}
+use Rattle.js_world.specs.js_crossing.declared.ending.Turn.TheVariants as turn
 use Rattle.lava_host.specs.Hosts.{HostWorld}
 use Rattle.lava_host.specs.declared.fault.Which.{Which}
 use Rattle.lava_driver.specs.Ran.{BeginsSo, HasComeTo, IsUnderway}

@@ -2,28 +2,28 @@
 use Rattle.std.proofs.Common.{◌≡◌, ℕ, zero, suc, ◌+◌, Bool, List, [], ◌∷◌, drop, Option, Some, None, refl, sym, ap, ◌∙◌, subst, arith, Result, Ok, Err, IfOk}
 use Rattle.std.specs.Option.{unwrap_or}
 use Rattle.js_text.specs.Naming.{naming_of}
-use Rattle.js_run.specs.Completions as halt
-use Rattle.js_run.specs.Hosts.{outside_answers}
-use Rattle.js_run.specs.Journal.{Application, Fault, outside_of}
-use Rattle.js_run.specs.Outside.{OutsideAnswer, OutsideCall, Fails, IsGone}
-use Rattle.js_run.specs.Runs.{Stopped, answered}
-use Rattle.js_machine.specs.Outsides.{answer_of, newest_call}
-use Rattle.js_machine.specs.declared.outside.HostAnswer.TheVariants as host_answer
+use Rattle.js_world.specs.js_run.Completions as halt
+use Rattle.js_world.specs.js_run.Hosts.{outside_answers}
+use Rattle.js_world.specs.js_run.Journal.{Application, Fault, outside_of}
+use Rattle.js_world.specs.js_run.Outside.{OutsideAnswer, OutsideCall, Fails, IsGone}
+use Rattle.js_world.specs.js_run.Runs.{Stopped, answered}
+use Rattle.js_world.specs.js_machine.Outsides.{answer_of, newest_call}
+use Rattle.js_world.specs.js_machine.declared.outside.HostAnswer.TheVariants as host_answer
 use Rattle.lava_driver.specs.declared.answers.Answered.{Answered}
-use Rattle.js_run.specs.Heap.{Control, Over_with, World, has_run, heap}
-use Rattle.js_machine.specs.Steps.{settles}
-use Rattle.js_machine.specs.Stops.{runs_on, told_as}
-use Rattle.js_machine.specs.Views.{party_of}
-use Rattle.js_machine.specs.declared.frame.Mode.{Mode}
-use Rattle.js_machine.specs.declared.outside.HostAnswer.{HostAnswer}
-use Rattle.js_machine.specs.declared.stop.Pause.{Pause}
+use Rattle.js_world.specs.js_run.Heap.{Control, Over_with, World, has_run, heap}
+use Rattle.js_world.specs.js_machine.Steps.{settles}
+use Rattle.js_world.specs.js_machine.Stops.{runs_on, told_as}
+use Rattle.js_world.specs.js_machine.Views.{party_of}
+use Rattle.js_world.specs.js_machine.declared.frame.Mode.{Mode}
+use Rattle.js_world.specs.js_machine.declared.outside.HostAnswer.{HostAnswer}
+use Rattle.js_world.specs.js_machine.declared.stop.Pause.{Pause}
 use Rattle.js_world.specs.Asked_outside.{Answers}
 use Rattle.js_world.specs.Ends.{Ends}
 use Rattle.js_world.specs.First.{IsBegun}
-use Rattle.js_machine.specs.declared.stop.Stop.TheVariants as stop
+use Rattle.js_world.specs.js_machine.declared.stop.Stop.TheVariants as stop
 use Rattle.js_world.specs.Worlds.{After, HasStopped, Stands, WorldView, around}
-use Rattle.js_crossing.specs.declared.ending.Turn.{Turn}
-use Rattle.js_crossing.specs.declared.ending.Turn.TheVariants as turn
+use Rattle.js_world.specs.js_crossing.declared.ending.Turn.{Turn}
+use Rattle.js_world.specs.js_crossing.declared.ending.Turn.TheVariants as turn
 use Rattle.lava_host.specs.Hosts.{HostWorld}
 use Rattle.lava_host.specs.declared.fault.Which.{Which}
 use Rattle.lava_driver.specs.Ran.{BeginsSo, HasComeTo, IsAskedIn, IsUnderway}

@@ -1,13 +1,13 @@
 -- A run on the machine of all parties.
 use Rattle.std.specs.Prelude.{◌≡◌, ℕ, suc, Bool, List, [], ◌∷◌, Option}
-use Rattle.js_run.specs.Completions as halt
-use Rattle.js_run.specs.Heap.{Over_with, begins, heap}
-use Rattle.js_run.specs.Journal.{Application, Fault, outside_of}
-use Rattle.js_run.specs.Outside.{IsGone}
+use Rattle.js_world.specs.js_run.Completions as halt
+use Rattle.js_world.specs.js_run.Heap.{Over_with, begins, heap}
+use Rattle.js_world.specs.js_run.Journal.{Application, Fault, outside_of}
+use Rattle.js_world.specs.js_run.Outside.{IsGone}
 use Rattle.js_world.specs.Crossings.{Rests}
 use Rattle.js_world.specs.Worlds.{After, WorldView}
-use Rattle.js_crossing.specs.declared.ending.Turn.{Turn}
-use Rattle.js_crossing.specs.declared.ending.Turn.TheVariants as turn
+use Rattle.js_world.specs.js_crossing.declared.ending.Turn.{Turn}
+use Rattle.js_world.specs.js_crossing.declared.ending.Turn.TheVariants as turn
 use Rattle.lava_host.specs.Hosts.{HostWorld}
 use Rattle.lava_host.specs.declared.fault.Which.{Which}
 use Rattle.lava_driver.specs.declared.run.Ran.{Ran}

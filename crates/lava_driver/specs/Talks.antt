@@ -7,13 +7,13 @@ use Rattle.js_text.specs.declared.value.Value.TheVariants as value
 use Rattle.js_desc.specs.declared.ask.Ask.{Ask}
 use Rattle.js_desc.specs.declared.ask.Ask.TheVariants as ask
 use Rattle.js_desc.specs.declared.reply.Reply.TheVariants as reply
-use Rattle.js_run.specs.Journal.{Application, outside_of}
-use Rattle.js_run.specs.Outside.{OutsideCall, OutsideAnswer, AnswersText, AnswersNumber, AnswersTruth, AnswersNull, AnswersUndefined, Fails, IsGone}
+use Rattle.js_world.specs.js_run.Journal.{Application, outside_of}
+use Rattle.js_world.specs.js_run.Outside.{OutsideCall, OutsideAnswer, AnswersText, AnswersNumber, AnswersTruth, AnswersNull, AnswersUndefined, Fails, IsGone}
 use Rattle.lava_host.specs.Functions.{function_of}
 use Rattle.lava_host.specs.Hosts.{HostWorld, Replies}
 use Rattle.lava_host.specs.Hosts as hosts
-use Rattle.js_machine.specs.Outsides.{answer_of}
-use Rattle.js_machine.specs.declared.outside.HostAnswer.{HostAnswer}
+use Rattle.js_world.specs.js_machine.Outsides.{answer_of}
+use Rattle.js_world.specs.js_machine.declared.outside.HostAnswer.{HostAnswer}
 use Rattle.js_world.specs.Worlds.{WorldView}
 use Rattle.lava_host.specs.Replies.{HostReply}
 use Rattle.lava_host.specs.declared.fault.HostFault.TheVariants.{Outside, OutOfMemory}

@@ -2,19 +2,19 @@
 use Rattle.std.specs.Prelude.{◌≡◌, ℕ, zero, suc, ◌+◌, Bool, true, false, List, [], ◌∷◌, ◌++◌, ◌⊎◌, length, Option, Some, None}
 use Rattle.js_desc.specs.declared.ending.Ending as desc
 use Rattle.js_desc.specs.declared.ending.Ending.TheVariants as told
-use Rattle.js_run.specs.Completions as halt
-use Rattle.js_run.specs.Heap.{World, begins, heap}
-use Rattle.js_run.specs.Journal as journal
-use Rattle.js_run.specs.Journal.{Application, Crossing}
-use Rattle.js_crossing.specs.Newest.{newest_crossing}
-use Rattle.js_machine.specs.declared.stop.Stop.TheVariants as stop
+use Rattle.js_world.specs.js_run.Completions as halt
+use Rattle.js_world.specs.js_run.Heap.{World, begins, heap}
+use Rattle.js_world.specs.js_run.Journal as journal
+use Rattle.js_world.specs.js_run.Journal.{Application, Crossing}
+use Rattle.js_world.specs.js_crossing.Newest.{newest_crossing}
+use Rattle.js_world.specs.js_machine.declared.stop.Stop.TheVariants as stop
 use Rattle.js_world.specs.Crossings.{Rests}
 use Rattle.js_world.specs.Worlds.{HasStopped, IsOver, Stands, WorldView, ending_of}
-use Rattle.js_crossing.specs.declared.ending.Ending.{Ending}
-use Rattle.js_crossing.specs.declared.ending.Ending.TheVariants as ending
-use Rattle.js_crossing.specs.declared.ending.Turn.{Turn}
-use Rattle.js_crossing.specs.declared.ending.Turn.TheVariants as turn
-use Rattle.js_crossing.specs.declared.newest.TracedCrossing.{TracedCrossing}
+use Rattle.js_world.specs.js_crossing.declared.ending.Ending.{Ending}
+use Rattle.js_world.specs.js_crossing.declared.ending.Ending.TheVariants as ending
+use Rattle.js_world.specs.js_crossing.declared.ending.Turn.{Turn}
+use Rattle.js_world.specs.js_crossing.declared.ending.Turn.TheVariants as turn
+use Rattle.js_world.specs.js_crossing.declared.newest.TracedCrossing.{TracedCrossing}
 use Rattle.lava_journal.specs.Lines.{crossing_line, end_text, start_text}
 use Rattle.lava_journal.specs.Sheets.{TraceNames, no_names}
 use Rattle.lava_host.specs.Hosts.{HostWorld}

@@ -1,8 +1,8 @@
 // What the host answers to a call of one of its functions.
 
 ghost use Rattle.std.specs.Prelude.{◌≡◌, ◌∷◌, List, IfOk};
-ghost use Rattle.js_run.specs.Outside.{OutsideCall};
-ghost use Rattle.js_machine.specs.Outsides.{answer_of};
+ghost use Rattle.js_world.specs.js_run.Outside.{OutsideCall};
+ghost use Rattle.js_world.specs.js_machine.Outsides.{answer_of};
 ghost use Rattle.lava_host.specs.Hosts.{host_world};
 ghost use Rattle.js_desc.specs.declared.ask.Ask.TheVariants as asks;
 ghost use Rattle.js_text.specs.declared.value.Value.TheVariants as values;
@@ -10,10 +10,10 @@ ghost use Rattle.lava_driver.specs.Talks.{IsAnsweredBy, IsHostTalk, number_answe
 
 use js_desc::ask::Ask;
 use js_desc::reply::Reply;
-use js_machine::outside::{HostAnswer, HostCall};
-use js_machine::requests::text_of;
 use js_text::text::Text;
 use js_text::value::Value;
+use js_world::js_machine::outside::{HostAnswer, HostCall};
+use js_world::js_machine::requests::text_of;
 use lava_base::ids::{ObjId, PartyId, Ref};
 use lava_base::list::List;
 use lava_base::memory::OutOfMemory;

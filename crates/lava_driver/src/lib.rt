@@ -11,3 +11,6 @@ pub mod answers;
 pub mod run;
 pub mod trace;
 pub mod trace_run;
+
+pub use js_world;
+pub use js_world::{js_crossing, js_run_laws};

@@ -3,18 +3,18 @@
 ghost use Rattle.std.specs.Prelude.{◌≡◌, [], List, Option, IfOk};
 ghost use Rattle.lava_host.specs.Hosts.{host_world, HostWorld};
 ghost use Rattle.js_world.specs.Worlds.{WorldView};
-ghost use Rattle.js_crossing.specs.declared.ending.Turn.TheVariants as turn;
+ghost use Rattle.js_world.specs.js_crossing.declared.ending.Turn.TheVariants as turn;
 ghost use Rattle.lava_driver.specs.Ran.{HasComeTo, HasRun, IsUnderway};
 ghost use Rattle.lava_driver.specs.Talks.{IsTalk, Talk, talk_of};
 ghost use Rattle.lava_host.specs.declared.fault.Which.{Which};
 
 use crate::answers::{Answered, ask_host};
-use js_crossing::ending::{Ending, Turn};
-use js_machine::frame::Mode;
-use js_machine::outside::HostAnswer;
-use js_machine::requests::text_of;
-use js_machine::stop::Pause;
-use js_machine_modules::outside::newest_call;
+use js_world::js_crossing::ending::{Ending, Turn};
+use js_world::js_machine::frame::Mode;
+use js_world::js_machine::outside::HostAnswer;
+use js_world::js_machine::requests::text_of;
+use js_world::js_machine::stop::Pause;
+use js_world::js_machine_modules::outside::newest_call;
 use js_world::world::World;
 use lava_base::memory::OutOfMemory;
 use lava_host::fault::Which;

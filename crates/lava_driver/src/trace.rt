@@ -4,9 +4,9 @@ ghost use Rattle.std.specs.Prelude.{◌≡◌, ◌++◌, sum, true, IfOk, IfSome
 ghost use Rattle.lava_journal.specs.Lines.{HasSteps, end_text};
 ghost use Rattle.lava_driver.specs.Traces.{HasNoted, HasWritten, trace_start, with_crossing};
 
-use js_crossing::ending::{Ending, Turn};
-use js_crossing::newest::TracedCrossing;
 use js_desc::ending::Ending as ToldEnding;
+use js_world::js_crossing::ending::{Ending, Turn};
+use js_world::js_crossing::newest::TracedCrossing;
 use js_world::world::World;
 use lava_base::list::List;
 use lava_base::memory::OutOfMemory;

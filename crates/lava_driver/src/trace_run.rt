@@ -4,16 +4,16 @@ ghost use Rattle.std.specs.Prelude.{◌≡◌, ℕ, [], List, Option, length, If
 ghost use Rattle.lava_host.specs.Hosts.{host_world, HostWorld};
 ghost use Rattle.lava_host.specs.declared.fault.Which.{Which};
 ghost use Rattle.js_world.specs.Worlds.{WorldView, ending_of};
-ghost use Rattle.js_crossing.specs.declared.ending.Turn.TheVariants as turn;
+ghost use Rattle.js_world.specs.js_crossing.declared.ending.Turn.TheVariants as turn;
 ghost use Rattle.lava_driver.specs.Talks.{Talk};
 ghost use Rattle.lava_driver.specs.Traces.{HasTraced, HasTracedTo, IsFinished, IsTracing, PutsText, ending_told, trace_start};
 
 use crate::run::{Ran, Step, answer_of_call};
 use crate::trace::Tracer;
-use js_crossing::ending::{Ending, Turn};
 use js_desc::ending::Ending as ToldEnding;
-use js_machine::frame::{Halt, Mode};
-use js_machine::stop::Pause;
+use js_world::js_crossing::ending::{Ending, Turn};
+use js_world::js_machine::frame::{Halt, Mode};
+use js_world::js_machine::stop::Pause;
 use js_world::world::World;
 use lava_base::ids::PartyId;
 use lava_base::list::List;

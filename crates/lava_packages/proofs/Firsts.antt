@@ -1,7 +1,7 @@
 -- The machine of all parties before a run of packages.
 use Rattle.std.proofs.Common.{◌≡◌, ℕ, List, map, subst, Result, IfOk}
 use Rattle.js_term.specs.declared.term.Template.{Template}
-use Rattle.js_world.specs.Worlds.{WorldView}
+use Rattle.lava_start.specs.js_world.Worlds.{WorldView}
 use Rattle.lava_start.specs.Firsts.{IsFirstWorld, parts_of, run_parts_of}
 use Rattle.lava_start.specs.declared.packages.PackageSource.{PackageSource}
 use Rattle.pkg_graph.specs.declared.graph.Package.{Package}

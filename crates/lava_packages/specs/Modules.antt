@@ -2,7 +2,7 @@
 use Rattle.std.specs.Prelude.{ℕ, List, [], ◌∷◌, nat_eq, if◌then◌else◌}
 use Rattle.js_names.specs.Lists.{flat}
 use Rattle.js_lower_table.specs.Table.{source_template_of}
-use Rattle.js_lower.specs.Helpers.{json_template}
+use Rattle.ses_prelude.specs.js_lower.Helpers.{json_template}
 use Rattle.js_term.specs.declared.term.Template.{Template}
 use Rattle.js_text.specs.Utf8.{units_of}
 use Rattle.lava_start.specs.declared.modules.SourceModule.{SourceModule}

@@ -4,7 +4,7 @@ use Rattle.std.specs.List.{list_any}
 use Rattle.std.specs.Option.{unwrap_or}
 use Rattle.js_text.specs.Utf8.{units_of}
 use Rattle.js_desc.specs.declared.start.Start.{Start}
-use Rattle.js_world.specs.Worlds.{WorldView}
+use Rattle.lava_start.specs.js_world.Worlds.{WorldView}
 use Rattle.lava_start.specs.Applications.{PackageParts, PartyLink, RunParts}
 use Rattle.lava_start.specs.Firsts.{IsFirstWorld}
 use Rattle.lava_start.specs.Templates.{loaded_source}

@@ -11,11 +11,11 @@ use Rattle.js_desc.specs.declared.reply.Reply.{Reply}
 use Rattle.js_desc.specs.declared.reply.Reply.TheVariants as reply
 use Rattle.js_store.specs.Foreign.{marks_of}
 use Rattle.js_store.specs.Objects.{object_at}
-use Rattle.js_run.specs.Heap.{World}
-use Rattle.js_run.specs.Journal.{Application, foreign_of}
-use Rattle.js_machine.specs.Looks.{marks_in}
-use Rattle.js_machine.specs.Views.{View}
-use Rattle.js_world.specs.Worlds.{WorldView, last_reply, turned}
+use Rattle.lava_start.specs.js_run.Heap.{World}
+use Rattle.lava_start.specs.js_run.Journal.{Application, foreign_of}
+use Rattle.lava_start.specs.js_machine.Looks.{marks_in}
+use Rattle.lava_start.specs.js_machine.Views.{View}
+use Rattle.lava_start.specs.js_world.Worlds.{WorldView, last_reply, turned}
 use Rattle.lava_host.specs.Printed.{printed_reference, printed_value}
 
 abbrev pub Thrown : Type 0

@@ -5,9 +5,9 @@ ghost use Rattle.lava_packages.specs.Packages.{IsFirstOf};
 
 use crate::common::CommonPart;
 use crate::packages::packages_of;
-use js_world::world::World;
 use lava_base::memory::OutOfMemory;
 use lava_start::first::first_world;
+use lava_start::js_world::world::World;
 use pkg_graph::graph::Package;
 use pkg_load::module::LoadedModule;
 use pkg_source::code::ModuleCode;

@@ -13,3 +13,6 @@ pub mod modules;
 pub mod names;
 pub mod packages;
 pub mod uncaught;
+
+pub use lava_start;
+pub use pkg_source;

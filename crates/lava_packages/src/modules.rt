@@ -4,7 +4,6 @@ ghost use Rattle.std.specs.Prelude.{◌≡◌, ◌++◌, IfOk, OnOk};
 ghost use Rattle.js_text.specs.Utf8.{units_of};
 ghost use Rattle.lava_packages.specs.Modules.{source_of, sources_in, sources_of, template_of};
 
-use js_lower::modules::{lower, lower_json};
 use js_term::term::Template;
 use js_text::text::Text;
 use js_text::utf8::from_utf8;
@@ -12,6 +11,7 @@ use lava_base::memory::OutOfMemory;
 use lava_start::modules::SourceModule;
 use pkg_load::module::LoadedModule;
 use pkg_source::code::ModuleCode;
+use ses_prelude::js_lower::modules::{lower, lower_json};
 use std::alloc::Global;
 
 /// The text of UTF-8. Want of memory is answered too where the bytes are not UTF-8, or are too many.

@@ -6,11 +6,11 @@ ghost use Rattle.lava_packages.specs.Uncaught.{IsUncaughtIn, shown_in, thrown_in
 
 use js_desc::reply::Reply;
 use js_text::value::Value;
-use js_world::world::World;
 use lava_base::list::List;
 use lava_base::marks::Marks;
 use lava_base::memory::OutOfMemory;
 use lava_host::printed::{NO_MARKS, push_value};
+use lava_start::js_world::world::World;
 use std::alloc::Global;
 
 /// The marks of a value that is an object, as the party in the machine sees it.

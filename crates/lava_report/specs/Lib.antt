@@ -1,2 +1,3 @@
 pub mod Words
 pub mod Tells
+pub use Rattle.lava_loading.specs as lava_loading

@@ -2,8 +2,8 @@
 use Rattle.std.specs.Prelude.{◌≡◌, ℕ, ◌+◌, ◌-◌, List, Option, Some, None, codes, nat_eq, slice_get, if◌then◌else◌}
 use Rattle.lava_base.specs.declared.place.Place.{Place}
 use Rattle.js_fault.specs.declared.fault.SyntaxWhat.{SyntaxWhat}
-use Rattle.js_machine.specs.declared.frame.Halt.{Halt}
-use Rattle.js_machine.specs.declared.frame.Halt.TheVariants as halt
+use Rattle.js_crossing.specs.js_machine.declared.frame.Halt.{Halt}
+use Rattle.js_crossing.specs.js_machine.declared.frame.Halt.TheVariants as halt
 use Rattle.js_crossing.specs.declared.ending.Ending.{Ending}
 use Rattle.js_crossing.specs.declared.ending.Ending.TheVariants as ending
 use Rattle.lava_host.specs.declared.fault.Which.{Which}

@@ -12,3 +12,5 @@ pub mod outcome;
 pub mod report;
 pub mod run_report;
 pub mod words;
+
+pub use lava_loading;

@@ -6,8 +6,8 @@ ghost use Rattle.lava_report.specs.Tells as spec;
 
 use crate::outcome::{Ended, RunOutcome};
 use js_crossing::ending::Ending;
+use js_crossing::js_machine::frame::Halt;
 use js_fault::fault::SyntaxWhat;
-use js_machine::frame::Halt;
 use lava_base::list::List;
 use lava_base::memory::OutOfMemory;
 use lava_base::name::Name;

@@ -1,12 +1,12 @@
 -- The calls that are put to the outside are those of the journal.
 use Rattle.std.proofs.Common.{◌≡◌, ℕ, zero, suc, List, [], ◌∷◌, ap}
 use Rattle.js_host_laws.specs.Calls.{ArePlain, Gone_at_the_newest, host_calls_of}
-use Rattle.js_run.specs.Completions as halt
-use Rattle.js_run.specs.Heap.{Over_with, heap}
-use Rattle.js_run.specs.Journal.{Application, Fault}
-use Rattle.js_run.specs.Laws.{ending_of}
-use Rattle.js_run.specs.Outside.{OutsideCall}
-use Rattle.js_run.specs.Starts.{host_party}
+use Rattle.lava_driver.specs.js_run.Completions as halt
+use Rattle.lava_driver.specs.js_run.Heap.{Over_with, heap}
+use Rattle.lava_driver.specs.js_run.Journal.{Application, Fault}
+use Rattle.lava_driver.specs.js_run.Laws.{ending_of}
+use Rattle.lava_driver.specs.js_run.Outside.{OutsideCall}
+use Rattle.lava_driver.specs.js_run.Starts.{host_party}
 use Rattle.lava_runner.specs.Called.{AreCalledIn, EndsCalled, IsCalledIn, IsGoneAt}
 use Rattle.lava_driver.specs.Ran.{AreAskedIn, IsAskedIn}
 use Rattle.lava_driver.specs.Talks.{Agrees, Talk}

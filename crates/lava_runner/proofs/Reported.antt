@@ -10,31 +10,31 @@ use Rattle.js_text.specs.Naming.{Origin, Own, Common, Foreign, naming_of, origin
 use Rattle.js_store.specs.Foreign.{marks_of}
 use Rattle.js_store.specs.Objects.{object_at}
 use Rattle.js_host_laws.specs.Calls.{Gone_at_the_newest, Host_calls_are_crossings}
-use Rattle.js_run.specs.Heap as heap
-use Rattle.js_run.specs.Heap.{Over_with, World, begins}
-use Rattle.js_run.specs.Completions as halt
-use Rattle.js_run.specs.Journal.{Application, Fault, foreign_of}
-use Rattle.js_run.specs.Laws.{IsWellMade, Journal_is_net}
-use Rattle.js_run.specs.Parties.{Party}
-use Rattle.js_run.specs.Laws as laws
-use Rattle.js_run.specs.Starts.{host_party}
-use Rattle.js_machine.specs.Begun as begun
-use Rattle.js_machine.specs.Begun.{own_of}
-use Rattle.js_machine.specs.Looks.{marks_at, marks_in}
-use Rattle.js_machine.specs.Views.{View}
-use Rattle.js_world.specs.Crossings.{Rests}
-use Rattle.js_world.specs.Worlds.{HasAnswered, IsOver, KeepsAnswer, Reads, WorldView, ending_of, no_own, own_here, turned}
-use Rattle.js_crossing.specs.declared.ending.Ending.{Ending}
-use Rattle.js_crossing.specs.declared.ending.Ending.TheVariants as ending
+use Rattle.lava_driver.specs.js_run.Heap as heap
+use Rattle.lava_driver.specs.js_run.Heap.{Over_with, World, begins}
+use Rattle.lava_driver.specs.js_run.Completions as halt
+use Rattle.lava_driver.specs.js_run.Journal.{Application, Fault, foreign_of}
+use Rattle.lava_driver.specs.js_run.Laws.{IsWellMade, Journal_is_net}
+use Rattle.lava_driver.specs.js_run.Parties.{Party}
+use Rattle.lava_driver.specs.js_run.Laws as laws
+use Rattle.lava_driver.specs.js_run.Starts.{host_party}
+use Rattle.lava_driver.specs.js_machine.Begun as begun
+use Rattle.lava_driver.specs.js_machine.Begun.{own_of}
+use Rattle.lava_driver.specs.js_machine.Looks.{marks_at, marks_in}
+use Rattle.lava_driver.specs.js_machine.Views.{View}
+use Rattle.lava_driver.specs.js_world.Crossings.{Rests}
+use Rattle.lava_driver.specs.js_world.Worlds.{HasAnswered, IsOver, KeepsAnswer, Reads, WorldView, ending_of, no_own, own_here, turned}
+use Rattle.lava_driver.specs.js_crossing.declared.ending.Ending.{Ending}
+use Rattle.lava_driver.specs.js_crossing.declared.ending.Ending.TheVariants as ending
 use Rattle.lava_host.specs.Hosts.{HostWorld}
 use Rattle.lava_host.specs.Printed.{printed_reference, printed_value}
-use Rattle.lava_start.specs.Applications.{AllInRange, RunParts}
-use Rattle.lava_start.specs.Firsts.{IsFirstWorld}
-use Rattle.lava_start.specs.Laws.{Runs_are_well_made}
+use Rattle.lava_packages.specs.lava_start.Applications.{AllInRange, RunParts}
+use Rattle.lava_packages.specs.lava_start.Firsts.{IsFirstWorld}
+use Rattle.lava_packages.specs.lava_start.Laws.{Runs_are_well_made}
 use Rattle.pkg_graph.specs.declared.graph.Package.{Package}
 use Rattle.pkg_load.specs.Applications as loads
 use Rattle.pkg_load.specs.declared.module.LoadedModule.{LoadedModule}
-use Rattle.pkg_source.specs.declared.code.ModuleCode.{ModuleCode}
+use Rattle.lava_packages.specs.pkg_source.declared.code.ModuleCode.{ModuleCode}
 use Rattle.policy_row.specs.Rows.{Rows}
 use Rattle.lava_packages.specs.Commons.{IsCommonPart}
 use Rattle.lava_packages.specs.Packages.{IsFirstOf, party_names, run_parts}

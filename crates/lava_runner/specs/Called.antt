@@ -1,10 +1,10 @@
 -- That what the outside is asked is what the journal says: the host's calls are its crossings.
 use Rattle.std.specs.Prelude.{◌≡◌, ℕ, List, [], ◌∷◌}
 use Rattle.js_host_laws.specs.Calls.{ArePlain, host_calls_of}
-use Rattle.js_run.specs.Completions as halt
-use Rattle.js_run.specs.Heap.{Over_with, heap}
-use Rattle.js_run.specs.Journal.{Application, Fault, outside_of}
-use Rattle.js_run.specs.Outside.{OutsideCall, IsGone}
+use Rattle.lava_driver.specs.js_run.Completions as halt
+use Rattle.lava_driver.specs.js_run.Heap.{Over_with, heap}
+use Rattle.lava_driver.specs.js_run.Journal.{Application, Fault, outside_of}
+use Rattle.lava_driver.specs.js_run.Outside.{OutsideCall, IsGone}
 use Rattle.lava_driver.specs.Talks.{Agrees, Talk}
 
 -- the outside has no answer to a party's calls, and to no others

@@ -2,18 +2,18 @@
 use Rattle.std.specs.Prelude.{◌≡◌, ℕ, Bool, true, false, List, Option, Some, None}
 use Rattle.js_desc.specs.declared.ending.Ending as desc
 use Rattle.js_host_laws.specs.Calls.{ArePlain, Calls_are_crossings}
-use Rattle.js_run.specs.Heap.{Over_with, heap}
-use Rattle.js_run.specs.Journal.{Application}
-use Rattle.js_run.specs.Net.{net}
-use Rattle.js_world.specs.Worlds.{Reads, WorldView, ending_of}
-use Rattle.js_crossing.specs.declared.ending.Ending.{Ending}
-use Rattle.js_crossing.specs.declared.ending.Ending.TheVariants as ending
+use Rattle.lava_driver.specs.js_run.Heap.{Over_with, heap}
+use Rattle.lava_driver.specs.js_run.Journal.{Application}
+use Rattle.lava_driver.specs.js_run.Net.{net}
+use Rattle.lava_driver.specs.js_world.Worlds.{Reads, WorldView, ending_of}
+use Rattle.lava_driver.specs.js_crossing.declared.ending.Ending.{Ending}
+use Rattle.lava_driver.specs.js_crossing.declared.ending.Ending.TheVariants as ending
 use Rattle.lava_host.specs.Hosts.{HostWorld}
-use Rattle.lava_start.specs.Applications.{RunParts, Surroundings, run_application}
+use Rattle.lava_packages.specs.lava_start.Applications.{RunParts, Surroundings, run_application}
 use Rattle.pkg_graph.specs.declared.graph.Package.{Package}
 use Rattle.pkg_load.specs.Applications as loads
 use Rattle.pkg_load.specs.declared.module.LoadedModule.{LoadedModule}
-use Rattle.pkg_source.specs.declared.code.ModuleCode.{ModuleCode}
+use Rattle.lava_packages.specs.pkg_source.declared.code.ModuleCode.{ModuleCode}
 use Rattle.policy_row.specs.Rows.{Rows}
 use Rattle.lava_packages.specs.Commons.{IsCommonPart}
 use Rattle.lava_packages.specs.Packages.{run_parts}

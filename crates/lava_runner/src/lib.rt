@@ -7,3 +7,7 @@
 #![tactic(auto)]
 
 pub mod app;
+
+pub use lava_packages;
+pub use lava_report;
+pub use lava_report::lava_loading;

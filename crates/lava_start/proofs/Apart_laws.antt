@@ -11,8 +11,8 @@ use Rattle.js_text.specs.declared.value.Key.{Key}
 use Rattle.js_desc.specs.declared.descriptor.Descriptor.{Descriptor}
 use Rattle.js_store.specs.Objects.{written}
 use Rattle.js_store.specs.Order.{IsInOrder, MayPrecede, PrecedesAll}
-use Rattle.js_run.specs.Globals.{default_properties}
-use Rattle.js_run.specs.Starts.{package_global}
+use Rattle.js_world.specs.js_run.Globals.{default_properties}
+use Rattle.js_world.specs.js_run.Starts.{package_global}
 use Rattle.lava_start.specs.Grants.{Granted_names_stand_behind, global_supply, supplied_properties, with_properties}
 
 abbrev Property : Type 0

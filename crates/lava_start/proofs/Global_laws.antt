@@ -6,9 +6,9 @@ use Rattle.js_text.specs.Naming.{naming_of}
 use Rattle.js_store.specs.Frozen.{common_ref}
 use Rattle.js_store.specs.Objects.{at_place, fresh}
 use Rattle.js_store.specs.declared.slot.Slot.TheVariants as slot
-use Rattle.js_run.specs.Globals.{global_marks}
-use Rattle.js_run.specs.Starts.{package_global}
-use Rattle.js_run.specs.declared.intrinsics.TheConstants.{OBJECT_PROTOTYPE}
+use Rattle.js_world.specs.js_run.Globals.{global_marks}
+use Rattle.js_world.specs.js_run.Starts.{package_global}
+use Rattle.js_world.specs.js_run.declared.intrinsics.TheConstants.{OBJECT_PROTOTYPE}
 use Rattle.lava_start.specs.Making.{Thing, with_found, with_intrinsics, with_paths}
 use Rattle.lava_start.proofs.Made_laws.{at_same, at_twice}
 

@@ -4,8 +4,8 @@ use Rattle.std.proofs.lemmas.List.{take_more}
 use Rattle.js_code.specs.Decoded.{template_at, term_at}
 use Rattle.js_code.specs.Settled.{Extends}
 use Rattle.js_code.specs.Tables.{Tables}
-use Rattle.js_machine.specs.Packages.{loaded_of}
-use Rattle.js_machine.specs.declared.package.Module.{Module}
+use Rattle.js_world.specs.js_machine.Packages.{loaded_of}
+use Rattle.js_world.specs.js_machine.declared.package.Module.{Module}
 use Rattle.js_term.specs.declared.term.Template.{Template}
 use Rattle.lava_start.specs.Templates.{ArePlaces, HaveSources, HaveTemplates, KeepsTemplates, ModulesWithin, loaded_source}
 use Rattle.lava_start.specs.declared.modules.SourceModule.{SourceModule}

@@ -3,10 +3,10 @@ use Rattle.std.proofs.Common.{◌≡◌, ℕ, zero, suc, ◌<◌, ◌+◌, Bool,
 use Rattle.std.specs.Map.{lookup}
 use Rattle.std.proofs.lemmas.List.{take_more}
 use Rattle.js_text.specs.Texts.{same_units}
-use Rattle.js_run.specs.Requests.{is_link}
-use Rattle.js_crossing.specs.Leads.{leads_among, leads_by}
-use Rattle.js_crossing.specs.declared.leads.Lead.{Lead}
-use Rattle.js_crossing.proofs.Shown_laws.{choose}
+use Rattle.js_world.specs.js_run.Requests.{is_link}
+use Rattle.js_world.specs.js_crossing.Leads.{leads_among, leads_by}
+use Rattle.js_world.specs.js_crossing.declared.leads.Lead.{Lead}
+use Rattle.js_world.proofs.of_js_crossing.Shown_laws.{choose}
 use Rattle.lava_start.specs.Applications.{PartyLink, allowed_links, leads_there, link_name, link_target, link_to, may_cross, may_import, no_start, package_starts}
 use Rattle.lava_start.specs.Firsts.{allowed_names, host_leads, lead_of, leads_in, leads_of, link_names, part_of_link, parts_of}
 use Rattle.lava_start.specs.declared.packages.PackageLink.{PackageLink}

@@ -24,15 +24,15 @@ use Rattle.js_store.specs.Objects.{goes_before, written}
 use Rattle.js_store.specs.declared.slot.Held.{Held}
 use Rattle.js_store.specs.declared.slot.Held.TheVariants as held
 use Rattle.js_store.specs.declared.slot.Live.{Live as Target}
-use Rattle.js_run.specs.Globals.{default_properties}
-use Rattle.js_run.specs.Identities.{IsAmong}
-use Rattle.js_run.specs.Laws.{is_foreign, is_from_other}
-use Rattle.js_run.specs.Starts.{host_ref}
-use Rattle.js_run.specs.declared.intrinsics.TheConstants.{FUNCTION_PROTOTYPE, OBJECT_PROTOTYPE}
-use Rattle.js_run_laws.proofs.Given_laws.{AtHome, default_home}
-use Rattle.js_run_laws.proofs.Looks.{behind, in_front}
-use Rattle.js_run_laws.proofs.Story.{in_either}
-use Rattle.js_run_laws.proofs.Swap.{own_origin}
+use Rattle.js_world.specs.js_run.Globals.{default_properties}
+use Rattle.js_world.specs.js_run.Identities.{IsAmong}
+use Rattle.js_world.specs.js_run.Laws.{is_foreign, is_from_other}
+use Rattle.js_world.specs.js_run.Starts.{host_ref}
+use Rattle.js_world.specs.js_run.declared.intrinsics.TheConstants.{FUNCTION_PROTOTYPE, OBJECT_PROTOTYPE}
+use Rattle.js_world.proofs.of_js_run_laws.Given_laws.{AtHome, default_home}
+use Rattle.js_world.proofs.of_js_run_laws.Looks.{behind, in_front}
+use Rattle.js_world.proofs.of_js_run_laws.Story.{in_either}
+use Rattle.js_world.proofs.of_js_run_laws.Swap.{own_origin}
 use Rattle.lava_start.specs.Grants.{AreInRange, Granted, IsHostObject, IsInRange, MembersInRange, Package_names_all, Package_names_known, Root_is_granted_all, Supply, builtin_grant_objects, builtin_grant_value, builtin_objects, builtin_value, frozen_object, global_supply, grant_objects, grant_property, granted_global, has_members, host_identities, is_granted, is_live, key_of_name, live_accessor, live_function, live_functions, live_part_objects, member_supply, names_host, numbers_from, package_builtin, package_identities, package_names, package_objects, part_member, part_object, root_global, root_identities, supplied_objects, supplied_properties, target_of, with_properties}
 use Rattle.lava_start.specs.Making.{Thing}
 

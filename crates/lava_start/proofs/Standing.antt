@@ -9,20 +9,20 @@ use Rattle.js_code.specs.Settled.{Extends}
 use Rattle.js_code.specs.Tables.{Tables}
 use Rattle.js_store.specs.Frozen.{CommonObject}
 use Rattle.js_store.specs.Objects.{Owned}
-use Rattle.js_run.specs.Hosts.{host_objects}
-use Rattle.js_run.specs.Journal.{foreign_of, root_link}
-use Rattle.js_run.specs.Parties.{Loaded}
-use Rattle.js_run.specs.Starts.{host_party}
+use Rattle.js_world.specs.js_run.Hosts.{host_objects}
+use Rattle.js_world.specs.js_run.Journal.{foreign_of, root_link}
+use Rattle.js_world.specs.js_run.Parties.{Loaded}
+use Rattle.js_world.specs.js_run.Starts.{host_party}
 use Rattle.js_term.specs.declared.term.Template.{Template}
-use Rattle.js_machine.specs.Begun as begun
-use Rattle.js_machine.specs.Begun.{Own, left_of, new_own, own_of}
-use Rattle.js_machine.specs.Packages.{Package, loaded_of}
-use Rattle.js_machine.specs.Views.{View, templates_at}
+use Rattle.js_world.specs.js_machine.Begun as begun
+use Rattle.js_world.specs.js_machine.Begun.{Own, left_of, new_own, own_of}
+use Rattle.js_world.specs.js_machine.Packages.{Package, loaded_of}
+use Rattle.js_world.specs.js_machine.Views.{View, templates_at}
 use Rattle.js_world.specs.First.{IsFirst, RestsFirst, as_new}
-use Rattle.js_crossing.specs.Leads.{leads_by}
+use Rattle.js_world.specs.js_crossing.Leads.{leads_by}
 use Rattle.js_world.specs.Worlds.{leads_to, Reads, WorldView, no_own, own_here}
 use Rattle.js_world.proofs.Kept.{at_home, elsewhere}
-use Rattle.js_crossing.specs.declared.leads.Lead.{Lead}
+use Rattle.js_world.specs.js_crossing.declared.leads.Lead.{Lead}
 use Rattle.lava_start.specs.Applications.{RunParts, Surroundings, all_starts, host_start, link_target, no_start, package_start, package_starts, run_application, start_at}
 use Rattle.lava_start.specs.Firsts.{AreAppended, AreOthers, ArePackagesOver, IsFirstWorld, IsHostMachine, IsPackageOver, IsPlace, IsWorldOver, StandsAs, allowed_names, host_leads, host_things, known_first, leads_in, part_of_link, package_with, parts_of, run_parts_of}
 use Rattle.lava_start.specs.Grants.{package_builtin, package_objects}

@@ -6,15 +6,15 @@ use Rattle.js_text.specs.Identities.{Identity, Of_object, Of_symbol, value_ident
 use Rattle.js_text.specs.Naming.{naming_of}
 use Rattle.js_desc.specs.Identities.{all_identities, option_identities}
 use Rattle.js_store.specs.Identities.{object_identities}
-use Rattle.js_run.specs.Identities.{IsAmong, party_identities}
-use Rattle.js_run.specs.Journal.{Application, find_mark}
-use Rattle.js_run.specs.Laws.{HasMark, IsWellMade, is_foreign, is_from_other, left_first, owner}
-use Rattle.js_run.specs.Parties.{Party}
-use Rattle.js_run.specs.Starts.{host_party, host_ref}
-use Rattle.js_run_laws.proofs.Given_laws.{blank_home, host_home, in_all, never}
-use Rattle.js_run_laws.proofs.Looks.{behind, in_front}
-use Rattle.js_run_laws.proofs.Story.{in_either}
-use Rattle.js_crossing.proofs.Shown_laws.{choose}
+use Rattle.js_world.specs.js_run.Identities.{IsAmong, party_identities}
+use Rattle.js_world.specs.js_run.Journal.{Application, find_mark}
+use Rattle.js_world.specs.js_run.Laws.{HasMark, IsWellMade, is_foreign, is_from_other, left_first, owner}
+use Rattle.js_world.specs.js_run.Parties.{Party}
+use Rattle.js_world.specs.js_run.Starts.{host_party, host_ref}
+use Rattle.js_world.proofs.of_js_run_laws.Given_laws.{blank_home, host_home, in_all, never}
+use Rattle.js_world.proofs.of_js_run_laws.Looks.{behind, in_front}
+use Rattle.js_world.proofs.of_js_run_laws.Story.{in_either}
+use Rattle.js_world.proofs.of_js_crossing.Shown_laws.{choose}
 use Rattle.lava_start.specs.Applications.{AllInRange, PackageParts, RunParts, Surroundings, counted_down, first_known, no_start, package_start, package_starts, run_application}
 use Rattle.lava_start.specs.Grants.{IsHostObject, Package_names_all, Package_names_known, host_count, package_builtin, package_identities, package_names, package_objects, root_global}
 use Rattle.lava_start.specs.Laws.{Runs_are_well_made}

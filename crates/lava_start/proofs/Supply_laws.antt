@@ -10,8 +10,8 @@ use Rattle.js_desc.specs.declared.descriptor.Descriptor.{Descriptor}
 use Rattle.js_store.specs.Frozen.{common_ref}
 use Rattle.js_store.specs.Objects.{at_place, fresh, not_extensible, object_at, plain_marks}
 use Rattle.js_store.specs.declared.slot.Slot.TheVariants as slot
-use Rattle.js_run.specs.Starts.{package_global}
-use Rattle.js_run.specs.declared.intrinsics.TheConstants.{OBJECT_PROTOTYPE}
+use Rattle.js_world.specs.js_run.Starts.{package_global}
+use Rattle.js_world.specs.js_run.declared.intrinsics.TheConstants.{OBJECT_PROTOTYPE}
 use Rattle.lava_start.specs.Grants.{Granted, Supply, builtin_objects, part_member, builtin_value, global_supply, granted_global, live_part_objects, member_supply, package_builtin, package_objects, supplied_objects, supplied_properties, with_all_properties, with_keyed, with_part_members, with_supplies, with_supply}
 use Rattle.lava_start.specs.Making.{Thing}
 use Rattle.lava_start.proofs.Made_laws.{at_same, at_twice, length_at}

@@ -10,12 +10,12 @@ use Rattle.js_text.specs.Naming.{naming_of}
 use Rattle.js_text.specs.Texts.{same_units}
 use Rattle.js_store.specs.Frozen.{CommonObject}
 use Rattle.js_store.specs.Objects.{Object}
-use Rattle.js_run.specs.Globals.{global_marks}
-use Rattle.js_run.specs.Hosts.{host_objects}
-use Rattle.js_run.specs.Journal.{Application, root_link}
-use Rattle.js_run.specs.Outside.{OutsideCall, OutsideAnswer}
-use Rattle.js_run.specs.Parties.{Loaded, Party}
-use Rattle.js_run.specs.Starts.{blank, host_party, host_ref}
+use Rattle.js_world.specs.js_run.Globals.{global_marks}
+use Rattle.js_world.specs.js_run.Hosts.{host_objects}
+use Rattle.js_world.specs.js_run.Journal.{Application, root_link}
+use Rattle.js_world.specs.js_run.Outside.{OutsideCall, OutsideAnswer}
+use Rattle.js_world.specs.js_run.Parties.{Loaded, Party}
+use Rattle.js_world.specs.js_run.Starts.{blank, host_party, host_ref}
 use Rattle.js_term.specs.declared.term.Template.{Template}
 use Rattle.lava_start.specs.Grants.{Granted, InRange, package_builtin, package_names, package_objects, root_global}
 

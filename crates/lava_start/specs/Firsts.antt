@@ -11,21 +11,21 @@ use Rattle.js_code.specs.Tables.{Tables}
 use Rattle.js_store.specs.Foreign.{with_marks}
 use Rattle.js_store.specs.Frozen.{CommonObject}
 use Rattle.js_store.specs.Objects.{Owned}
-use Rattle.js_run.specs.Globals.{global_marks}
-use Rattle.js_run.specs.Heap.{begins}
-use Rattle.js_run.specs.Hosts.{host_objects}
-use Rattle.js_run.specs.Journal.{root_link}
-use Rattle.js_run.specs.Requests.{is_link}
+use Rattle.js_world.specs.js_run.Globals.{global_marks}
+use Rattle.js_world.specs.js_run.Heap.{begins}
+use Rattle.js_world.specs.js_run.Hosts.{host_objects}
+use Rattle.js_world.specs.js_run.Journal.{root_link}
+use Rattle.js_world.specs.js_run.Requests.{is_link}
 use Rattle.js_term.specs.declared.term.Template.{Template}
-use Rattle.js_machine.specs.Begun as begun
-use Rattle.js_machine.specs.Begun.{Own, left_of, new_own, nothing_left}
-use Rattle.js_machine.specs.Packages.{Package}
-use Rattle.js_machine.specs.Views.{View}
-use Rattle.js_machine.specs.declared.package.Module.{Module}
+use Rattle.js_world.specs.js_machine.Begun as begun
+use Rattle.js_world.specs.js_machine.Begun.{Own, left_of, new_own, nothing_left}
+use Rattle.js_world.specs.js_machine.Packages.{Package}
+use Rattle.js_world.specs.js_machine.Views.{View}
+use Rattle.js_world.specs.js_machine.declared.package.Module.{Module}
 use Rattle.js_world.specs.Crossings.{Rests}
 use Rattle.js_world.specs.First.{IsFirst, RestsFirst, as_new}
 use Rattle.js_world.specs.Worlds.{Reads, WorldView, party_with}
-use Rattle.js_crossing.specs.declared.leads.Lead.{Lead}
+use Rattle.js_world.specs.js_crossing.declared.leads.Lead.{Lead}
 use Rattle.lava_start.specs.Applications.{PackageParts, PartyLink, PartyStart, RunParts, Surroundings, allowed_links, link_name, link_target, may_import, run_application}
 use Rattle.lava_start.specs.Grants.{package_builtin, package_objects, root_global}
 use Rattle.lava_start.specs.Making.{first_marks}

@@ -25,13 +25,13 @@ use Rattle.js_store.specs.declared.slot.Held.{Held}
 use Rattle.js_store.specs.declared.slot.Held.TheVariants as held
 use Rattle.js_store.specs.declared.slot.Live.{Live as Target}
 use Rattle.js_store.specs.declared.slot.Slot.TheVariants as slot
-use Rattle.js_run.specs.Functions.{function_marks, function_property}
-use Rattle.js_run.specs.Globals.{default_properties}
-use Rattle.js_run.specs.Hosts.{host_object}
-use Rattle.js_run.specs.Identities.{IsAmong}
-use Rattle.js_run.specs.Laws.{is_foreign}
-use Rattle.js_run.specs.Starts.{host_ref, package_global, root_endowments}
-use Rattle.js_run.specs.declared.intrinsics.TheConstants.{FUNCTION_PROTOTYPE}
+use Rattle.js_world.specs.js_run.Functions.{function_marks, function_property}
+use Rattle.js_world.specs.js_run.Globals.{default_properties}
+use Rattle.js_world.specs.js_run.Hosts.{host_object}
+use Rattle.js_world.specs.js_run.Identities.{IsAmong}
+use Rattle.js_world.specs.js_run.Laws.{is_foreign}
+use Rattle.js_world.specs.js_run.Starts.{host_ref, package_global, root_endowments}
+use Rattle.js_world.specs.js_run.declared.intrinsics.TheConstants.{FUNCTION_PROTOTYPE}
 use Rattle.lava_start.specs.Making.{Thing}
 
 -- grants by name

@@ -1,5 +1,5 @@
 -- What holds of the application of a run.
-use Rattle.js_run.specs.Laws.{IsWellMade}
+use Rattle.js_world.specs.js_run.Laws.{IsWellMade}
 use Rattle.lava_start.specs.Applications.{AllInRange, RunParts, Surroundings, run_application}
 
 -- what starts name of others is marked, is listed, and has left its owner

@@ -14,9 +14,9 @@ use Rattle.js_desc.specs.declared.descriptor.Descriptor.{Descriptor}
 use Rattle.js_desc.specs.declared.descriptor.Descriptor.TheVariants.{Data}
 use Rattle.js_store.specs.Foreign.{with_marks}
 use Rattle.js_store.specs.Objects.{Object, object_at, with_change}
-use Rattle.js_run.specs.Globals.{is_global}
-use Rattle.js_run.specs.Hosts.{host_object, member}
-use Rattle.js_run.specs.Starts.{host_ref}
+use Rattle.js_world.specs.js_run.Globals.{is_global}
+use Rattle.js_world.specs.js_run.Hosts.{host_object, member}
+use Rattle.js_world.specs.js_run.Starts.{host_ref}
 use Rattle.lava_start.specs.declared.global.TheConstants.{SELF_PLACE}
 
 abbrev pub Thing : Type 0

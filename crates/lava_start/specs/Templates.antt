@@ -2,9 +2,9 @@
 use Rattle.std.specs.Prelude.{◌≡◌, ℕ, ◌<◌, ◌≤◌, List, [], ◌∷◌, length, map, None, ⊤}
 use Rattle.js_code.specs.Decoded.{template_at, term_at}
 use Rattle.js_code.specs.Tables.{Tables}
-use Rattle.js_machine.specs.Packages.{loaded_of}
-use Rattle.js_machine.specs.declared.package.Module.{Module}
-use Rattle.js_run.specs.Parties.{Loaded}
+use Rattle.js_world.specs.js_machine.Packages.{loaded_of}
+use Rattle.js_world.specs.js_machine.declared.package.Module.{Module}
+use Rattle.js_world.specs.js_run.Parties.{Loaded}
 use Rattle.js_term.specs.declared.term.Template.{Template}
 use Rattle.lava_start.specs.declared.modules.SourceModule.{SourceModule}
 

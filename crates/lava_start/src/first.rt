@@ -12,11 +12,11 @@ use crate::packages::{
     PackageSource, all_leads, host_links, host_package, package_own, place_holder,
 };
 use js_code::code::Code;
-use js_crossing::leads::Lead;
-use js_machine::machine::Machine;
-use js_machine::own::Own;
 use js_store::frozen::FrozenStore;
 use js_term::term::Template;
+use js_world::js_crossing::leads::Lead;
+use js_world::js_machine::machine::Machine;
+use js_world::js_machine::own::Own;
 use js_world::world::World;
 use lava_base::list::List;
 use lava_base::memory::OutOfMemory;

@@ -5,16 +5,16 @@ ghost use Rattle.js_store.specs.Objects.{at_place};
 ghost use Rattle.js_text.specs.Naming.{naming_of};
 ghost use Rattle.js_text.specs.declared.value.Value.TheVariants as value;
 ghost use Rattle.js_desc.specs.declared.descriptor.Descriptor.TheVariants as descriptor;
-ghost use Rattle.js_run.specs.Hosts.{host_function, host_objects};
+ghost use Rattle.js_world.specs.js_run.Hosts.{host_function, host_objects};
 ghost use Rattle.lava_start.specs.Making.{console_object, fs_object, holder_object, with_host_member};
 
 use crate::objects::{host, put_object, put_property};
 use crate::words::word_text;
 use js_desc::descriptor::Descriptor;
-use js_run::intrinsics::{FUNCTION_PROTOTYPE, OBJECT_PROTOTYPE};
 use js_store::flat::FlatStore;
 use js_store::store::{PLAIN_MARKS, Store};
 use js_text::value::Value;
+use js_world::js_run::intrinsics::{FUNCTION_PROTOTYPE, OBJECT_PROTOTYPE};
 use lava_base::ids::{ObjId, PartyId};
 use lava_base::marks::{Class, Marks};
 use lava_base::memory::OutOfMemory;

@@ -23,3 +23,5 @@ pub mod modules;
 mod objects;
 pub mod packages;
 mod words;
+
+pub use js_world;

@@ -3,7 +3,7 @@
 ghost use Rattle.std.specs.Prelude.{◌≡◌, length, IfOk};
 ghost use Rattle.lava_base.specs.Ids.{same_ref};
 ghost use Rattle.js_store.specs.Foreign.{with_marks};
-ghost use Rattle.js_run.specs.Globals.{global_marks};
+ghost use Rattle.js_world.specs.js_run.Globals.{global_marks};
 ghost use Rattle.lava_start.specs.Grants.{root_global};
 ghost use Rattle.lava_start.specs.Making.{first_marks};
 

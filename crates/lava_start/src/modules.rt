@@ -4,9 +4,9 @@ ghost use Rattle.std.specs.Prelude.{◌∷◌, [], IfOk};
 ghost use Rattle.lava_start.specs.Templates.{HaveSources, HaveTemplates, KeepsTemplates};
 
 use js_code::code::Code;
-use js_machine::package::Module;
 use js_term::term::Template;
 use js_text::text::Text;
+use js_world::js_machine::package::Module;
 use lava_base::memory::OutOfMemory;
 use std::alloc::Global;
 

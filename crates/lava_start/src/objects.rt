@@ -5,7 +5,7 @@ ghost use Rattle.js_store.specs.Objects.{at_place, fresh};
 ghost use Rattle.js_store.specs.Frozen.{common_ref};
 ghost use Rattle.js_store.specs.declared.slot.Slot.TheVariants as slot;
 ghost use Rattle.js_text.specs.Naming.{naming_of};
-ghost use Rattle.js_run.specs.Starts.{host_ref};
+ghost use Rattle.js_world.specs.js_run.Starts.{host_ref};
 ghost use Rattle.lava_start.specs.Making.{with_named};
 
 use crate::words::word_text;

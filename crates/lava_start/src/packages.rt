@@ -1,22 +1,22 @@
 // What each party has of its package, before anything has happened.
 
 ghost use Rattle.std.specs.Prelude.{◌≡◌, ◌++◌, ◌∷◌, [], IfOk, OnOk};
-ghost use Rattle.js_run.specs.Journal.{root_link};
-ghost use Rattle.js_machine.specs.Begun.{new_own};
+ghost use Rattle.js_world.specs.js_run.Journal.{root_link};
+ghost use Rattle.js_world.specs.js_machine.Begun.{new_own};
 ghost use Rattle.lava_start.specs.Firsts.{IsOwnOf, allowed_names, host_leads, host_things, leads_in, leads_of, link_names, package_with, part_of_link};
 ghost use Rattle.lava_start.specs.Applications.{may_cross};
 
 use crate::grants::{Endowed, package_store};
 use crate::modules::SourceModule;
 use crate::words::word_text;
-use js_crossing::leads::Lead;
 use js_desc::start::Grant;
-use js_machine::own::Own;
-use js_machine::package::{Module, Package};
 use js_store::flat::FlatStore;
 use js_store::store::Store;
 use js_text::text::Text;
 use js_text::value::Value;
+use js_world::js_crossing::leads::Lead;
+use js_world::js_machine::own::Own;
+use js_world::js_machine::package::{Module, Package};
 use lava_base::ids::PartyId;
 use lava_base::list::List;
 use lava_base::memory::OutOfMemory;

@@ -4,7 +4,7 @@ use Rattle.lava_base.specs.declared.place.Place.{Place}
 use Rattle.js_fault.specs.declared.fault.SyntaxFault.TheVariants as faults
 use Rattle.js_fault.specs.declared.fault.SyntaxWhat.{SyntaxWhat}
 use Rattle.js_lower_table.specs.Table.{source_template_of}
-use Rattle.js_parser.specs.Trees.{IsModuleOf}
+use Rattle.js_program.specs.js_parser.Trees.{IsModuleOf}
 use Rattle.js_term.specs.declared.term.Template.{Template}
 use Rattle.js_program.specs.Programs.{HasProgram, IsProgram, IsProgramFault}
 use Rattle.js_reader.specs.Reading.{IsRefusal}

@@ -5,7 +5,7 @@ use Rattle.js_fault.specs.declared.fault.SyntaxFault.{SyntaxFault}
 use Rattle.js_fault.specs.declared.fault.SyntaxFault.TheVariants as fault
 use Rattle.js_fault.specs.declared.fault.SyntaxWhat.{SyntaxWhat}
 use Rattle.js_fault.specs.declared.fault.SyntaxWhat.TheVariants as what
-use Rattle.js_parser.specs.Trees.{IsModuleOf}
+use Rattle.js_program.specs.js_parser.Trees.{IsModuleOf}
 use Rattle.js_program.specs.Programs.{IsProgram, HasProgram, IsProgramFault, HasProgramCause}
 use Rattle.js_reader.specs.Reading.{IsRefusal}
 use Rattle.js_tree.specs.declared.tree.Module.{Module as Tree}

@@ -17,3 +17,7 @@ pub mod paths;
 pub mod prelude;
 mod templates;
 pub mod text;
+
+pub use js_lower;
+pub use js_program;
+pub use js_program::js_parser;

@@ -3,13 +3,13 @@
 use crate::fault::Fault;
 use crate::names::push_name;
 use crate::refusals::push_named_refusal;
-use js_parser::parse::parse_source;
 use js_scope::finding::{Binding, Finding, NameUse};
 use js_scope::free_paths::{FreePath, free_paths};
 use js_scope::requests::requests;
 use js_scope::resolve::{Resolved, resolve};
 use js_text::text::Text;
 use js_tree::tree::{Module, SourceKind};
+use ses_prelude::js_parser::parse::parse_source;
 use std::alloc::{AllocError, Global};
 
 /// `scope SOURCE`: its free paths, its requests and the declared names that it uses, or the refusal.

@@ -14,10 +14,10 @@ use self::statements::{
 use self::tasks::{Task, Tasks};
 use crate::fault::Fault;
 use crate::refusals::push_refusal;
-use js_parser::parse::discard;
-use js_program::program::read_program;
 use js_text::text::Text;
 use js_tree::tree::{Module, SourceKind};
+use ses_prelude::js_parser::parse::discard;
+use ses_prelude::js_program::program::read_program;
 use std::alloc::{AllocError, Global};
 
 /// `tree SOURCE`: its tree, or the refusal.

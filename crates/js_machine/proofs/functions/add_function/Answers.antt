@@ -3,7 +3,7 @@ use Rattle.js_text.specs.declared.value.Key.TheVariants as key
 use Rattle.js_desc.specs.declared.descriptor.Change.TheVariants as change
 use Rattle.js_desc.specs.declared.descriptor.Descriptor.TheVariants.{Data}
 use Rattle.js_store.specs.Objects.{fresh}
-use Rattle.js_run.specs.Functions.{function_marks}
+use Rattle.js_operation.specs.js_run.Functions.{function_marks}
 use Rattle.js_machine.proofs.Created.{written_last}
 use Rattle.js_machine.proofs.functions.add_function.Goals as goal
 

@@ -1,7 +1,7 @@
 use Rattle.std.proofs.Common.{◌∙◌, sym, ap}
 use Rattle.js_text.specs.Naming.{naming_of}
 use Rattle.js_ordinary.specs.Targets.{object_seen}
-use Rattle.js_run.specs.Functions.{items_from, length_read, own_data}
+use Rattle.js_machine.specs.js_run.Functions.{items_from, length_read, own_data}
 use Rattle.js_machine_calls.proofs.listed_arguments.item_count.Goals as goal
 
 pub returns : goal.returns

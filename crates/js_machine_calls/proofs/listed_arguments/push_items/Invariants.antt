@@ -1,7 +1,7 @@
 use Rattle.std.proofs.Common.{◌≡◌, ◌++◌, reverse}
 use Rattle.js_text.specs.Naming.{naming_of}
 use Rattle.js_ordinary.specs.Targets.{object_seen}
-use Rattle.js_run.specs.Functions.{items_from}
+use Rattle.js_machine.specs.js_run.Functions.{items_from}
 use Rattle.js_machine_calls.proofs.listed_arguments.push_items.Given as goal
 
 abbrev pub invariant-loop-at : goal.invariant-loop-at

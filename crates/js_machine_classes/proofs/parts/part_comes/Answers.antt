@@ -1,5 +1,5 @@
 use Rattle.js_code.specs.declared.node.PartRow.TheVariants as part_row
-use Rattle.js_run.specs.Parts.{holder}
+use Rattle.js_machine.specs.js_run.Parts.{holder}
 use Rattle.js_machine.specs.Parts.{holders_of}
 use Rattle.js_machine.specs.declared.holding.FunctionPart.TheVariants as function_part
 use Rattle.js_machine_classes.proofs.Parted.{at_home, row_comes}

@@ -2,8 +2,8 @@ use Rattle.std.proofs.Common.{refl, true, []}
 use Rattle.js_text.specs.Naming.{naming_of}
 use Rattle.js_desc.specs.declared.descriptor.Change.TheVariants as change
 use Rattle.js_desc.specs.declared.descriptor.Descriptor.TheVariants.{Data}
-use Rattle.js_run.specs.Functions.{plain_object}
-use Rattle.js_run.specs.Modules.{exports_key}
+use Rattle.js_machine.specs.js_run.Functions.{plain_object}
+use Rattle.js_machine.specs.js_run.Modules.{exports_key}
 use Rattle.js_machine.proofs.Created.{written_last}
 use Rattle.js_machine_modules.proofs.modules.add_module.Goals as goal
 

@@ -1,5 +1,5 @@
 use Rattle.std.proofs.Common.{◌<◌, ◌≤◌, ap, arith}
-use Rattle.js_run.specs.declared.TheConstants.{MAX_DEPTH}
+use Rattle.js_machine.specs.js_run.declared.TheConstants.{MAX_DEPTH}
 use Rattle.js_machine.specs.Views.{View}
 use Rattle.js_machine_modules.proofs.Evaluates.{denied, imported, no_room}
 use Rattle.js_machine_modules.proofs.modules.import_over.Goals as goal

@@ -1,7 +1,7 @@
 use Rattle.std.proofs.Common.{◌∙◌, sym}
 use Rattle.js_text.specs.Naming.{naming_of}
-use Rattle.js_run.specs.Modules.{throws_plain_error}
-use Rattle.js_run.specs.Requests.{is_link, not_found_text}
+use Rattle.js_machine.specs.js_run.Modules.{throws_plain_error}
+use Rattle.js_machine.specs.js_run.Requests.{is_link, not_found_text}
 use Rattle.js_machine.specs.Evaluated.{imports_over}
 use Rattle.js_machine.specs.Views.{party_of}
 use Rattle.js_machine.proofs.Chosen.{when}

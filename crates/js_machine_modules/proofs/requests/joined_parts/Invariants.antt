@@ -1,6 +1,6 @@
 -- The path so far, and what is left of the parts.
 use Rattle.std.proofs.Common.{◌≡◌, ◌++◌, drop}
-use Rattle.js_run.specs.Requests.{joined_parts}
+use Rattle.js_machine.specs.js_run.Requests.{joined_parts}
 use Rattle.js_machine_modules.proofs.Requested.{joined_on}
 use Rattle.js_machine_modules.proofs.requests.joined_parts.Given as goal
 

@@ -1,6 +1,6 @@
 -- What is left of the parts leads on.
 use Rattle.std.proofs.Common.{◌≡◌, drop, Some}
-use Rattle.js_run.specs.Requests.{walked}
+use Rattle.js_machine.specs.js_run.Requests.{walked}
 use Rattle.js_machine_modules.proofs.requests.walked.Given as goal
 
 abbrev pub invariant-loop-part : goal.invariant-loop-part

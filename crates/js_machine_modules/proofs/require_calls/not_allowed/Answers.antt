@@ -1,7 +1,7 @@
 use Rattle.std.proofs.Common.{◌∙◌, subst, IfOk}
 use Rattle.js_text.specs.Naming.{naming_of}
-use Rattle.js_run.specs.Modules.{throws_plain_error}
-use Rattle.js_run.specs.Requests.{not_allowed_text}
+use Rattle.js_machine.specs.js_run.Modules.{throws_plain_error}
+use Rattle.js_machine.specs.js_run.Requests.{not_allowed_text}
 use Rattle.js_machine.specs.Steps.{LeadsTo}
 use Rattle.js_machine.specs.Views.{party_of}
 use Rattle.js_machine_modules.proofs.require_calls.not_allowed.Goals as goal

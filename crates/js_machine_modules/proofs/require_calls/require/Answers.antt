@@ -1,7 +1,7 @@
 use Rattle.std.proofs.Common.{◌∙◌, sym, ap, if◌then◌else◌, slice_get}
 use Rattle.js_text.specs.Naming.{naming_of}
-use Rattle.js_run.specs.Modules.{requires_builtin, requires_package, requires_path}
-use Rattle.js_run.specs.Requests.{first_part, is_builtin, is_dots, is_relative, link_of, parts_of}
+use Rattle.js_machine.specs.js_run.Modules.{requires_builtin, requires_package, requires_path}
+use Rattle.js_machine.specs.js_run.Requests.{first_part, is_builtin, is_dots, is_relative, link_of, parts_of}
 use Rattle.js_machine.specs.Requested.{module_path}
 use Rattle.js_machine.specs.Views.{party_of}
 use Rattle.js_machine.proofs.Chosen.{when}

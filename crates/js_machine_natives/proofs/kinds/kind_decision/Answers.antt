@@ -1,8 +1,8 @@
 use Rattle.std.proofs.Common.{◌≡◌, IfOk, ap, ◌∙◌, subst}
 use Rattle.lava_base.specs.declared.ids.PartyId.{PartyId}
 use Rattle.js_text.specs.Naming.{naming_of}
-use Rattle.js_maker_natives.specs.Kinds.{class_of}
-use Rattle.js_operations.specs.Looks.{marks_seen}
+use Rattle.js_machine.specs.js_maker_natives.Kinds.{class_of}
+use Rattle.js_machine.specs.js_operations.Looks.{marks_seen}
 use Rattle.js_machine.specs.Proxying.{known_if}
 use Rattle.js_machine.specs.SlotAsks.{first_object}
 use Rattle.js_machine.specs.Views.{View}

@@ -1,8 +1,8 @@
 use Rattle.std.proofs.Common.{Some, None}
 use Rattle.js_text.specs.Naming.{naming_of}
 use Rattle.js_desc.specs.declared.decision.Decision.TheVariants as decision
-use Rattle.js_native_steps.specs.Steps.{waits_as}
-use Rattle.js_run.specs.NativeTurns.{follows_native}
+use Rattle.js_machine.specs.js_native_steps.Steps.{waits_as}
+use Rattle.js_machine.specs.js_run.NativeTurns.{follows_native}
 use Rattle.js_machine.specs.Views.{party_of}
 use Rattle.js_machine.proofs.In_cases.{in_case}
 use Rattle.js_machine_natives.proofs.natives.ask_native.Goals as goal

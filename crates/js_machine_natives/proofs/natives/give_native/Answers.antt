@@ -1,5 +1,5 @@
 use Rattle.js_desc.specs.declared.reply.Reply.TheVariants as reply
-use Rattle.js_run.specs.NativeTurns.{native_gives}
+use Rattle.js_machine.specs.js_run.NativeTurns.{native_gives}
 use Rattle.js_machine.specs.Views.{party_of}
 use Rattle.js_machine.proofs.In_cases.{in_case}
 use Rattle.js_machine_natives.proofs.natives.give_native.Goals as goal

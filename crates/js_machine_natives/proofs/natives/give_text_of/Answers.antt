@@ -1,6 +1,6 @@
 use Rattle.std.proofs.Common.{◌∙◌, sym, true, false}
 use Rattle.js_native.specs.Costs.{makes_text}
-use Rattle.js_run.specs.NativeTurns.{gives_text}
+use Rattle.js_machine.specs.js_run.NativeTurns.{gives_text}
 use Rattle.js_machine.specs.Views.{party_of}
 use Rattle.js_machine.proofs.In_cases.{in_case}
 use Rattle.js_machine_natives.proofs.natives.give_text_of.Goals as goal

@@ -1,8 +1,8 @@
 use Rattle.std.proofs.Common.{◌≡◌, IfOk, ap, ◌∙◌, subst}
 use Rattle.lava_base.specs.declared.ids.PartyId.{PartyId}
 use Rattle.js_text.specs.Naming.{naming_of}
-use Rattle.js_operations.specs.Looks.{marks_seen}
-use Rattle.js_proxy.specs.Decided.{resumed}
+use Rattle.js_machine.specs.js_operations.Looks.{marks_seen}
+use Rattle.js_machine.specs.js_proxy.Decided.{resumed}
 use Rattle.js_machine.specs.Proxying.{known_if}
 use Rattle.js_machine.specs.Views.{View}
 use Rattle.js_machine_natives.proofs.Proxied_laws.{Says, next_knowing}

@@ -1,7 +1,7 @@
 use Rattle.std.proofs.Common.{◌≡◌, IfOk, ap, ◌∙◌, subst}
 use Rattle.lava_base.specs.declared.ids.PartyId.{PartyId}
 use Rattle.js_text.specs.Naming.{naming_of}
-use Rattle.js_proxy.specs.Decided.{decided}
+use Rattle.js_machine.specs.js_proxy.Decided.{decided}
 use Rattle.js_machine.specs.Proxying.{known_if}
 use Rattle.js_machine.specs.Views.{View}
 use Rattle.js_machine_natives.proofs.Proxied_laws.{decided_knowing}

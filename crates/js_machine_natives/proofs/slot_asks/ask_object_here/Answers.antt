@@ -1,6 +1,6 @@
 use Rattle.std.proofs.Common.{◌≡◌, true, false, arith, refl}
 use Rattle.js_text.specs.declared.value.Value.TheVariants as value
-use Rattle.js_native_steps.specs.Steps.{waits_as}
+use Rattle.js_machine.specs.js_native_steps.Steps.{waits_as}
 use Rattle.js_machine_natives.specs.Telling.{wait_of}
 use Rattle.js_machine_natives.proofs.Slot_asked.{tells_opened, tells_too_deep}
 use Rattle.js_machine_natives.proofs.slot_asks.ask_object_here.Goals as goal

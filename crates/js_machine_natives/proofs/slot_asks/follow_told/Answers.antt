@@ -1,6 +1,6 @@
 use Rattle.std.proofs.Common.{ap}
 use Rattle.js_desc.specs.declared.decision.Decision.TheVariants as decision
-use Rattle.js_native_steps.specs.Steps.{waits_as}
+use Rattle.js_machine.specs.js_native_steps.Steps.{waits_as}
 use Rattle.js_machine_natives.specs.Telling.{wait_of}
 use Rattle.js_machine_natives.proofs.Slot_asked.{told_done, told_fault, told_by}
 use Rattle.js_machine_natives.proofs.slot_asks.follow_told.Goals as goal

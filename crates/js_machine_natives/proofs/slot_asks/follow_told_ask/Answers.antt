@@ -1,4 +1,4 @@
-use Rattle.js_native_steps.specs.Steps.{waits_as}
+use Rattle.js_machine.specs.js_native_steps.Steps.{waits_as}
 use Rattle.js_machine_natives.specs.Telling.{wait_of}
 use Rattle.js_machine_natives.proofs.Slot_asked.{a_target, no_target}
 use Rattle.js_machine_natives.proofs.slot_asks.follow_told_ask.Goals as goal

@@ -1,9 +1,9 @@
 use Rattle.std.proofs.Common.{◌≡◌, IfOk, ap, ◌∙◌, subst}
 use Rattle.lava_base.specs.declared.ids.PartyId.{PartyId}
 use Rattle.js_text.specs.Naming.{naming_of}
-use Rattle.js_maker_natives.specs.Kinds.{is_array}
-use Rattle.js_operations.specs.Looks.{marks_seen}
-use Rattle.js_slot_natives.specs.SlotNatives.{slot_native}
+use Rattle.js_machine.specs.js_maker_natives.Kinds.{is_array}
+use Rattle.js_machine.specs.js_operations.Looks.{marks_seen}
+use Rattle.js_machine.specs.js_slot_natives.SlotNatives.{slot_native}
 use Rattle.js_machine.specs.Proxying.{known_if}
 use Rattle.js_machine.specs.Views.{View}
 use Rattle.js_machine_natives.proofs.Slot_asked.{array_step, collection_step}

@@ -1,4 +1,4 @@
-use Rattle.js_native_steps.specs.Steps.{waits_as}
+use Rattle.js_machine.specs.js_native_steps.Steps.{waits_as}
 use Rattle.js_machine_natives.specs.Telling.{wait_of}
 use Rattle.js_machine_natives.proofs.Slot_asked.{told_by_none, told_by_proxy, told_by_table}
 use Rattle.js_machine_natives.proofs.slot_asks.tell_slot.Goals as goal

@@ -1,5 +1,5 @@
 use Rattle.std.proofs.Common.{ap}
-use Rattle.js_native_steps.specs.Steps.{waits_as}
+use Rattle.js_machine.specs.js_native_steps.Steps.{waits_as}
 use Rattle.js_machine_natives.specs.Telling.{wait_of}
 use Rattle.js_machine_natives.proofs.Slot_asked.{other_next, told_waits}
 use Rattle.js_machine_natives.proofs.slot_asks.wait_told.Goals as goal

@@ -1,4 +1,4 @@
-use Rattle.js_run.specs.Operators.{binary_value}
+use Rattle.js_machine.specs.js_run.Operators.{binary_value}
 use Rattle.js_machine.proofs.Operated.{does_so}
 use Rattle.js_machine_operators.proofs.operators.binary.Goals as goal
 

@@ -1,5 +1,5 @@
 use Rattle.js_text.specs.Naming.{naming_of}
-use Rattle.js_operation.specs.Deeds.{look_deed}
+use Rattle.js_machine.specs.js_operation.Deeds.{look_deed}
 use Rattle.js_machine.specs.Views.{party_of}
 use Rattle.js_machine.proofs.Operated.{seen_callable}
 use Rattle.js_machine_operators.proofs.operators.look_at.Goals as goal

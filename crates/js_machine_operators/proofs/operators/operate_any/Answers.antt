@@ -1,6 +1,6 @@
 use Rattle.std.proofs.Common.{IfOk, subst, sym}
 use Rattle.js_text.specs.Naming.{naming_of}
-use Rattle.js_operation.specs.Deeds.{act_of}
+use Rattle.js_machine.specs.js_operation.Deeds.{act_of}
 use Rattle.js_machine.specs.Steps.{LeadsTo}
 use Rattle.js_machine.specs.Views.{party_of}
 use Rattle.js_machine_operators.proofs.operators.operate_any.Goals as goal

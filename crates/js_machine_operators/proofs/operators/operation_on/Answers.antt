@@ -1,8 +1,8 @@
 use Rattle.std.proofs.Common.{rules, IfOk, sym, subst, w64}
 use Rattle.std.proofs.lemmas.Int.{to_z-of_z}
 use Rattle.js_text.specs.declared.value.Value.TheVariants as value
-use Rattle.js_run.specs.Operators.{binary_value}
-use Rattle.js_operation.specs.Deeds.{Does}
+use Rattle.js_machine.specs.js_run.Operators.{binary_value}
+use Rattle.js_machine.specs.js_operation.Deeds.{Does}
 use Rattle.js_machine_operators.proofs.operators.operation_on.Goals as goal
 
 pub returns-in-Int : goal.returns-in-Int

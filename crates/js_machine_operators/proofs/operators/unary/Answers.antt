@@ -1,4 +1,4 @@
-use Rattle.js_run.specs.Operators.{unary_value}
+use Rattle.js_machine.specs.js_run.Operators.{unary_value}
 use Rattle.js_machine.proofs.Operated.{does_so}
 use Rattle.js_machine_operators.proofs.operators.unary.Goals as goal
 

@@ -1,6 +1,6 @@
 use Rattle.std.proofs.Common.{IfOk, subst}
 use Rattle.js_text.specs.Naming.{naming_of}
-use Rattle.js_exotic.specs.Decided.{exotic_resumed}
+use Rattle.js_machine.specs.js_exotic.Decided.{exotic_resumed}
 use Rattle.js_machine.specs.Views.{View}
 use Rattle.js_machine.proofs.Followed.{Says}
 use Rattle.js_machine_run.proofs.decisions.next_decision.Goals as goal

@@ -1,6 +1,6 @@
 use Rattle.std.proofs.Common.{IfOk, subst}
 use Rattle.js_text.specs.Naming.{naming_of}
-use Rattle.js_exotic.specs.Decided.{decided}
+use Rattle.js_machine.specs.js_exotic.Decided.{decided}
 use Rattle.js_machine.specs.Views.{View}
 use Rattle.js_machine.proofs.Followed.{Says}
 use Rattle.js_machine_run.proofs.decisions.table_decision.Goals as goal

@@ -1,6 +1,6 @@
 use Rattle.js_text.specs.Naming.{naming_of}
-use Rattle.js_run.specs.Completions.{Replied}
-use Rattle.js_run.specs.Going.{go_on}
+use Rattle.js_machine.specs.js_run.Completions.{Replied}
+use Rattle.js_machine.specs.js_run.Going.{go_on}
 use Rattle.js_machine.specs.Views.{next_of_wait, next_of_want, party_of}
 use Rattle.js_machine.specs.declared.asked.Wait.TheVariants as wait
 use Rattle.js_machine.proofs.In_cases.{in_case}

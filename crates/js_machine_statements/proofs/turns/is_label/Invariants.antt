@@ -1,6 +1,6 @@
 use Rattle.std.proofs.Common.{◌≡◌, drop}
 use Rattle.js_code.specs.Decoded.{text_at}
-use Rattle.js_run.specs.Acts.{is_label}
+use Rattle.js_machine.specs.js_run.Acts.{is_label}
 use Rattle.js_machine_statements.proofs.Turned.{labels_at}
 use Rattle.js_machine_statements.proofs.turns.is_label.Given as goal
 

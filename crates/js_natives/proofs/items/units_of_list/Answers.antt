@@ -1,5 +1,5 @@
 use Rattle.js_text.specs.Naming.{naming_of}
-use Rattle.js_operations.specs.Lists.{list_items}
+use Rattle.js_run_laws.specs.js_operations.Lists.{list_items}
 use Rattle.js_natives.proofs.Item_lists.{units_listed}
 use Rattle.js_natives.proofs.items.units_of_list.Goals as goal
 

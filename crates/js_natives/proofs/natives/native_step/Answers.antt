@@ -1,6 +1,6 @@
 use Rattle.std.proofs.Common.{sym, ◌∙◌}
 use Rattle.js_text.specs.Naming.{naming_of}
-use Rattle.js_operations.specs.Looks.{marks_seen}
+use Rattle.js_run_laws.specs.js_operations.Looks.{marks_seen}
 use Rattle.js_natives.specs.Families.{family_of}
 use Rattle.js_natives.proofs.Step_laws.{converts_taken, texts_taken}
 use Rattle.js_natives.proofs.natives.native_step.Goals as goal

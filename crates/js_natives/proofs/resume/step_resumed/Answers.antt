@@ -1,5 +1,5 @@
 use Rattle.js_text.specs.Naming.{naming_of}
-use Rattle.js_operations.specs.Looks.{marks_seen}
+use Rattle.js_run_laws.specs.js_operations.Looks.{marks_seen}
 use Rattle.js_natives.proofs.Resumed_laws.{conversion_taken, maker_taken, object_taken}
 use Rattle.js_natives.proofs.resume.step_resumed.Goals as goal
 

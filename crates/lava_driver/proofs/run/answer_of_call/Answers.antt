@@ -1,7 +1,7 @@
 use Rattle.std.proofs.Common.{◌≡◌, ap, sym, ◌∙◌, arith}
 use Rattle.std.specs.Option.{option_copied}
-use Rattle.js_machine.specs.Outsides.{newest_call}
-use Rattle.js_machine.specs.Views.{View}
+use Rattle.js_world.specs.js_machine.Outsides.{newest_call}
+use Rattle.js_world.specs.js_machine.Views.{View}
 use Rattle.lava_driver.proofs.Underway.{host_talked}
 use Rattle.lava_driver.proofs.run.answer_of_call.Goals as goal
 

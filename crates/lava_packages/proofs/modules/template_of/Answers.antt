@@ -1,5 +1,5 @@
 use Rattle.std.proofs.Common.{◌≡◌, IfOk, ap, sym, subst}
-use Rattle.js_lower.specs.Helpers.{json_template}
+use Rattle.ses_prelude.specs.js_lower.Helpers.{json_template}
 use Rattle.lava_packages.specs.Modules.{template_of}
 use Rattle.lava_packages.proofs.modules.template_of.Goals as goal
 

@@ -4,8 +4,8 @@ use Rattle.js_desc.specs.declared.descriptor.Descriptor.TheVariants.{Data}
 use Rattle.js_store.specs.Frozen.{common_ref}
 use Rattle.js_store.specs.Objects.{fresh, not_extensible}
 use Rattle.js_store.specs.declared.slot.Slot.TheVariants as slot
-use Rattle.js_run.specs.Functions.{function_marks}
-use Rattle.js_run.specs.declared.intrinsics.TheConstants.{FUNCTION_PROTOTYPE}
+use Rattle.js_world.specs.js_run.Functions.{function_marks}
+use Rattle.js_world.specs.js_run.declared.intrinsics.TheConstants.{FUNCTION_PROTOTYPE}
 use Rattle.lava_start.specs.Making.{with_named}
 use Rattle.lava_start.proofs.Made_laws.{Last, changed}
 use Rattle.lava_start.proofs.host.put_function.Goals as goal

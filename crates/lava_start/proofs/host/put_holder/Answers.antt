@@ -2,7 +2,7 @@ use Rattle.std.proofs.Common.{Some}
 use Rattle.js_store.specs.Frozen.{common_ref}
 use Rattle.js_store.specs.Objects.{fresh, not_extensible, plain_marks}
 use Rattle.js_store.specs.declared.slot.Slot.TheVariants as slot
-use Rattle.js_run.specs.declared.intrinsics.TheConstants.{OBJECT_PROTOTYPE}
+use Rattle.js_world.specs.js_run.declared.intrinsics.TheConstants.{OBJECT_PROTOTYPE}
 use Rattle.lava_start.specs.Making.{Thing, with_host_member}
 use Rattle.lava_start.proofs.Made_laws.{Last, changed}
 use Rattle.lava_start.proofs.host.put_holder.Goals as goal

@@ -1,6 +1,6 @@
 use Rattle.js_desc.specs.declared.decision.EndKind.TheVariants as end
-use Rattle.js_run.specs.Acts.{End}
-use Rattle.js_run.specs.Following.{halt_of}
+use Rattle.js_operation.specs.js_run.Acts.{End}
+use Rattle.js_operation.specs.js_run.Following.{halt_of}
 use Rattle.js_machine.proofs.In_cases.{in_case}
 use Rattle.js_machine.proofs.machine.Machine.end_as.Goals as goal
 

@@ -1,6 +1,6 @@
 use Rattle.std.proofs.Common.{◌<◌, ◌≤◌, ap, Some, arith}
 use Rattle.js_code.specs.Decoded.{term_at}
-use Rattle.js_run.specs.declared.TheConstants.{MAX_DEPTH}
+use Rattle.js_operation.specs.js_run.declared.TheConstants.{MAX_DEPTH}
 use Rattle.js_machine.specs.Bodies.{running_of}
 use Rattle.js_machine.specs.Views.{View}
 use Rattle.js_machine.proofs.Ran.{opens, too_deep}

@@ -1,6 +1,6 @@
 use Rattle.std.proofs.Common.{◌≡◌, ◌-◌, ◌++◌, None, replicate, take}
 use Rattle.js_code.specs.Tables.{part_of}
-use Rattle.js_run.specs.Functions.{other_slots}
+use Rattle.js_operation.specs.js_run.Functions.{other_slots}
 use Rattle.js_machine.specs.Filling.{with_open_scope}
 use Rattle.js_machine.proofs.machine.Machine.open_slots.Given as goal
 
