@@ -1,0 +1,16 @@
+pub mod Ask_laws
+pub mod Clean_laws
+pub mod Course_laws
+pub mod Crossing_laws
+pub mod Field_laws
+pub mod Line_laws
+pub mod List_laws
+pub mod Name_laws
+pub mod Number_laws
+pub mod Piece_laws
+pub mod Round_laws
+pub mod Sequence_laws
+pub mod Span_laws
+pub mod Text_laws
+pub mod Trip_laws
+pub mod Value_laws
