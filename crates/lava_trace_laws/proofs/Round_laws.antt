@@ -168,3 +168,9 @@ written_is_read t o =
     ap (λ bs. reading_of bs) (sym (text_joined t))
     ∙ ap (λ (c : Cut). reading_from nothing_said 1 c.lines c.rest) (cut_joined (line_list t) (lines_are_lines t o))
     ∙ lines_tell t o 1
+
+one_reading : (t u : Trace) → A_trace t ≡ A_trace u → t ≡ u
+one_reading t u h = cc
+
+pub one_text : (t u : Trace) → IsLawful t → IsLawful u → text_of t ≡ text_of u → t ≡ u
+one_text t u o p h = one_reading t u (sym (written_is_read t o) ∙ ap (λ bs. reading_of bs) h ∙ written_is_read u p)

@@ -16,7 +16,7 @@ use Rattle.lava_trace.specs.declared.answers.AnswerKind.{AnswerKind}
 use Rattle.lava_trace.specs.declared.line.Trace.{Trace}
 use Rattle.lava_trace_laws.specs.Sound.{Sound_crossing, Sound_value}
 use Rattle.lava_trace_laws.specs.Spelled.{HaveNames, Listed, Reads, at, passed, start_of}
-use Rattle.lava_trace_laws.specs.Written.{IsLawful, text_of}
+use Rattle.lava_trace_laws.specs.Written.{IsLawful, IsPutTogether, text_of}
 
 -- a number is read as it was written
 abbrev pub Numbers_are_read : Type 0
@@ -37,3 +37,11 @@ Crossings_are_read =
 -- own: the text of a trace tells it
 abbrev pub Written_is_read : Type 0
 Written_is_read = (t : Trace) → IsLawful t → reading_of (text_of t) ≡ A_trace t
+
+-- so two traces that may be told and have one text are one
+abbrev pub One_text_one_trace : Type 0
+One_text_one_trace = (t u : Trace) → IsLawful t → IsLawful u → text_of t ≡ text_of u → t ≡ u
+
+-- the other way round: a text that is read as a trace is the lines of this trace, put together, where each crossing is written under some marks
+abbrev pub Read_was_written : Type 0
+Read_was_written = (bytes : List ℕ) (t : Trace) → reading_of bytes ≡ A_trace t → IsPutTogether t bytes

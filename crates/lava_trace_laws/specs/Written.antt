@@ -1,5 +1,5 @@
 -- A trace that is written, and when what it says may stand there.
-use Rattle.std.specs.Prelude.{◌≡◌, ℕ, ◌+◌, ◌<◌, ◌≤◌, ◌^◌, true, List, [], ◌∷◌, ◌++◌, length, sum, if◌then◌else◌, ⊤}
+use Rattle.std.specs.Prelude.{◌≡◌, ℕ, ◌+◌, ◌<◌, ◌≤◌, ◌^◌, true, List, [], ◌∷◌, ◌++◌, length, map, sum, if◌then◌else◌, ⊤}
 use Rattle.js_text.specs.Texts.{utf8_of}
 use Rattle.js_text.specs.Utf8.{units_of}
 use Rattle.lava_journal.specs.Bodies.{body_pieces}
@@ -11,7 +11,7 @@ use Rattle.lava_trace.specs.declared.left.TheConstants.{MAX_PARTY}
 use Rattle.lava_trace.specs.declared.line.Trace.{Trace}
 use Rattle.lava_trace.specs.declared.line.TraceLine.{TraceLine}
 use Rattle.lava_trace_laws.specs.Sound.{IsText, Sound_crossing}
-use Rattle.lava_trace_laws.specs.Spelled.{HaveMarks, HaveNames, marks_in}
+use Rattle.lava_trace_laws.specs.Spelled.{HaveMarks, HaveNames, Listed, marks_in}
 
 -- THE TEXT
 
@@ -77,3 +77,17 @@ pub record IsLawful (t : Trace) : Type 0 where
   pub total : sum t.steps < 2 ^ 64
   -- the party that the ending names has steps
   pub ending : HasSteps t.steps t.ending
+
+-- WHAT WAS READ
+
+-- the lines of crossings from a number on, each with the marks under which it is written
+abbrev pub marked_lines : TraceNames → ℕ → List (TraceLine × Listed) → List ℕ
+marked_lines names number [] = []
+marked_lines names number (e ∷ es) =
+    (crossing_line names number e.0.crossing e.1).text ++ marked_lines (crossing_line names number e.0.crossing e.1).names (number + 1) es
+
+-- bytes are the lines of a trace, put together: its start, its crossings from 1 on, each under some marks, and its end
+pub record IsPutTogether (t : Trace) (bytes : List ℕ) : Type 0 where
+  pub told : List (TraceLine × Listed)
+  pub lines : map (λ e. e.0) told ≡ t.lines
+  pub text : bytes ≡ start_text t.parties ++ (marked_lines no_names 1 told ++ end_text t.steps t.ending)

@@ -1,10 +1,10 @@
-//! The round trip of traces: the text that is written of a trace is read as this trace. Laws alone: the crate has no code that runs.
+//! The round trip of traces: the text that is written of a trace is read as this trace, and what is read as a trace is its lines, put together. Laws alone: the crate has no code that runs.
 //!
 //! - `Sound` says what can be written, `Written` what a trace may say and its text, `Spelled` what is written of pieces and what is read of them.
 //! - `Laws` has the statements, from one number to a whole trace.
 #![tactic(auto)]
 
-ghost use Rattle.lava_trace_laws.specs.Laws.{Crossings_are_read, Numbers_are_read, Values_are_read, Written_is_read};
+ghost use Rattle.lava_trace_laws.specs.Laws.{Crossings_are_read, Numbers_are_read, One_text_one_trace, Read_was_written, Values_are_read, Written_is_read};
 
 /// A number is read as it was written.
 #[tactic(none)]
@@ -28,4 +28,16 @@ pub fn crossings_are_read()
 #[tactic(none)]
 pub fn written_is_read()
     ensures { Written_is_read }
+{}
+
+/// Two traces that may be told and have one text are one.
+#[tactic(none)]
+pub fn one_text_one_trace()
+    ensures { One_text_one_trace }
+{}
+
+/// A text that is read as a trace is the lines of this trace, put together.
+#[tactic(none)]
+pub fn read_was_written()
+    ensures { Read_was_written }
 {}
