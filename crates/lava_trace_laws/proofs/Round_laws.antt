@@ -19,7 +19,7 @@ use Rattle.lava_trace_laws.specs.Written.{IsLawful, MayBegin, MayGoOn, crossing_
 use Rattle.lava_trace_laws.proofs.Clean_laws.{clean, clean_append, number_clean, spelled_clean, text_clean}
 use Rattle.lava_trace_laws.proofs.Course_laws.{line_text, sum_cons, told_pieces}
 use Rattle.lava_trace_laws.proofs.Piece_laws.{crossing_clean}
-use Rattle.lava_trace_laws.proofs.Trip_laws.{crossing_list, last_list, line_list, lines_tell, party_list, steps_list}
+use Rattle.lava_trace_laws.proofs.Trip_laws.{crossing_list, few_steps, last_list, line_list, lines_tell, party_list, steps_list}
 
 -- LINES
 
@@ -159,7 +159,7 @@ lines_are_lines t o = (
   record { front = codes "lava-trace 1"; clean = refl; whole = refl },
   are_append (party_list 0 t.parties) _ (parties_are_lines [] t.parties o.parties)
       (are_append (crossing_list no_names 1 t.lines) _ (crossings_are_lines (length t.parties) [] no_names 1 t.lines o.lines)
-      (are_append (steps_list 0 t.steps) _ (steps_are_lines 0 t.steps (omega (arith, o.few)) o.total) (end_is_line t.steps t.ending o.ending o.few o.total))),
+      (are_append (steps_list 0 t.steps) _ (steps_are_lines 0 t.steps (let few = few_steps t o in omega (arith, few)) o.total) (end_is_line t.steps t.ending o.ending (few_steps t o) o.total))),
 )
 
 -- the text of a lawful trace is read as this trace

@@ -1,10 +1,11 @@
 -- The lines of a trace, one after the other, are read as this trace.
-use Rattle.std.proofs.Common.{◌≡◌, ℕ, ◌+◌, ◌<◌, ◌≤◌, ◌^◌, Bool, true, ◌&&◌, List, [], ◌∷◌, ◌++◌, codes, length, sum, Some, None, refl, ap, sym, subst, arith, le-leb, lt-ltb, eq-eqb}
+use Rattle.std.proofs.Common.{◌≡◌, ℕ, ◌+◌, ◌<◌, ◌≤◌, ◌^◌, ◌==◌, Bool, true, false, ◌&&◌, not, cond, nat_le, nat_lt, List, [], ◌∷◌, ◌++◌, codes, length, sum, Some, None, refl, ap, sym, subst, arith, le-leb, leb-true, lt-ltb, eq-eqb}
+use Rattle.std.proofs.lemmas.Bool.{and_parts}
 use Rattle.std.proofs.lemmas.List.{append_assoc, append-nil, length_push}
 use Rattle.js_desc.specs.declared.ending.Ending.{Ending}
 use Rattle.lava_journal.specs.Lines.{HasSteps, ending_text, party_line, steps_line}
 use Rattle.lava_journal.specs.Sheets.{TraceNames, no_names}
-use Rattle.lava_trace.specs.Courses.{Course, nothing_said, opened, opens, with_first, with_line_more}
+use Rattle.lava_trace.specs.Courses.{Course, is_make, may_cross, nothing_said, opened, opens, with_first, with_line_more}
 use Rattle.lava_trace.specs.Traces.{reading_from}
 use Rattle.lava_trace.specs.declared.answers.AnswerKind.{AnswerKind}
 use Rattle.lava_trace.specs.declared.left.TheConstants.{MAX_PARTY}
@@ -93,6 +94,35 @@ first_taken : with_line_more nothing_said (codes "lava-trace 1\n") ≡ Some (beg
 unfolding with_line_more with_first
 first_taken = refl
 
+-- THERE ARE NO MORE PARTIES THAN THERE MAY BE
+
+begin_few : (before names : List (List ℕ)) → length before ≤ MAX_PARTY + 1 → MayBegin before names → length (before ++ names) ≤ MAX_PARTY + 1
+begin_few before [] few m = omega (arith, few, ap length (append-nil before))
+begin_few before (name ∷ names) few m =
+    let more = begin_few (before ++ name ∷ []) names (omega (arith, m.2, length_push before name)) m.3 in
+    omega (arith, more, ap length (append_assoc before (name ∷ []) names))
+
+made_few : (makes : Bool) (parties : ℕ) (next other : Bool) → cond makes (next && nat_le parties MAX_PARTY) other ≡ true → parties ≤ MAX_PARTY + 1 → cond makes (parties + 1) parties ≤ MAX_PARTY + 1
+made_few true parties next other h few = omega (arith, leb-true parties MAX_PARTY (and_parts next (nat_le parties MAX_PARTY) h).1)
+made_few false parties next other h few = few
+
+then_few : (parties : ℕ) (l : TraceLine) → may_cross parties l.crossing ≡ true → parties ≤ MAX_PARTY + 1 → parties_then parties l ≤ MAX_PARTY + 1
+unfolding may_cross
+then_few parties l h few =
+    let x = l.crossing in
+    made_few (is_make x.body) parties (x.to.0 == parties) (nat_lt x.to.0 parties && not (x.from.0 == x.to.0)) (and_parts (nat_lt x.from.0 parties) _ h).1 few
+
+lines_few : (parties : ℕ) (asks : List AnswerKind) (names : TraceNames) (number : ℕ) (ls : List TraceLine) → parties ≤ MAX_PARTY + 1 → MayGoOn parties asks names number ls → parties_behind parties ls ≤ MAX_PARTY + 1
+lines_few parties asks names number [] few m = few
+lines_few parties asks names number (l ∷ ls) few m =
+    lines_few (parties_then parties l) (opened asks (opens l.crossing.body)) (line_of names number l).names (number + 1) ls (then_few parties l m.0.between few) m.2
+
+pub few_steps : (t : Trace) → IsLawful t → length t.steps ≤ MAX_PARTY + 1
+few_steps t o =
+    let first = begin_few [] t.parties (omega arith) o.parties in
+    let all = lines_few (length t.parties) [] no_names 1 t.lines first o.lines in
+    omega (arith, all, o.steps)
+
 -- the lines of a lawful trace tell it
 pub lines_tell : (t : Trace) → IsLawful t → Tells nothing_said (line_list t) t
 lines_tell t o =
@@ -103,5 +133,5 @@ lines_tell t o =
     taken nothing_said (begun_with []) (codes "lava-trace 1\n") (party_list 0 t.parties ++ rest) t first_taken
     (parties_told [] t.parties rest t o.parties
     (crossings_told t.parties (length t.parties) [] no_names [] t.lines steps t o.two o.lines
-    (λ named asks. steps_told t.parties n t.lines named asks [] t.steps ends t o.two (let e : 0 + length t.steps ≡ n = omega (arith, o.steps) in e) (omega (arith, o.few, o.steps)) o.total
-    (end_told t.parties n t.lines named asks t.steps t.ending o.two o.steps o.few o.total o.ending))))
+    (λ named asks. steps_told t.parties n t.lines named asks [] t.steps ends t o.two (let e : 0 + length t.steps ≡ n = omega (arith, o.steps) in e) (let few = few_steps t o in omega (arith, few, o.steps)) o.total
+    (end_told t.parties n t.lines named asks t.steps t.ending o.two o.steps (few_steps t o) o.total o.ending))))

@@ -73,7 +73,6 @@ pub record IsLawful (t : Trace) : Type 0 where
   pub lines : MayGoOn (length t.parties) [] no_names 1 t.lines
   -- each party has its steps, which 64 bits hold together
   pub steps : length t.steps ≡ parties_behind (length t.parties) t.lines
-  pub few : length t.steps ≤ MAX_PARTY + 1
   pub total : sum t.steps < 2 ^ 64
   -- the party that the ending names has steps
   pub ending : HasSteps t.steps t.ending
