@@ -3,6 +3,7 @@ pub mod Clean_laws
 pub mod Course_laws
 pub mod Crossing_laws
 pub mod Field_laws
+pub mod First_laws
 pub mod Joined_laws
 pub mod Line_laws
 pub mod List_laws

@@ -4,6 +4,7 @@
 //! - `Laws` has the statements, from one number to a whole trace.
 #![tactic(auto)]
 
+ghost use Rattle.lava_trace_laws.specs.First.{First_trace_is_lawful};
 ghost use Rattle.lava_trace_laws.specs.Laws.{Crossings_are_read, Numbers_are_read, One_text_one_trace, Read_was_written, Values_are_read, Written_is_read};
 
 /// A number is read as it was written.
@@ -40,4 +41,10 @@ pub fn one_text_one_trace()
 #[tactic(none)]
 pub fn read_was_written()
     ensures { Read_was_written }
+{}
+
+/// The trace of an empty module may be told: what the laws ask of a trace is met.
+#[tactic(none)]
+pub fn first_trace_is_lawful()
+    ensures { First_trace_is_lawful }
 {}
