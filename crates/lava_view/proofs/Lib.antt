@@ -1,0 +1,2 @@
+pub mod Piece_laws
+pub mod View_laws
