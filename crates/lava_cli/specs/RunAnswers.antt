@@ -9,6 +9,7 @@ use Rattle.lava_streams.specs.Outside.{Outside, outside}
 use Rattle.lava_tree.specs.TreeAnswers.{TreeAnswers}
 use Rattle.lava_runner.specs.ses_prelude.Preludes.{IsPreludeFault, prelude}
 use Rattle.lava_runner.specs.lava_loading.Loads.{CountsLoading, IsLoading}
+use Rattle.lava_runner.specs.lava_report.Tells.{RunReports, ended_in}
 use Rattle.lava_runner.specs.lava_report.Words.{Asked, Runs, Trees, command_of}
 use Rattle.lava_runner.specs.lava_loading.declared.loading.LoadedApplication.{LoadedApplication}
 use Rattle.lava_runner.specs.lava_loading.declared.loading.LoadingFault.{LoadingFault}

@@ -16,7 +16,7 @@ use Rattle.pkg_load.specs.declared.module.LoadedModule.{LoadedModule}
 use Rattle.lava_packages.specs.pkg_source.declared.code.ModuleCode.{ModuleCode}
 use Rattle.policy_row.specs.Rows.{Rows}
 use Rattle.lava_packages.specs.Commons.{IsCommonPart}
-use Rattle.lava_packages.specs.Packages.{run_parts}
+use Rattle.lava_packages.specs.Packages.{IsFirstOf, party_names, run_parts}
 use Rattle.lava_driver.specs.Ran.{AreAskedIn, HasRun}
 use Rattle.lava_driver.specs.Talks.{Agrees, AreTalks, Talk, newest_failed}
 use Rattle.lava_runner.specs.Called.{AreCalledIn}
