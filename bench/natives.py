@@ -7,11 +7,11 @@ PROGRAM is the built program, crates/lava/out/lava unless given. For each native
 the nanoseconds of processor time a round, the best of three runs, from which those of the same loop without the native are taken.
 """
 import os
-import resource
 import shutil
-import subprocess
 import sys
 import tempfile
+
+from programs import best_of_three
 
 TOP = os.path.dirname(os.path.dirname(os.path.abspath(__file__)))
 LOOP = 'for (let i = 0; i < N; i++) { %s }'
@@ -32,19 +32,6 @@ CASES = [
 ]
 
 
-def seconds(words, cwd):
-    best = None
-    for _ in range(3):
-        before = resource.getrusage(resource.RUSAGE_CHILDREN)
-        ran = subprocess.run(words, cwd=cwd, capture_output=True)
-        after = resource.getrusage(resource.RUSAGE_CHILDREN)
-        spent = after.ru_utime + after.ru_stime - before.ru_utime - before.ru_stime
-        if ran.returncode != 0:
-            return None
-        best = spent if best is None else min(best, spent)
-    return best
-
-
 def main():
     program = os.path.abspath(sys.argv[1] if len(sys.argv) > 1 else os.path.join(TOP, 'crates/lava/out/lava'))
     engines = [('lava', lambda name: [program, 'run', name, '--budget', '1000000000'])]
@@ -59,7 +46,7 @@ def main():
                     it.write('"use strict"; const N = %d; %s %s' % (rounds, before, LOOP % body))
             row = []
             for _, words in engines:
-                low, high = seconds(words('without'), folder), seconds(words('with'), folder)
+                low, high = best_of_three(words('without'), folder)[1], best_of_three(words('with'), folder)[1]
                 row.append('refused' if low is None or high is None else '%.0f' % max((high - low) * 1e9 / rounds, 0))
             print('%-36s %9d' % (name, rounds) + ''.join('%10s' % it for it in row), flush=True)
 

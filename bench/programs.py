@@ -28,7 +28,8 @@ PROGRAMS = {
 CONSOLE = 'if (typeof console === "undefined") { this.console = { log: function (x) { print(x); } }; }\n'
 
 
-def seconds(words, cwd):
+def best_of_three(words, cwd):
+    """Returns the processor time of the best of three runs, in seconds; or a status other than 0, and no time."""
     best = None
     for _ in range(3):
         before = resource.getrusage(resource.RUSAGE_CHILDREN)
@@ -36,9 +37,14 @@ def seconds(words, cwd):
         after = resource.getrusage(resource.RUSAGE_CHILDREN)
         spent = after.ru_utime + after.ru_stime - before.ru_utime - before.ru_stime
         if ran.returncode != 0:
-            return 'status %d' % ran.returncode
+            return ran.returncode, None
         best = spent if best is None else min(best, spent)
-    return '%.3f' % best
+    return 0, best
+
+
+def seconds(words, cwd):
+    status, best = best_of_three(words, cwd)
+    return '%.3f' % best if status == 0 else 'status %d' % status
 
 
 def main():
@@ -57,4 +63,5 @@ def main():
             print(' '.join('%10s' % it for it in [name, *row]))
 
 
-main()
+if __name__ == '__main__':
+    main()
