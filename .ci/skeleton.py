@@ -175,7 +175,7 @@ def run(verb, crate, *words):
     kept = ["--incremental", "out/incremental"]
     if out:
         full = "--full" in flags
-        line += ["-o", os.path.abspath(out), *(kept if full else ["--statements", "--empty-contracts"]), *[f for f in flags if f != "--full"]]
+        line += ["-o", os.path.abspath(out), *(kept if full else ["--statements"]), *[f for f in flags if f != "--full"]]
     else:
         line += [*flags, *kept]
     os.makedirs(f"{crate}/out/incremental", exist_ok=True)

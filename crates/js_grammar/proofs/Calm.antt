@@ -241,7 +241,7 @@ module _ (T : Table) (operator : Production → Bool) (harmless : Nonterminal �
       either false b X h g k = k h
 
       -- what holds of a lexeme that may come after a row: nothing in the row goes on with it
-      quiet_of : (r : Row) (b e : Bool) (t : Lexeme) (f : Production) (qs : List Constituent) → Test b e t f r → left T.grammar f r ≡ Some qs → comes e qs t ≡ true → quiet_row T operator f r t ≡ true
+      pub quiet_of : (r : Row) (b e : Bool) (t : Lexeme) (f : Production) (qs : List Constituent) → Test b e t f r → left T.grammar f r ≡ Some qs → comes e qs t ≡ true → quiet_row T operator f r t ≡ true
       quiet_of Nil b e t f qs s k c = refl
       quiet_of (Then r (Leaf u)) b e t f qs s k c = refl
       quiet_of (Then Nil Absent) false e t f qs s k c = cc

@@ -111,14 +111,14 @@ module _ (cost step : Production → Row → ℕ) (grows : (f : Production) (r :
       some_state : (a b : State) → Some a ≡ Some b → a ≡ b
       some_state a b e = cc
 
-levels_grow : (f : Production) (r : Row) (x : Tree) → cost_of f r ≤ cost_of f (Then r x)
+pub levels_grow : (f : Production) (r : Row) (x : Tree) → cost_of f r ≤ cost_of f (Then r x)
 levels_grow f r x = omega arith
 
-source_levels : cost_of production.Source Nil ≡ 0
+pub source_levels : cost_of production.Source Nil ≡ 0
 unfolding Table.levels_of
 source_levels = refl
 
-source_steps : step_of production.Source Nil ≡ 0
+pub source_steps : step_of production.Source Nil ≡ 0
 unfolding Table.levels_of Table.lead_levels_of
 source_steps = refl
 

@@ -28,7 +28,7 @@ use Rattle.js_grammar.proofs.Exact.{from_fine, source_left}
 use Rattle.js_grammar.proofs.OneTree.{Tail, whole_rule, in_list, at_end, over_it, left_tail, only_module}
 
 -- a token that is taken is the last part of the innermost open production
-abbrev Capped : Lexeme → State → Type 0
+abbrev pub Capped : Lexeme → State → Type 0
 Capped t [] = ⊥
 Capped t (i ∷ s) = (r : Row) × (i.done ≡ Then r (Leaf t))
 
@@ -106,7 +106,7 @@ feed_caps : (s : State) (t : Lexeme) → Caps t (feed table s t)
 feed_caps [] t = caps_none t
 feed_caps (i ∷ s) t = onward_caps (λ y. complete table s y t) s i.production i.done i.rest t (complete_caps s t)
 
-last_caps : (ts : List Lexeme) (t : Lexeme) (s q : State) → feeds table s (ts ++ t ∷ []) ≡ Some q → Capped t q
+pub last_caps : (ts : List Lexeme) (t : Lexeme) (s q : State) → feeds table s (ts ++ t ∷ []) ≡ Some q → Capped t q
 last_caps [] t s q h =
     let m = after_is (feed table s t) _ q h in
     let same : m.0 ≡ q = cc in
@@ -197,7 +197,7 @@ closed_end is (Part c ∷ ps) qs t h e k = cc
 closed_end is (Optional c v ∷ ps) qs t h e k = cc
 closed_end is (Further c w ∷ ps) qs t h e k = free_end w t (and_true (is_inside c) (is_free w) (and_true (is_inside c && is_free w) (closed ps) h).0).1 e (only_some (grammar.stands w t) _ qs k).0
 
-abbrev Outer : Production → Type 0
+abbrev pub Outer : Production → Type 0
 Outer f = (f ≡ production.Module) ⊎ (f ≡ production.Source)
 
 outer_or : (f : Production) (a b : Bool) → nat_eq (place_of f) (place_of production.Module) ≡ a → nat_eq (place_of f) (place_of production.Source) ≡ b → ((a || b) || closed (rule_of f)) ≡ true → Outer f ⊎ (closed (rule_of f) ≡ true)
@@ -252,10 +252,10 @@ asked_source (Then r x) ps g ts h a =
     let none : ⊥ = subst P (source_left r x ps h) a in
     elim none [ ]
 
-abbrev Bottom : Production → Row → List Constituent → Production → Type 0
+abbrev pub Bottom : Production → Row → List Constituent → Production → Type 0
 Bottom f r ps g = (f ≡ production.Source) × (r ≡ Nil) × (ps ≡ Part nonterminal.Module ∷ []) × (g ≡ production.Module)
 
-asked_outer : (f : Production) (r : Row) (ps : List Constituent) (g : Production) (ts : List Lexeme) → Outer g → left grammar f r ≡ Some ps → Asked table production.Source ps g ts → Bottom f r ps g
+pub asked_outer : (f : Production) (r : Row) (ps : List Constituent) (g : Production) (ts : List Lexeme) → Outer g → left grammar f r ≡ Some ps → Asked table production.Source ps g ts → Bottom f r ps g
 asked_outer f r ps g ts o h a = by (outer f)
   where
     by : Outer f ⊎ (closed (rule_of f) ≡ true) → Bottom f r ps g
@@ -263,7 +263,7 @@ asked_outer f r ps g ts o h a = by (outer f)
     by (inl (inl e)) = absurd (asked_tail ps g ts o a (left_tail r ps (rw e at h)))
     by (inl (inr e)) = let m = asked_source r ps g ts (rw e at h) a in (e, m.0, m.1, m.2)
 
-different : production.Source ≡ production.Module → ⊥
+pub different : production.Source ≡ production.Module → ⊥
 different e = cc
 
 -- below a module stands the source alone
@@ -298,7 +298,7 @@ source_leaf (Then r x) t ps h =
 left_at : (f g : Production) (r : Row) (o : Option (List Constituent)) → f ≡ g → left grammar f r ≡ o → left grammar g r ≡ o
 left_at f g r o e h = ap (λ x. left grammar x r) (sym e) ∙ h
 
-top_end : (f : Production) (r : Row) (t : Lexeme) (ps : List Constituent) → t.terminal ≡ terminal.End → left grammar f (Then r (Leaf t)) ≡ Some ps → (f ≡ production.Module) × (ps ≡ [])
+pub top_end : (f : Production) (r : Row) (t : Lexeme) (ps : List Constituent) → t.terminal ≡ terminal.End → left grammar f (Then r (Leaf t)) ≡ Some ps → (f ≡ production.Module) × (ps ≡ [])
 top_end f r t ps e h = by (outer f)
   where
     m : (qs : List Constituent) × (left grammar f r ≡ Some qs) × (takes grammar (is grammar (Leaf t)) qs (Leaf t) ≡ Some ps)

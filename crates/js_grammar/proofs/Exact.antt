@@ -51,14 +51,14 @@ module_led (t ∷ ts) = refl
 not_empty : (c : Nonterminal) (t : Lexeme) → (h : Production) × (hs : List Production) × (table.start c t ≡ h ∷ hs) → is_empty (table.start c t) ≡ false
 not_empty c t x = rw x.2 refl
 
-first_of_row : (d : Nonterminal) (h : Production) (q : Row) (t : Lexeme) (ts : List Lexeme) → fits_of d h q ≡ true → left grammar h q ≡ Some [] → led grammar d (spells q) ≡ true → spells q ≡ t ∷ ts → is_empty (table.start d t) ≡ false
+pub first_of_row : (d : Nonterminal) (h : Production) (q : Row) (t : Lexeme) (ts : List Lexeme) → fits_of d h q ≡ true → left grammar h q ≡ Some [] → led grammar d (spells q) ≡ true → spells q ≡ t ∷ ts → is_empty (table.start d t) ≡ false
 first_of_row d h q t ts f l g e =
     let m = fits_leads d h q f in
     let s = starts_row table operator_of may_of fits_leads way q d h [] m l (no_nil table operator_of may_of fits_leads way q d h m l) g in
     let z : Starts table operator_of may_of d (t ∷ ts) = rw e at s in
     not_empty d t z
 
-first_of_partial : (d : Nonterminal) (p : Partial) (t : Lexeme) (ts : List Lexeme) → IsPartial grammar p d → begins p ≡ t ∷ ts → is_empty (table.start d t) ≡ false
+pub first_of_partial : (d : Nonterminal) (p : Partial) (t : Lexeme) (ts : List Lexeme) → IsPartial grammar p d → begins p ≡ t ∷ ts → is_empty (table.start d t) ≡ false
 first_of_partial d p t ts i e =
     let s = partial_starts table operator_of may_of fits_leads way (λ c f h. h) p d (leads_partial table operator_of may_of fits_leads way (λ c f h. h) d p i) in
     let z : MayStart table operator_of may_of fits_leads way d (t ∷ ts) = rw e at s in

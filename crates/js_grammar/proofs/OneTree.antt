@@ -24,8 +24,7 @@ use Rattle.js_grammar.proofs.Computed.{tables}
 use Rattle.js_grammar.proofs.Tame.{all, each_production, same_production}
 use Rattle.js_grammar.proofs.Entries.{fits_leads, start_opens, wrap_may}
 use Rattle.js_grammar.proofs.Exact.{good, exact, whole, from_fine, module_led}
-use Rattle.js_grammar.proofs.Insertion.{sound}
-use Rattle.js_grammar.proofs.Insertion
+use Rattle.js_grammar.proofs.Insertion.{all_sound, all_whole}
 
 -- what may be left of the rule of a module
 pub data Tail : List Constituent → Type 0 where
@@ -142,12 +141,12 @@ top_done (Some (i ∷ s)) = i.done
 pub inserted_read : (ts : List Lexeme) (x : Tree) → HasTree grammar nonterminal.Module semi do_semi rule_stands ts x → (r : Row) × (x ≡ Node production.Module r) × (steps table semi do_semi rule_stands from ts ≡ Some (whole_state r))
 inserted_read ts x h =
     let m = read_tree (marked grammar nonterminal.Module semi do_semi rule_stands h.0) x h.3 in
-    let k = Insertion.whole table nonterminal.Module semi do_semi rule_stands from good exact h.0 [] from (whole_state m.0) refl h.2 m.2 in
+    let k = all_whole table nonterminal.Module semi do_semi rule_stands from good exact h.0 [] from (whole_state m.0) refl h.2 m.2 in
     (m.0, m.1, ap (steps table semi do_semi rule_stands from) (sym h.1) ∙ k)
 
 pub read_inserted : (ts : List Lexeme) (r : Row) → steps table semi do_semi rule_stands from ts ≡ Some (whole_state r) → HasTree grammar nonterminal.Module semi do_semi rule_stands ts (Node production.Module r)
 read_inserted ts r h =
-    let m = sound table nonterminal.Module semi do_semi rule_stands from good exact ts [] from (whole_state r) refl h in
+    let m = all_sound table nonterminal.Module semi do_semi rule_stands from good exact ts [] from (whole_state r) refl h in
     (m.0, m.1, m.2, tree_read (marked grammar nonterminal.Module semi do_semi rule_stands m.0) r m.3)
 
 pub one_tree : (ts : List Lexeme) (x y : Tree) → HasTree grammar nonterminal.Module semi do_semi rule_stands ts x → HasTree grammar nonterminal.Module semi do_semi rule_stands ts y → x ≡ y

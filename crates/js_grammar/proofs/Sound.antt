@@ -58,20 +58,20 @@ module _ (T : Table) (root : Production) where
   abbrev pub Comes : State → List Lexeme → Type 0
   Comes q ts = Fine q [] × (held q ≡ ts)
 
-  sure_one : (c : Nonterminal) (t : Lexeme) → T.grammar.guard c t ≡ true → Sure c (t ∷ [])
+  pub sure_one : (c : Nonterminal) (t : Lexeme) → T.grammar.guard c t ≡ true → Sure c (t ∷ [])
   sure_one c t h us = h
 
-  sure_more : (c : Nonterminal) (ts vs : List Lexeme) → Sure c ts → Sure c (ts ++ vs)
+  pub sure_more : (c : Nonterminal) (ts vs : List Lexeme) → Sure c ts → Sure c (ts ++ vs)
   sure_more c ts vs h us = let P : List Lexeme → Type 0 = λ x. led T.grammar c x ≡ true in subst P (sym (append_assoc ts vs us)) (h (vs ++ us))
 
-  asked_more : (ps : List Constituent) (f : Production) (ts vs : List Lexeme) → Asked ps f ts → Asked ps f (ts ++ vs)
+  pub asked_more : (ps : List Constituent) (f : Production) (ts vs : List Lexeme) → Asked ps f ts → Asked ps f (ts ++ vs)
   asked_more [] f ts vs h = h
   asked_more (Token w ∷ ps) f ts vs h = h
   asked_more (Part c ∷ ps) f ts vs h = (h.0, sure_more c ts vs h.1)
   asked_more (Optional c k ∷ ps) f ts vs h = (h.0, sure_more c ts vs h.1)
   asked_more (Further c w ∷ ps) f ts vs h = h
 
-  below_more : (s : State) (f : Production) (ts vs : List Lexeme) → Below s f ts → Below s f (ts ++ vs)
+  pub below_more : (s : State) (f : Production) (ts vs : List Lexeme) → Below s f ts → Below s f (ts ++ vs)
   below_more [] f ts vs h = h
   below_more (i ∷ s) f ts vs h = asked_more i.rest f ts vs h
 

@@ -18,24 +18,24 @@ use Rattle.js_grammar.proofs.Depth.{low, low_enough, within, within_enough}
 use Rattle.js_grammar.proofs.Heights.{open_up, open_down, step_less}
 use Rattle.js_grammar.proofs.Forms.{counts_grow, open_none, open_some}
 
-is_less : (a n : ℕ) → a ≤ n → nat_le a n ≡ true
+pub is_less : (a n : ℕ) → a ≤ n → nat_le a n ≡ true
 is_less a n h = grind (arith, nat_tests)
 
-less_is : (a n : ℕ) → nat_le a n ≡ true → a ≤ n
+pub less_is : (a n : ℕ) → nat_le a n ≡ true → a ≤ n
 less_is a n h = grind (arith, nat_tests)
 
-reached : (s : State) (n : ℕ) → IsShallow n s → level cost_of step_of s ≤ n
+pub reached : (s : State) (n : ℕ) → IsShallow n s → level cost_of step_of s ≤ n
 reached [] n h = omega arith
 reached (i ∷ s) n h = sum_less (level cost_of step_of s) _ _ n (step_less i.production i.done) h.0
   where
     sum_less : (a x y n : ℕ) → x ≤ y → a + y ≤ n → a + x ≤ n
     sum_less a x y n h k = omega arith
 
-was_not : (b : Bool) → true ≡ not b → b ≡ true → ⊥
+pub was_not : (b : Bool) → true ≡ not b → b ≡ true → ⊥
 was_not true e h = cc
 was_not false e h = cc
 
-was : (b : Bool) → false ≡ not b → b ≡ true
+pub was : (b : Bool) → false ≡ not b → b ≡ true
 was true e = refl
 was false e = cc
 
@@ -50,7 +50,7 @@ tells_deep x false e = λ ts h.
     let P : Flat → Type 0 = λ y. (nesting_on y.items).level ≤ MAX_LEVELS in
     low_enough ts h.0 MAX_LEVELS h.1 (open_down h.0 (subst P h.2 k))
 
-source_count : (P : LeftOut → Bool) → counts P production.Source Nil ≡ 0
+pub source_count : (P : LeftOut → Bool) → counts P production.Source Nil ≡ 0
 unfolding Table.form_of Nesting.is_update Nesting.is_undecided Nesting.takes_pattern Nesting.takes_parameters
 source_count P = refl
 
@@ -58,7 +58,7 @@ module_count : (P : LeftOut → Bool) → counts P production.Module Nil ≡ 0
 unfolding Table.form_of Nesting.is_update Nesting.is_undecided Nesting.takes_pattern Nesting.takes_parameters
 module_count P = refl
 
-itself : (n : ℕ) → nat_eq n n ≡ true
+pub itself : (n : ℕ) → nat_eq n n ≡ true
 itself n = grind (arith, nat_tests)
 
 pub tells_form : (x : Flat) (o : Option LeftOut) → o ≡ left_out x → Tells_form x o

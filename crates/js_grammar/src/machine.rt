@@ -1,13 +1,14 @@
 // The reader: a partial tree that takes one token after the other.
 ghost use Rattle.std.specs.Prelude.{◌≡◌, ◌∷◌, [], ◌+◌, ◌<◌, length, take, true, Some, IfOk, reverse};
 ghost use Rattle.js_grammar.specs.Flat.{fed_in};
+ghost use Rattle.js_grammar.specs.Expressions.{expression_flat};
 ghost use Rattle.js_grammar.specs.Laws.{from_flat};
 ghost use Rattle.js_grammar.specs.Moves.{flat_in, shapes_of, shape_in, latest, begun_at, opened_at, leaf_at, part_at, stood_at, onward_at, turned_at, put_at, fed_at, Grows, Comes, Opens, Takes};
 ghost use Rattle.js_grammar.specs.Profile.{is_too_deep, Tells_deep, left_out, Tells_form};
 ghost use Rattle.js_grammar.specs.Table.{forms_of};
 ghost use Rattle.js_grammar.specs.Would.{opened_would, would};
 
-use crate::constituents::{Constituent, Repetition};
+use crate::constituents::{Constituent, Repetition, Terminals};
 use crate::event::Event;
 use crate::left_out::LeftOut;
 use crate::lexeme::Lexeme;
@@ -19,7 +20,7 @@ use crate::open::{
 use crate::prospect::{is_taken, would_open};
 use crate::rules::{Opening, ends_list, is_among, openings, operator, rule};
 use crate::summary::{Summary, empty_summary, fits, with_leaf, with_node};
-use crate::symbols::{Nonterminal, Production};
+use crate::symbols::{Nonterminal, Production, Terminal};
 use std::alloc::{AllocError, Global};
 use std::marker::Model;
 
@@ -53,6 +54,27 @@ impl PartialTree {
             rest: Remainder {
                 next: Some(Constituent::Part(Nonterminal::Module)),
                 later: &[],
+            },
+        })?;
+        Ok(PartialTree {
+            stack,
+            events: Vec::new(alloc),
+        })
+    }
+
+    /// The partial tree of no tokens of an expression: tokens of an expression may come, and then the end of the source.
+    #[tactic(auto, using(crate::proofs::Reversed::reverse_push))]
+    pub fn of_expression(alloc: Global) -> Result<PartialTree, AllocError>
+        ensures { IfOk result (λ tree. tree ≡ expression_flat) }
+    {
+        let mut stack = Vec::new(alloc);
+        stack.push(OpenProduction {
+            production: Production::Source,
+            summary: empty_summary(),
+            nesting: outermost(),
+            rest: Remainder {
+                next: Some(Constituent::Part(Nonterminal::Expression)),
+                later: &[Constituent::Token(Terminals::Is(Terminal::End))],
             },
         })?;
         Ok(PartialTree {

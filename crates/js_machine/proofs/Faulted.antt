@@ -1,5 +1,5 @@
 -- Errors that are thrown.
-use Rattle.std.proofs.Common.{◌≡◌, ℕ, ◌<◌, ◌≤◌, ◌↔◌, Bool, true, false, List, [], ◌∷◌, ◌++◌, length, refl, sym, ap, ◌∙◌, subst, Result, Ok, Err, arith, if◌then◌else◌, OnOk, IfOk, Some}
+use Rattle.std.proofs.Common.{◌≡◌, ℕ, ◌<◌, ◌≤◌, ◌↔◌, Bool, true, false, List, [], ◌∷◌, ◌++◌, length, refl, sym, ap, ◌∙◌, subst, nat_eq, not, Result, Ok, Err, arith, if◌then◌else◌, OnOk, IfOk, Some}
 use Rattle.std.proofs.lemmas.Bool.{lt-ltb, le-ltb}
 use Rattle.std.proofs.lemmas.List.{length-append}
 use Rattle.std.proofs.Math.Seq.{set-append_seam, get_or-append_seam}
@@ -21,10 +21,10 @@ use Rattle.lava_base.specs.Ids.{same_made_symbol}
 use Rattle.js_text.specs.declared.value.Key.{Key}
 use Rattle.js_desc.specs.declared.descriptor.Change.TheVariants as change
 use Rattle.js_desc.specs.declared.descriptor.Descriptor.TheVariants.{Data}
+use Rattle.js_store.specs.Objects.{Object, at_place, fresh, not_extensible, object_at, with_change}
 use Rattle.js_store.specs.declared.slot.Slot.TheVariants as slot
-use Rattle.js_store.specs.Objects.{Object, at_place, fresh, object_at, with_change}
 use Rattle.js_machine.specs.Halts.{halt_number}
-use Rattle.js_machine.specs.Steps.{LeadsTo, error_with, message_key, with_error}
+use Rattle.js_machine.specs.Steps.{LeadsTo, bare_error, error_with, message_key, with_error}
 use Rattle.js_machine.proofs.Leads.{led}
 use Rattle.js_machine.specs.Views.{Around, View, party_of}
 use Rattle.js_machine.specs.declared.frame.Halt.TheVariants as halt
@@ -38,17 +38,22 @@ last_changed os o f = set-append_seam os o [] (f (object_at (os ++ o ∷ []) (le
 pub last_within : (os : List (Object Ref MadeSymbol)) (o : Object Ref MadeSymbol) → length os < length (os ++ o ∷ [])
 last_within os o = omega (arith, length-append os (o ∷ []))
 
-pub added_error : (os ns ms : List (Object Ref MadeSymbol)) (p : Ref) (k : Key MadeSymbol) (t : List ℕ) (i : ℕ) → k ≡ message_key → ns ≡ os ++ fresh (Some p) error_marks slot.Plain ∷ [] → i ≡ length os
-    → ms ≡ at_place ns i (with_change same_made_symbol k (change.Write (Data (value.Text t) true false true))) → ms ≡ os ++ error_with p t ∷ []
-added_error os ns ms p k t i e n l m =
+pub bare_made : (os ns ms : List (Object Ref MadeSymbol)) (b : Bool) (p : Ref) (i : ℕ) → b ≡ true → ns ≡ os ++ fresh (Some p) error_marks slot.Plain ∷ [] → i ≡ length os → ms ≡ at_place ns i not_extensible → ms ≡ os ++ bare_error b p ∷ []
+bare_made os ns ms b p i e n l m =
+    m ∙ (λ j. at_place (n j) (l j) not_extensible) ∙ last_changed os (fresh (Some p) error_marks slot.Plain) not_extensible ∙ ap (λ frozen. os ++ bare_error frozen p ∷ []) (sym e)
+
+pub added_error : (os ns ms : List (Object Ref MadeSymbol)) (b c : Bool) (p : Ref) (k : Key MadeSymbol) (t : List ℕ) (i : ℕ) → k ≡ message_key → b ≡ c → ns ≡ os ++ bare_error b p ∷ [] → i ≡ length os
+    → ms ≡ at_place ns i (with_change same_made_symbol k (change.Write (Data (value.Text t) (not b) false (not b)))) → ms ≡ os ++ error_with c p t ∷ []
+added_error os ns ms b c p k t i e f n l m =
     m
-    ∙ (λ j. at_place (n j) (l j) (with_change same_made_symbol (e j) (change.Write (Data (value.Text t) true false true))))
-    ∙ last_changed os (fresh (Some p) error_marks slot.Plain) (with_change same_made_symbol message_key (change.Write (Data (value.Text t) true false true)))
+    ∙ (λ j. at_place (n j) (l j) (with_change same_made_symbol (e j) (change.Write (Data (value.Text t) (not b) false (not b)))))
+    ∙ last_changed os (bare_error b p) (with_change same_made_symbol message_key (change.Write (Data (value.Text t) (not b) false (not b))))
+    ∙ ap (λ frozen. os ++ error_with frozen p t ∷ []) f
 
 -- what is thrown, by whether its text is too long
 abbrev act : Bool → FaultText → View → Around → Act Ref MadeSymbol
 act b f w a =
-    if b then End halt_kind.Text else throws (value.Ref ((naming_of w.me).own (length w.objects))) (made (party_of a w) (error_object (naming_of w.me) (error_prototype (fault_error f)) (fault_text f)))
+    if b then End halt_kind.Text else throws (value.Ref ((naming_of w.me).own (length w.objects))) (made (party_of a w) (error_object (naming_of w.me) (nat_eq w.me 0) (error_prototype (fault_error f)) (fault_text f)))
 
 abbrev Acts : Bool → FaultText → View → View → Mode → Type 0
 Acts b f old new m = LeadsTo (act b f old) old new m

@@ -1,5 +1,5 @@
 -- How a request is read, and what it names.
-use Rattle.std.specs.Prelude.{ℕ, suc, List, [], ◌∷◌, ◌++◌, if◌then◌else◌, Option, Some, None, slice_get, length}
+use Rattle.std.specs.Prelude.{ℕ, suc, nat_eq, List, [], ◌∷◌, ◌++◌, if◌then◌else◌, Option, Some, None, slice_get, length}
 use Rattle.std.specs.Map.{lookup}
 use Rattle.std.specs.Option.{option_map}
 use Rattle.lava_base.specs.declared.ids.MadeSymbol.{MadeSymbol}
@@ -91,6 +91,6 @@ mapped_given names None p = faults names fault.CannotConvert p
 -- a new error of no other kind is thrown
 abbrev pub with_plain_error : (message : List ℕ) → View → View
 with_plain_error message w = record w {
-  objects = w.objects ++ error_object (naming_of w.me) ERROR_PROTOTYPE message ∷ [];
+  objects = w.objects ++ error_object (naming_of w.me) (nat_eq w.me 0) ERROR_PROTOTYPE message ∷ [];
   values = value.Ref ((naming_of w.me).own (length w.objects)) ∷ w.values;
 }

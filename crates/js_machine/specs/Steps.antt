@@ -1,5 +1,5 @@
 -- What each step of a machine does.
-use Rattle.std.specs.Prelude.{◌≡◌, ℕ, true, List, [], ◌∷◌, ◌++◌, length, Some, codes}
+use Rattle.std.specs.Prelude.{◌≡◌, ℕ, Bool, nat_eq, not, List, [], ◌∷◌, ◌++◌, length, Some, codes}
 use Rattle.lava_base.specs.declared.ids.MadeSymbol.{MadeSymbol}
 use Rattle.lava_base.specs.declared.ids.Ref.{Ref}
 use Rattle.js_text.specs.Naming.{Naming, Origin, Own, Common, Foreign, naming_of}
@@ -16,7 +16,7 @@ use Rattle.js_code.specs.declared.node.Node.{Node}
 use Rattle.js_operation.specs.js_run.Acts.{Act, Evaluate, Next, Pay, asks, asks_value}
 use Rattle.js_operation.specs.js_run.Completions.{Completion, Replied}
 use Rattle.js_operation.specs.js_run.Decisions.{decides}
-use Rattle.js_operation.specs.js_run.Faults.{error_marks, error_object, error_prototype, hidden_property}
+use Rattle.js_operation.specs.js_run.Faults.{error_marks, error_object, error_prototype, hidden_unless}
 use Rattle.js_operation.specs.js_run.Going.{go_on}
 use Rattle.js_operation.specs.js_run.Hosts.{outside_answers}
 use Rattle.js_operation.specs.js_run.Parties.{Party}
@@ -151,14 +151,18 @@ pub record IsDelivered (f : Frame) (m : Mode) (old new : View) (after : Mode) : 
 -- a new error is thrown
 abbrev pub with_error : NativeError → (message : List ℕ) → View → View
 with_error error message w = record w {
-  objects = w.objects ++ error_object (naming_of w.me) (error_prototype error) message ∷ [];
+  objects = w.objects ++ error_object (naming_of w.me) (nat_eq w.me 0) (error_prototype error) message ∷ [];
   values = value.Ref ((naming_of w.me).own (length w.objects)) ∷ w.values;
 }
 
 abbrev pub message_key : Key MadeSymbol
 message_key = key.Text (codes "message")
 
+-- an error with this prototype, without a message so far
+abbrev pub bare_error : (frozen : Bool) → Ref → Object Ref MadeSymbol
+bare_error frozen prototype = record { prototype = Some prototype; extensible = not frozen; properties = []; slot = slot.Plain; marks = error_marks }
+
 -- an error with this prototype and message
-abbrev pub error_with : Ref → List ℕ → Object Ref MadeSymbol
-error_with prototype message =
-    record { prototype = Some prototype; extensible = true; properties = hidden_property message_key (value.Text message) ∷ []; slot = slot.Plain; marks = error_marks }
+abbrev pub error_with : (frozen : Bool) → Ref → List ℕ → Object Ref MadeSymbol
+error_with frozen prototype message =
+    record { prototype = Some prototype; extensible = not frozen; properties = hidden_unless frozen message_key (value.Text message) ∷ []; slot = slot.Plain; marks = error_marks }

@@ -1,5 +1,5 @@
 -- What the frames and the values of a machine stand for.
-use Rattle.std.specs.Prelude.{ℕ, ◌+◌, reverse, take, Bool, true, false, List, [], ◌∷◌, map, drop, get_or, Some, None, if◌then◌else◌, not, Option, ◌++◌, length, codes}
+use Rattle.std.specs.Prelude.{ℕ, ◌+◌, reverse, take, Bool, true, false, List, [], ◌∷◌, map, drop, get_or, Some, None, if◌then◌else◌, nat_eq, not, Option, ◌++◌, length, codes}
 use Rattle.std.specs.Option.{option_map}
 use Rattle.lava_base.specs.declared.ids.MadeSymbol.{MadeSymbol}
 use Rattle.lava_base.specs.declared.ids.Ref.{Ref}
@@ -134,7 +134,7 @@ knows w = (w.known, w.allowed)
 abbrev pub fitting : View → Around → Around
 fitting w a = record a { shared = record a.shared { objects = w.common; templates = templates_at w.code w.common_templates }; env = record a.env { marks = λ r. marks_of same_ref r w.known; allows = λ l. is_link l w.allowed } }
 
--- the party that runs
+-- the party that runs. The host is party 0, whose errors are frozen
 abbrev pub party_of : Around → View → Party Ref MadeSymbol
 party_of a w = record a.rest {
   name = w.own_package.name;
@@ -149,6 +149,7 @@ party_of a w = record a.rest {
   bodies = w.bodies;
   depth = w.depth;
   calls = w.calls;
+  frozen_errors = nat_eq w.me 0;
 }
 
 -- the newest value, and those below it

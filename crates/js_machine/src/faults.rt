@@ -1,9 +1,9 @@
 // Errors that the machine throws.
 
-ghost use Rattle.std.specs.Prelude.{◌≡◌, ◌++◌, ◌∷◌, [], IfOk, OnOk, length, codes};
+ghost use Rattle.std.specs.Prelude.{◌≡◌, ◌++◌, ◌∷◌, [], IfOk, OnOk, length, codes, nat_eq};
 ghost use Rattle.js_text.specs.Naming.{naming_of};
 ghost use Rattle.js_operation.specs.js_run.Faults.{error_object, error_prototype, faults};
-ghost use Rattle.js_machine.specs.Steps.{error_with, message_key, LeadsTo, with_error};
+ghost use Rattle.js_machine.specs.Steps.{bare_error, error_with, message_key, LeadsTo, with_error};
 ghost use Rattle.js_machine.specs.Views.{party_of};
 ghost use Rattle.js_machine.specs.declared.frame.Mode.TheVariants as mode;
 
@@ -20,7 +20,7 @@ use js_store::store::Store;
 use js_text::fault::TextFault;
 use js_text::text::{Text, from_units};
 use js_text::value::{Key, Value};
-use lava_base::ids::{CommonId, ObjId, Ref};
+use lava_base::ids::{CommonId, ObjId, PartyId, Ref};
 use lava_base::marks::{Class, Marks};
 use lava_base::memory::OutOfMemory;
 use std::alloc::Global;
@@ -50,17 +50,18 @@ fn error_prototype(error: NativeError) -> u32
     }
 }
 
-/// Makes an error in a store.
+/// Whether the errors of a party are frozen: those of the host are, as all its objects.
+fn has_frozen_errors(party: PartyId) -> bool
+    ensures { result ≡ nat_eq party.0 0 }
+{
+    party.0 == 0
+}
+
+/// Makes an error without a message.
 #[tactic(auto, using(crate::proofs::Faulted::last_changed, crate::proofs::Faulted::last_within))]
-pub fn add_error(
-    store: &mut FlatStore,
-    prototype: Ref,
-    key: Key,
-    message: Text,
-) -> Result<ObjId, OutOfMemory>
-    requires { key ≡ message_key }
+fn bare_error(store: &mut FlatStore, prototype: Ref, frozen: bool) -> Result<ObjId, OutOfMemory>
     ensures id { IfOk result (λ id. id.0 ≡ length store.old.objects) }
-    ensures made { let object = error_with prototype message in
+    ensures made { let object = bare_error frozen prototype in
         OnOk result (store.new.objects ≡ store.old.objects ++ object ∷ []) }
     ensures party { store.new.party ≡ store.old.party }
 {
@@ -70,11 +71,33 @@ pub fn add_error(
         constructor: false,
     };
     let id = store.make(Some(prototype), marks, Slot::Plain)?;
+    if frozen {
+        store.prevent(id);
+    }
+    Ok(id)
+}
+
+/// Makes an error in a store, which is frozen where the host runs.
+#[tactic(auto, using(crate::proofs::Faulted::last_changed, crate::proofs::Faulted::last_within))]
+pub fn add_error(
+    store: &mut FlatStore,
+    prototype: Ref,
+    key: Key,
+    message: Text,
+) -> Result<ObjId, OutOfMemory>
+    requires { key ≡ message_key }
+    ensures id { IfOk result (λ id. id.0 ≡ length store.old.objects) }
+    ensures made { let object = error_with (nat_eq store.old.party.0 0) prototype message in
+        OnOk result (store.new.objects ≡ store.old.objects ++ object ∷ []) }
+    ensures party { store.new.party ≡ store.old.party }
+{
+    let frozen = has_frozen_errors(store.party());
+    let id = bare_error(store, prototype, frozen)?;
     let property = Descriptor::Data {
         value: Value::Text(message),
-        writable: true,
+        writable: !frozen,
         enumerable: false,
-        configurable: true,
+        configurable: !frozen,
     };
     store.apply(id, key, Change::Write(property))?;
     Ok(id)
@@ -85,7 +108,9 @@ impl Machine {
     pub fn make_error(&mut self, error: NativeError, message: Text) -> Result<Ref, OutOfMemory>
         ensures name { let me = naming_of self.old.me in
             IfOk result (λ r. r ≡ me.own (length self.old.objects)) }
-        ensures made { let object = error_object (naming_of self.old.me) (error_prototype error) message in
+        ensures made { let names = naming_of self.old.me in
+            let frozen = nat_eq self.old.me 0 in
+            let object = error_object names frozen (error_prototype error) message in
             OnOk result (self.new ≡ record self.old { objects = self.old.objects ++ object ∷ [] }) }
     {
         let prototype = Ref::Common(CommonId(error_prototype(error)));

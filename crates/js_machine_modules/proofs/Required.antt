@@ -1,5 +1,5 @@
 -- What a `require` does.
-use Rattle.std.proofs.Common.{◌≡◌, ℕ, zero, suc, ◌+◌, ◌<◌, ◌≤◌, ◌↔◌, Bool, true, false, cond, List, [], ◌∷◌, ◌++◌, length, map, slice_get, Option, Some, None, refl, sym, ap, ◌∙◌, subst, Result, Ok, Err, IfOk, OnOk, if◌then◌else◌}
+use Rattle.std.proofs.Common.{◌≡◌, ℕ, zero, suc, ◌+◌, ◌<◌, ◌≤◌, ◌↔◌, Bool, true, false, cond, List, [], ◌∷◌, ◌++◌, length, map, nat_eq, slice_get, Option, Some, None, refl, sym, ap, ◌∙◌, subst, Result, Ok, Err, IfOk, OnOk, if◌then◌else◌}
 use Rattle.std.specs.Map.{lookup}
 use Rattle.std.specs.Option.{option_and_then, option_map}
 use Rattle.std.proofs.lemmas.Bool.{lt-ltb, le-ltb}
@@ -94,7 +94,7 @@ module _ (c : Tables) where
 -- ERRORS OF NO OTHER KIND
 
 abbrev act : Bool → List ℕ → View → Around → Act Ref MadeSymbol
-act b t w a = if b then End halt_kind.Text else throws (value.Ref ((naming_of w.me).own (length w.objects))) (made (party_of a w) (error_object (naming_of w.me) ERROR_PROTOTYPE t))
+act b t w a = if b then End halt_kind.Text else throws (value.Ref ((naming_of w.me).own (length w.objects))) (made (party_of a w) (error_object (naming_of w.me) (nat_eq w.me 0) ERROR_PROTOTYPE t))
 
 abbrev Acts : Bool → List ℕ → View → View → Mode → Type 0
 Acts b t old new m = LeadsTo (act b t old) old new m

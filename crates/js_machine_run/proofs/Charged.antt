@@ -1,17 +1,19 @@
 -- Charges, and runs.
-use Rattle.std.proofs.Common.{◌≡◌, ℕ, zero, suc, ◌+◌, ◌-◌, ◌<◌, Bool, true, false, List, [], Option, Some, None, refl, sym, ap, ◌∙◌, subst, arith, Result, Ok, Err, IfOk, if◌then◌else◌}
+use Rattle.std.proofs.Common.{◌≡◌, ℕ, zero, suc, ◌+◌, ◌-◌, ◌<◌, Bool, true, false, List, [], ◌∷◌, Option, Some, None, refl, sym, ap, ◌∙◌, subst, arith, Result, Ok, Err, IfOk, if◌then◌else◌}
 use Rattle.lava_base.specs.declared.ids.MadeSymbol.{MadeSymbol}
 use Rattle.lava_base.specs.declared.ids.Ref.{Ref}
 use Rattle.js_text.specs.Naming.{Naming, naming_of}
 use Rattle.js_text.specs.declared.value.Value.{Value}
 use Rattle.js_desc.specs.declared.ask.Ask.{Ask}
 use Rattle.js_code.specs.Decoded.{term_at}
+use Rattle.js_direct.specs.Direct.{GivesAtOnce}
 use Rattle.js_machine.specs.js_run.Acts as acts
 use Rattle.js_machine.specs.js_run.Completions as halt_kind
 use Rattle.js_machine.specs.js_run.Completions.{Completion}
 use Rattle.js_machine.specs.js_run.Parties.{Party, Shared}
 use Rattle.js_machine.specs.js_run.Runs as runs
 use Rattle.js_machine.specs.js_run.Runs.{Begins, Charge, Charged, Decides, Due, Env, Gives, Job, Lacks, Nothing, Point, Short, Stopped, Stops, answered, at_steps, charge, run, run_for, settle, work}
+use Rattle.js_machine.specs.Bodies.{scope_of}
 use Rattle.js_machine.specs.Looks.{foreign_in}
 use Rattle.js_machine.specs.Steps.{Keeps, asked_at, point_of, settles}
 use Rattle.js_machine.specs.Stops.{IsRun, IsWorked, RunsFor, RunsOn, Stays, ask_cost, ask_stop, charge_of, cost_of, stop_at, stop_of, told_as, told_stop, with_steps, worked}
@@ -134,10 +136,10 @@ module _ (names : Naming Ref MadeSymbol) (shared : Shared) (env : Env Ref) where
 
 -- A RUN ON ITS WAY
 
--- the run from a start goes on as it does from where the machine stands, after so many charges
-pub record IsOn (meter : Option ℕ) (charges limit steps : ℕ) (start : Mode) (first : View) (i spent : ℕ) (m : Mode) (w : View) : Type 0 where
-  pub goes : (k : ℕ) → k + i ≡ charges → (a : Around) → a.rest.meter ≡ meter
-      → (let b = fitting first a in run_for (naming_of first.me) b.shared b.env charges limit steps (point_of b first start) ≡ run_for (naming_of first.me) b.shared b.env k limit spent (point_of b w m))
+-- the run from a start goes on as it does from where the machine stands, with so many charges left
+pub record IsOn (meter : Option ℕ) (charges limit steps : ℕ) (start : Mode) (first : View) (left spent : ℕ) (m : Mode) (w : View) : Type 0 where
+  pub goes : (a : Around) → a.rest.meter ≡ meter
+      → (let b = fitting first a in run_for (naming_of first.me) b.shared b.env charges limit steps (point_of b first start) ≡ run_for (naming_of first.me) b.shared b.env left limit spent (point_of b w m))
   pub keeps : Keeps first w
 
 -- where the machine stands after what stays, seen from the start
@@ -150,73 +152,95 @@ worked_first first w v m n a k x =
     subst (λ i. (let b = fitting first a in point_of b v n ≡ worked (naming_of i) b.shared b.env (point_of b w m))) (me_kept first w k)
     (subst (λ (b : Around). point_of b v n ≡ worked (naming_of w.me) b.shared b.env (point_of b w m)) (fits first w a k) (x.stands a))
 
-module _ (meter : Option ℕ) (charges limit steps : ℕ) (start : Mode) (first : View) where
-  pub begins : IsOn meter charges limit steps start first 0 steps start first
-  begins =
-      record {
-        goes = λ k e a h. (let z : charges ≡ k = omega (arith, e) in let b = fitting first a in ap (λ n. run_for (naming_of first.me) b.shared b.env n limit steps (point_of b first start)) z);
-        keeps = (refl, (refl, (refl, (refl, refl))));
-      }
+-- a value is given, and nothing else
+abbrev pub with_given : Value Ref MadeSymbol → View → View
+with_given v w = record w { values = v ∷ w.values }
 
-  pub settles_on : (i spent : ℕ) (m n : Mode) (w v : View) → IsOn meter charges limit steps start first i spent m w → Stays m w v n → IsOn meter charges limit steps start first i spent n v
-  settles_on i spent m n w v on s =
+module _ (meter : Option ℕ) (charges limit steps : ℕ) (start : Mode) (first : View) where
+  pub begins : IsOn meter charges limit steps start first charges steps start first
+  begins = record { goes = λ a h. refl; keeps = (refl, (refl, (refl, (refl, refl)))) }
+
+  pub settles_on : (left spent : ℕ) (m n : Mode) (w v : View) → IsOn meter charges limit steps start first left spent m w → Stays m w v n → IsOn meter charges limit steps start first left spent n v
+  settles_on left spent m n w v on s =
       record {
-        goes = λ k e a h. (let b = fitting first a in on.goes k e a h ∙ ap (run_for (naming_of first.me) b.shared b.env k limit spent) (sym (seen_first first w v m n a on.keeps s)));
+        goes = λ a h. (let b = fitting first a in on.goes a h ∙ ap (run_for (naming_of first.me) b.shared b.env left limit spent) (sym (seen_first first w v m n a on.keeps s)));
         keeps = keeps_on first w v on.keeps s.keeps;
       }
 
   -- a charge is paid, or stops the run
-  pays_on : (k i spent cost : ℕ) (c : Charge) (m : Mode) (w : View) → IsOn meter charges limit steps start first i spent m w → suc k + i ≡ charges → cost_of w m ≡ Some cost → charge meter spent limit (suc cost) ≡ c
+  pays_on : (k left spent cost : ℕ) (c : Charge) (m : Mode) (w : View) → IsOn meter charges limit steps start first left spent m w → left ≡ suc k → cost_of w m ≡ Some cost → charge meter spent limit (suc cost) ≡ c
       → (a : Around) → a.rest.meter ≡ meter
       → (let b = fitting first a in run_for (naming_of first.me) b.shared b.env charges limit steps (point_of b first start) ≡ paid (naming_of first.me) b.shared b.env k limit spent cost (point_of b w m) c)
-  pays_on k i spent cost c m w on e d p a h =
+  pays_on k left spent cost c m w on e d p a h =
       let b = fitting first a in
-      on.goes (suc k) e a h ∙ pays (naming_of first.me) b.shared b.env k limit spent cost c b m w d (ap (λ x. charge x spent limit (suc cost)) h ∙ p)
+      on.goes a h ∙ ap (λ n. run_for (naming_of first.me) b.shared b.env n limit spent (point_of b w m)) e
+      ∙ pays (naming_of first.me) b.shared b.env k limit spent cost c b m w d (ap (λ x. charge x spent limit (suc cost)) h ∙ p)
 
-  pub works_on : (i j spent now cost price : ℕ) (r : charge_type.Charge) (m n : Mode) (w v : View) → IsOn meter charges limit steps start first i spent m w → cost_of w m ≡ Some cost → price ≡ cost + 1 → j ≡ i + 1 → now ≡ spent + price
-      → charge_of r ≡ charge meter spent limit price → r ≡ charge_kind.Charged → IsWorked m w v n → IsOn meter charges limit steps start first j now n v
-  works_on i j spent now cost price r m n w v on d p q s g y x =
+  pub works_on : (left rest spent now cost price : ℕ) (r : charge_type.Charge) (m n : Mode) (w v : View) → IsOn meter charges limit steps start first left spent m w → cost_of w m ≡ Some cost → price ≡ cost + 1 → left ≡ suc rest → now ≡ spent + price
+      → charge_of r ≡ charge meter spent limit price → r ≡ charge_kind.Charged → IsWorked m w v n → IsOn meter charges limit steps start first rest now n v
+  works_on left rest spent now cost price r m n w v on d p q s g y x =
       let there : suc cost ≡ price = omega (arith, p) in
       let is : charge meter spent limit (suc cost) ≡ Charged = ap (charge meter spent limit) there ∙ sym g ∙ ap charge_of y in
       let sum : spent + suc cost ≡ now = ap (λ z. spent + z) there ∙ sym s in
       record {
-        goes = λ k e a h. (let e' : suc k + i ≡ charges = omega (arith, e, q) in
-            let b = fitting first a in
-            pays_on k i spent cost Charged m w on e' d is a h
-            ∙ (λ z. run_for (naming_of first.me) b.shared b.env k limit (sum z) (worked (naming_of first.me) b.shared b.env (point_of b w m)))
-            ∙ ap (run_for (naming_of first.me) b.shared b.env k limit now) (sym (worked_first first w v m n a on.keeps x)));
+        goes = λ a h. (let b = fitting first a in
+            pays_on rest left spent cost Charged m w on q d is a h
+            ∙ (λ z. run_for (naming_of first.me) b.shared b.env rest limit (sum z) (worked (naming_of first.me) b.shared b.env (point_of b w m)))
+            ∙ ap (run_for (naming_of first.me) b.shared b.env rest limit now) (sym (worked_first first w v m n a on.keeps x)));
         keeps = keeps_on first w v on.keeps x.keeps;
       }
 
-  pub lacks_there : (i spent cost price : ℕ) (r : charge_type.Charge) (m : Mode) (w : View) → IsOn meter charges limit steps start first i spent m w → cost_of w m ≡ Some cost → price ≡ cost + 1 → i < charges
-      → charge_of r ≡ charge meter spent limit price → r ≡ charge_kind.Lacks → RunsFor meter charges limit steps start first w (stop.Short spent)
-  lacks_there i spent cost price r m w on d p l g y =
-      let is : charge meter spent limit (suc cost) ≡ Lacks = (let there : suc cost ≡ price = omega (arith, p) in ap (charge meter spent limit) there) ∙ sym g ∙ ap charge_of y in
-      record { stops = λ a h. sym (pays_on (charges - suc i) i spent cost Lacks m w on (omega (arith, l)) d is a h); keeps = on.keeps }
+  -- the charges of a form that gives a value at once
+  leaps_to : (at rest k spent : ℕ) (v : Value Ref MadeSymbol) (w : View) → Keeps first w → GivesAtOnce w.code w.scopes (scope_of w.bodies) at v k → charge meter spent limit k ≡ Charged → (a : Around) → a.rest.meter ≡ meter
+      → (let b = fitting first a in run_for (naming_of first.me) b.shared b.env (k + rest) limit spent (point_of b w (mode.Eval at)) ≡ run_for (naming_of first.me) b.shared b.env rest limit (spent + k) (point_of b (with_given v w) mode.Value))
+  leaps_to at rest k spent v w keeps direct paid a h =
+      let b = fitting first a in
+      subst (λ me. run_for (naming_of me) b.shared b.env (k + rest) limit spent (point_of b w (mode.Eval at)) ≡ run_for (naming_of me) b.shared b.env rest limit (spent + k) (point_of b (with_given v w) mode.Value)) (me_kept first w keeps)
+      (direct.gives w.me b.shared b.env (party_of b w) (nexts_of (naming_of w.me) b.shared w.code w.frames w.values w.waits) rest limit spent refl refl (ap (λ x. charge x spent limit k) h ∙ paid))
 
-  pub meter_there : (i spent cost price : ℕ) (r : charge_type.Charge) (m : Mode) (w : View) → IsOn meter charges limit steps start first i spent m w → cost_of w m ≡ Some cost → price ≡ cost + 1 → i < charges
+  pub leaps_on : (left rest spent now at k : ℕ) (v : Value Ref MadeSymbol) (m n : Mode) (w new : View) → IsOn meter charges limit steps start first left spent m w → m ≡ mode.Eval at
+      → GivesAtOnce w.code w.scopes (scope_of w.bodies) at v k → charge meter spent limit k ≡ Charged → left ≡ k + rest → now ≡ spent + k → new ≡ with_given v w → n ≡ mode.Value
+      → IsOn meter charges limit steps start first rest now n new
+  leaps_on left rest spent now at k v m n w new on e direct paid q s f g =
+      record {
+        goes = λ a h. (let b = fitting first a in
+            on.goes a h
+            ∙ (λ z. run_for (naming_of first.me) b.shared b.env (q z) limit spent (point_of b w (e z)))
+            ∙ leaps_to at rest k spent v w on.keeps direct paid a h
+            ∙ (λ z. run_for (naming_of first.me) b.shared b.env rest limit (sym s z) (point_of b (sym f z) (sym g z))));
+        keeps = subst (λ x. Keeps first x) (sym f) on.keeps;
+      }
+
+  pub lacks_there : (left spent cost price : ℕ) (r : charge_type.Charge) (m : Mode) (w : View) → IsOn meter charges limit steps start first left spent m w → cost_of w m ≡ Some cost → price ≡ cost + 1 → 0 < left
+      → charge_of r ≡ charge meter spent limit price → r ≡ charge_kind.Lacks → RunsFor meter charges limit steps start first w (stop.Short spent)
+  lacks_there left spent cost price r m w on d p l g y =
+      let is : charge meter spent limit (suc cost) ≡ Lacks = (let there : suc cost ≡ price = omega (arith, p) in ap (charge meter spent limit) there) ∙ sym g ∙ ap charge_of y in
+      record { stops = λ a h. sym (pays_on (left - 1) left spent cost Lacks m w on (omega (arith, l)) d is a h); keeps = on.keeps }
+
+  pub meter_there : (left spent cost price : ℕ) (r : charge_type.Charge) (m : Mode) (w : View) → IsOn meter charges limit steps start first left spent m w → cost_of w m ≡ Some cost → price ≡ cost + 1 → 0 < left
       → charge_of r ≡ charge meter spent limit price → r ≡ charge_kind.Stops → RunsFor meter charges limit steps start first w (stop.Stopped halt.Meter spent)
-  meter_there i spent cost price r m w on d p l g y =
+  meter_there left spent cost price r m w on d p l g y =
       let is : charge meter spent limit (suc cost) ≡ Stops halt_kind.Meter = (let there : suc cost ≡ price = omega (arith, p) in ap (charge meter spent limit) there) ∙ sym g ∙ ap charge_of y in
-      record { stops = λ a h. sym (pays_on (charges - suc i) i spent cost (Stops halt_kind.Meter) m w on (omega (arith, l)) d is a h); keeps = on.keeps }
+      record { stops = λ a h. sym (pays_on (left - 1) left spent cost (Stops halt_kind.Meter) m w on (omega (arith, l)) d is a h); keeps = on.keeps }
 
   out_there : (k spent : ℕ) (w : View) (a : Around) → Keeps first w → (let b = fitting first a in GoesOut (naming_of first.me) b.shared b.env k limit spent b w)
   out_there k spent w a keeps = (let b = fitting first a in ap (λ i. run_for (naming_of i) b.shared b.env k limit spent (point_of b w mode.Outside)) (me_kept first w keeps))
 
   -- nothing is due
-  pub none_there : (i spent : ℕ) (o : Option ℕ) (s : Stop) (m : Mode) (w : View) → IsOn meter charges limit steps start first i spent m w → o ≡ cost_of w m → o ≡ None → (is_handed m ≡ true → w.frames ≡ []) → i < charges → s ≡ stop_at w m (paused (charges - i) limit spent)
+  pub none_there : (left spent : ℕ) (o : Option ℕ) (s : Stop) (m : Mode) (w : View) → IsOn meter charges limit steps start first left spent m w → o ≡ cost_of w m → o ≡ None → (is_handed m ≡ true → w.frames ≡ []) → s ≡ stop_at w m (paused left limit spent)
       → RunsFor meter charges limit steps start first w s
-  none_there i spent o s m w on d n f l e =
+  none_there left spent o s m w on d n f e =
       record {
-        stops = λ a h. (let b = fitting first a in ap (stop_of b w) e ∙ stops_there (naming_of first.me) b.shared b.env (charges - i) limit spent b m w (sym d ∙ n) f (out_there (charges - i) spent w a on.keeps) ∙ sym (on.goes (charges - i) (omega (arith, l)) a h));
+        stops = λ a h. (let b = fitting first a in ap (stop_of b w) e ∙ stops_there (naming_of first.me) b.shared b.env left limit spent b m w (sym d ∙ n) f (out_there left spent w a on.keeps) ∙ sym (on.goes a h));
         keeps = on.keeps;
       }
 
   -- no charge is left
-  pub last_there : (i spent : ℕ) (s : Stop) (m : Mode) (w : View) → IsOn meter charges limit steps start first i spent m w → (is_handed m ≡ true → w.frames ≡ []) → i ≡ charges → s ≡ stop_at w m (paused 0 limit spent) → RunsFor meter charges limit steps start first w s
-  last_there i spent s m w on f l e =
+  pub last_there : (left spent : ℕ) (s : Stop) (m : Mode) (w : View) → IsOn meter charges limit steps start first left spent m w → (is_handed m ≡ true → w.frames ≡ []) → left ≡ 0 → s ≡ stop_at w m (paused 0 limit spent) → RunsFor meter charges limit steps start first w s
+  last_there left spent s m w on f l e =
       record {
-        stops = λ a h. (let b = fitting first a in let all : 0 + i ≡ charges = omega (arith, l) in ap (stop_of b w) e ∙ stops_last (naming_of first.me) b.shared b.env limit spent b m w f (out_there zero spent w a on.keeps) ∙ sym (on.goes zero all a h));
+        stops = λ a h. (let b = fitting first a in ap (stop_of b w) e ∙ stops_last (naming_of first.me) b.shared b.env limit spent b m w f (out_there zero spent w a on.keeps)
+            ∙ ap (λ n. run_for (naming_of first.me) b.shared b.env n limit spent (point_of b w m)) (sym l) ∙ sym (on.goes a h));
         keeps = on.keeps;
       }
 

@@ -1,19 +1,81 @@
 // Runs: charges, and what each leads to.
 
-ghost use Rattle.std.specs.Prelude.{◌<◌, IfOk};
+ghost use Rattle.std.specs.Prelude.{◌≡◌, ◌+◌, ◌<◌, ◌≤◌, ◌∷◌, IfOk, IfSome, None, OnOk};
+ghost use Rattle.js_direct.specs.Direct.{IsDirect, value_of};
+ghost use Rattle.js_machine.specs.js_run.Runs.{Charged, charge};
+ghost use Rattle.js_machine.specs.Bodies.{scope_of};
 ghost use Rattle.js_machine.specs.Stops.{IsRun, RunsFor, RunsOn};
+ghost use Rattle.js_machine.specs.declared.frame.Mode.TheVariants as mode_kind;
 
 use crate::steps::{settle, work};
 use crate::stop::{charge_steps, cost, stop_at};
+use js_direct::direct::{Direct, Plain, value_at};
 use js_machine::frame::{Halt, Mode};
 use js_machine::machine::Machine;
 use js_machine::stop::{Charge, Pause, Stop};
+use js_text::value::Value;
 use lava_base::memory::OutOfMemory;
 
 /// How many charges a run may make that is free of charge.
 pub const FREE_CHARGES: u64 = 1000;
 
-/// At most so many charges, and steps up to the limit.
+/// A number or a truth value is given.
+#[inline]
+fn give_plain(machine: &mut Machine, value: Plain) -> Result<Mode, OutOfMemory>
+    ensures mode { IfOk result (λ m. m ≡ mode_kind.Value) }
+    ensures value { let values = value_of value ∷ machine.old.values in
+        OnOk result (machine.new ≡ record machine.old { values = values }) }
+{
+    match value {
+        Plain::Int(number) => machine.give(Value::Int(number)),
+        Plain::Bool(truth) => machine.give(Value::Bool(truth)),
+    }
+}
+
+/// What the form at a place gives at once, where all its steps can be paid.
+#[inline]
+fn direct_within(
+    machine: &Machine,
+    at: u32,
+    meter: Option<u64>,
+    spent: u64,
+    limit: u64,
+    left: u64,
+) -> Option<Direct>
+    ensures direct { let w = machine.now in
+        IfSome result (IsDirect w.code w.scopes (scope_of w.bodies) at) }
+    ensures paid { IfSome result (λ d. charge meter spent limit d.steps ≡ Charged) }
+    ensures fits { IfSome result (λ d. spent + d.steps ≤ limit) }
+    ensures some { IfSome result (λ d. 0 < d.steps) }
+    ensures within { IfSome result (λ d. d.steps ≤ left) }
+{
+    let Some(direct) = value_at(&machine.code, &machine.scopes, machine.standing(), at) else {
+        return None;
+    };
+    let price = u64::from(direct.steps);
+    if price == 0 || price > left {
+        return None;
+    }
+    match charge_steps(meter, spent, limit, price) {
+        Charge::Charged => Some(direct),
+        _ => None,
+    }
+}
+
+/// What is left of a run.
+fn paused(charges: u64, limit: u64, steps: u64) -> Pause
+    ensures { let told = None in
+        result ≡ record { charges = charges; limit = limit; steps = steps; told = told } }
+{
+    Pause {
+        charges,
+        limit,
+        steps,
+        told: None,
+    }
+}
+
+/// At most so many charges, and steps up to the limit. A form that gives a number or a truth value at once is paid whole.
 fn run_for(
     machine: &mut Machine,
     charges: u64,
@@ -26,23 +88,25 @@ fn run_for(
 {
     let mut mode = mode;
     let mut spent = steps;
-    for i in 0..charges {
+    let mut left = charges;
+    while left > 0 {
         mode = settle(machine, mode)?;
-        let price = match cost(machine, mode) {
-            Some(cost) => u64::from(cost) + 1,
-            None => {
-                let pause = Pause {
-                    charges: charges - i,
-                    limit,
-                    steps: spent,
-                    told: None,
-                };
-                return Ok(stop_at(machine, mode, pause));
+        if let Mode::Eval(at) = mode {
+            if let Some(direct) = direct_within(machine, at, meter, spent, limit, left) {
+                spent += u64::from(direct.steps);
+                left -= u64::from(direct.steps);
+                mode = give_plain(machine, direct.value)?;
+                continue;
             }
+        }
+        let Some(cost) = cost(machine, mode) else {
+            return Ok(stop_at(machine, mode, paused(left, limit, spent)));
         };
+        let price = u64::from(cost) + 1;
         match charge_steps(meter, spent, limit, price) {
             Charge::Charged => {
                 spent += price;
+                left -= 1;
                 mode = work(machine, mode)?;
             }
             Charge::Lacks => return Ok(Stop::Short { steps: spent }),
@@ -53,13 +117,7 @@ fn run_for(
         }
     }
     mode = settle(machine, mode)?;
-    let pause = Pause {
-        charges: 0,
-        limit,
-        steps: spent,
-        told: None,
-    };
-    Ok(stop_at(machine, mode, pause))
+    Ok(stop_at(machine, mode, paused(0, limit, spent)))
 }
 
 /// Runs until the body is over, the run ends, or the limit lacks what is to be paid. A run that

@@ -1,5 +1,5 @@
 -- What js_num gives is what an operator on two numbers gives.
-use Rattle.std.proofs.Common.{◌≡◌, inl, inr, ◌≤◌, Bool, true, false, if◌then◌else◌, Some, Result, Ok, Err, IfOk, OnOk, OnErr, ℤ, pos, negsuc, unsigned_abs, sym, ◌∙◌, ap, arith}
+use Rattle.std.proofs.Common.{◌≡◌, inl, inr, ◌≤◌, Bool, true, false, if◌then◌else◌, Option, Some, Result, Ok, Err, IfOk, OnOk, OnErr, ℤ, pos, negsuc, unsigned_abs, sym, ◌∙◌, ap, arith}
 use Rattle.std.proofs.lemmas.Int.{ints}
 use Rattle.std.proofs.lemmas.Bool.{le-leb}
 use Rattle.std.proofs.lemmas.Bool.Decides.{leb_tells}
@@ -39,3 +39,7 @@ unsafe_ends n h = ap (λ b. given b n) (sym (is_unsafe_of n h))
 pub exactly : (r : Result ℤ NotSafe) (n : ℤ) → IfOk r (λ s. s ≡ n) → OnOk r (IsSafe n) → OnErr r (¬ (IsSafe n)) → safe_or_end r ≡ number_or_end (Some n)
 exactly (Ok s) n e h f = ap computed.Is e ∙ safe_given n h
 exactly (Err x) n e h f = unsafe_ends n f
+
+-- a number that is given
+pub number_given : (r : Result ℤ NotSafe) (x : Option ℤ) (a b : ℤ) → safe_or_end r ≡ number_or_end x → r ≡ Ok a → b ≡ a → number_or_end x ≡ computed.Is b
+number_given r x a b e f g = sym e ∙ ap safe_or_end f ∙ ap computed.Is (sym g)

@@ -1,9 +1,10 @@
 // Numbers, and what operators calculate with them.
 
-ghost use Rattle.std.specs.Prelude.{◌≡◌, ℕ, ℤ, List, Option, IfOk};
+ghost use Rattle.std.specs.Prelude.{◌≡◌, ℕ, ℤ, List, Option, IfOk, IfSome};
 ghost use Rattle.js_operation.specs.js_conversions.Primitives.{ReadsNumbers};
 ghost use Rattle.js_operation.specs.js_run.Operators.{divide, numeric, remainder};
 ghost use Rattle.js_operation.specs.Computing.{calculate, number_converted, number_of, number_or_end, numbers_of, safe_or_end};
+ghost use Rattle.js_operation.specs.declared.operation.Computed.TheVariants.{Is};
 ghost use Rattle.lava_base.specs.SafeIntegers.{IsSafe};
 
 use js_desc::decision::{Decision, EndKind};
@@ -106,6 +107,24 @@ pub fn numeric(
     let left = safe(left)?;
     let right = safe(right)?;
     Ok(safe_or_end(operate(operator, left, right)))
+}
+
+/// The same where it is a number, and none else: nothing else is made. None is answered too where an operand is no safe integer.
+#[inline]
+#[tactic(auto, using(crate::proofs::Safe_numbers::number_given))]
+pub fn number_by(operator: BinaryOperator, left: i64, right: i64) -> Option<i64>
+    ensures { IfSome result (λ n. number_or_end (numeric operator left right) ≡ Is n) }
+{
+    let Ok(left) = Safe::new(left) else {
+        return None;
+    };
+    let Ok(right) = Safe::new(right) else {
+        return None;
+    };
+    match operate(operator, left, right) {
+        Ok(number) => Some(number.get()),
+        Err(_) => None,
+    }
 }
 
 /// What a conversion to a number gives.

@@ -1,5 +1,5 @@
 -- What the events of a tree become is what the tree becomes.
-use Rattle.std.proofs.Common.{◌≡◌, ℕ, suc, ◌+◌, ◌<◌, ◌≤◌, Bool, true, false, cond, nat_lt, List, [], ◌∷◌, ◌++◌, refl, sym, ap, ◌∙◌, length, take, drop, reverse, arith, Result, Ok, Err, IfOk}
+use Rattle.std.proofs.Common.{◌≡◌, ℕ, suc, ◌+◌, ◌<◌, ◌≤◌, Bool, true, false, cond, nat_lt, List, [], ◌∷◌, ◌++◌, refl, sym, ap, subst, ◌∙◌, length, take, drop, reverse, arith, Result, Ok, Err, IfOk}
 use Rattle.std.proofs.lemmas.Bool.Decides.{nat_tests}
 use mathlib.Core.List.{reverse_aux}
 use Rattle.js_grammar.specs.declared.event.Event.{Event}
@@ -12,11 +12,16 @@ use Rattle.js_grammar.specs.Grammar.{Tree, Leaf, Node, Absent, Row, Nil, Then}
 use Rattle.js_lexer.specs.declared.token.Token.{Token}
 use Rattle.js_phrase.specs.declared.phrase.Phrase.{Phrase}
 use Rattle.js_parser.specs.Forms.{form}
-use Rattle.js_parser.specs.Trees.{phrase_of, phrases_of, made, AllCounted, module_of, IsModuleOf}
+use Rattle.js_parser.specs.Trees.{phrase_of, phrases_of, made, AllCounted, module_of, IsModuleOf, expression_in}
+use Rattle.js_phrase.specs.Phrases.{next_of, expression_of}
+use Rattle.js_tree.specs.declared.tree.Expr.{Expr}
 use Rattle.js_tree.specs.declared.tree.Module.{Module}
 use Rattle.js_tree.specs.declared.tree.SourceKind.{SourceKind}
 use Rattle.js_fault.specs.declared.fault.SyntaxFault.{SyntaxFault}
+use Rattle.js_grammar.specs.Expressions.{end_mark}
 use Rattle.js_grammar.specs.Flat.{Flat}
+use Rattle.js_reader.specs.Runs.{expression_events}
+use Rattle.lava_base.specs.declared.memory.OutOfMemory.{OutOfMemory}
 use Rattle.js_reader.specs.Reading.{events_of}
 use Rattle.js_reader.specs.Sources.{IsReading}
 
@@ -93,3 +98,13 @@ made_parts source tokens r h = ap reverse (made_row source tokens r [] h) ∙ re
 pub module_tree : (kind : SourceKind) (source : List ℕ) (ts : List Token) (q : Flat) (result : Result Module SyntaxFault) → IsReading source ts q → ((parts : Row) → q.out ≡ events_of parts → IfOk result (λ m. m ≡ module_of kind source ts parts)) → IfOk result (IsModuleOf kind source)
 module_tree kind source ts q (Ok m) r h = (ts, r.0, r.1, r.2, r.3, h r.0 r.4)
 module_tree kind source ts q (Err f) r h = tt
+
+-- the first part that stands is the expression
+first_made : (source : List ℕ) (tokens : List Token) (x : Tree) → AllCounted (expression_events x) → next_of (reverse (made source tokens (expression_events x))) ≡ phrase_of source tokens x
+first_made source tokens x h = ap next_of (made_parts source tokens (Then (Then Nil x) (Leaf end_mark)) h)
+
+pub made_expression : (source : List ℕ) (tokens : List Token) (events : List Event) (result : Result Expr OutOfMemory) → AllCounted (reverse events) → IfOk result (λ e. e ≡ expression_of (next_of (reverse (made source tokens (reverse events))))) → (x : Tree) → reverse events ≡ expression_events x → IfOk result (λ e. e ≡ expression_in source tokens x)
+made_expression source tokens events (Ok e) h k x v =
+    let P : List Event → Type 0 = λ o. AllCounted o in
+    k ∙ ap (λ o. expression_of (next_of (reverse (made source tokens o)))) v ∙ ap expression_of (first_made source tokens x (subst P v h))
+made_expression source tokens events (Err f) h k x v = tt

@@ -14,6 +14,8 @@ use Rattle.js_phrase.specs.declared.places.TheConstants.{NO_TOKEN}
 use Rattle.js_reader.specs.Reading.{IsTree, IsInLanguage}
 use Rattle.js_parser.specs.Forms.{form}
 use Rattle.js_parser.specs.Modules.{module_from}
+use Rattle.js_phrase.specs.Phrases.{expression_of}
+use Rattle.js_tree.specs.declared.tree.Expr.{Expr}
 use Rattle.js_tree.specs.declared.tree.Module.{Module}
 use Rattle.js_tree.specs.declared.tree.SourceKind.{SourceKind}
 
@@ -60,3 +62,8 @@ module_of kind source tokens parts = module_from kind (phrase_of source tokens (
 -- ECMA-262 ParseText, with Module as the goal
 abbrev pub IsModuleOf : SourceKind → List ℕ → Module → Type 0
 IsModuleOf kind source m = (ts : List Token) × (parts : Row) × IsTokens source ts × IsTree source ts parts × IsInLanguage source ts × (m ≡ module_of kind source ts parts)
+
+-- the expression that a tree of one becomes
+-- ECMA-262 Expression
+abbrev pub expression_in : List ℕ → List Token → Tree → Expr
+expression_in source tokens x = expression_of (phrase_of source tokens x)

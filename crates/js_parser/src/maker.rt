@@ -2,9 +2,11 @@
 
 ghost use Rattle.std.specs.Prelude.{◌≡◌, ◌∷◌, ◌++◌, [], ◌<◌, take, drop, reverse, IfOk, OnOk};
 ghost use Rattle.js_phrase.specs.Queues as queue;
-ghost use Rattle.js_parser.specs.Trees.{token_at, made, made_on, IsCounted, AllCounted};
+ghost use Rattle.js_parser.specs.Trees.{token_at, made, made_on, IsCounted, AllCounted, expression_in};
 ghost use Rattle.js_parser.specs.Forms.{form};
+ghost use Rattle.js_grammar.specs.Grammar.{Tree};
 ghost use Rattle.js_grammar.specs.declared.symbols.Production.TheVariants as production;
+ghost use Rattle.js_reader.specs.Runs.{expression_events};
 
 use crate::forms::form;
 use js_grammar::event::Event;
@@ -14,7 +16,9 @@ use js_lexer::token::Token;
 use js_phrase::phrase::Phrase;
 use js_phrase::places::NO_TOKEN;
 use js_phrase::queue::Queue;
+use js_tree::tree::Expr;
 use lava_base::memory::OutOfMemory;
+use sqlite_items::Boxed;
 use std::alloc::Global;
 
 fn token_at(tokens: &[Token], at: u32) -> Token
@@ -134,4 +138,19 @@ pub fn module_phrase(
     let stack = take_events(alloc, source, tokens, events)?;
     let mut parts = turned(alloc, stack)?;
     form(alloc, source, Production::Module, &mut parts)
+}
+
+/// The expression that the events of its tree make, with the end behind it.
+pub fn expression_made(
+    alloc: Global,
+    source: &[u8],
+    tokens: &[Token],
+    events: &[Event],
+) -> Result<Boxed<Expr>, OutOfMemory>
+    ensures { (x : Tree) → reverse events.now ≡ expression_events x →
+        IfOk result (λ e. e ≡ expression_in source.now tokens.now x) }
+{
+    let stack = take_events(alloc, source, tokens, events)?;
+    let mut parts = turned(alloc, stack)?;
+    parts.expression(alloc)
 }

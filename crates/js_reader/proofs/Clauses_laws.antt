@@ -63,7 +63,7 @@ marked_last ((m, u) ∷ xs) (x ∷ a) t h =
     more_last m u t xs (marked_last xs a t f)
 
 -- the first of some tokens are taken where all are
-front_taken : (a b : List Lexeme) (s q : State) → going s (a ++ b) ≡ Some q → Is_taken (going s a)
+pub front_taken : (a b : List Lexeme) (s q : State) → going s (a ++ b) ≡ Some q → Is_taken (going s a)
 front_taken [] b s q h = (s, refl)
 front_taken (t ∷ a) b s q h =
     let m = after_is (stepping s t) _ q h in
@@ -75,10 +75,10 @@ parts_of source at [] r = refl
 parts_of source at (x ∷ b) r = ap (λ y. lexeme_of source at x (b ++ r) ∷ y) (parts_of source (at + 1) b r)
 
 -- two ways to part a list
-abbrev Parted : List Token → List Token → List Token → List Token → Type 0
+abbrev pub Parted : List Token → List Token → List Token → List Token → Type 0
 Parted b r c s = ((b ≡ c) × (r ≡ s)) ⊎ (((t : Token) × (d : List Token) × (c ≡ b ++ t ∷ d) × (r ≡ t ∷ (d ++ s))) ⊎ ((t : Token) × (d : List Token) × (b ≡ c ++ t ∷ d) × (s ≡ t ∷ (d ++ r))))
 
-parted : (b r c s : List Token) → b ++ r ≡ c ++ s → Parted b r c s
+pub parted : (b r c s : List Token) → b ++ r ≡ c ++ s → Parted b r c s
 parted [] r [] s e = inl (refl, e)
 parted [] r (t ∷ c) s e = inr (inl (t, c, refl, e))
 parted (t ∷ b) r [] s e = inr (inr (t, b, refl, sym e))

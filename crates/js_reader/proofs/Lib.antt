@@ -6,3 +6,4 @@ pub mod Limits_laws
 pub mod Reading_laws
 pub mod Clauses_laws
 pub mod Sources_laws
+pub mod Runs_laws

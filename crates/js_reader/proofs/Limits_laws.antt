@@ -27,7 +27,7 @@ is_fewer P Q h (Some x) = by (P x) (Q x) (h x)
     by true false k = let e = k refl in cc
     by false b k = omega arith
 
-fewer : (P Q : LeftOut → Bool) → ((x : LeftOut) → P x ≡ true → Q x ≡ true) → (f : Production) (r : Row) → counts P f r ≤ counts Q f r
+pub fewer : (P Q : LeftOut → Bool) → ((x : LeftOut) → P x ≡ true → Q x ≡ true) → (f : Production) (r : Row) → counts P f r ≤ counts Q f r
 fewer P Q h f r = is_fewer P Q h (left_out_by f (summary_of r))
 
 less_sum : (a x y n : ℕ) → x ≤ y → a + y ≤ n → a + x ≤ n
@@ -44,7 +44,7 @@ module _ (P Q : LeftOut → Bool) (less : (f : Production) (r : Row) → counts 
     less_row f a n Nil h = tt
     less_row f a n (Then r x) h = (less_row f a n r h.0, less_tree (a + no_step f r) n x h.1)
 
-  less_partial : (a n : ℕ) (p : Partial) → LowPartial (counts Q) no_step a n p → LowPartial (counts P) no_step a n p
+  pub less_partial : (a n : ℕ) (p : Partial) → LowPartial (counts Q) no_step a n p → LowPartial (counts P) no_step a n p
   less_partial a n (Open f r) h = (less_sum a (counts P f r) (counts Q f r) n (less f r) h.0, less_row f a n r h.1)
   less_partial a n (Within f r p) h = (less_sum a (counts P f r) (counts Q f r) n (less f r) h.0, less_row f a n r h.1, less_partial (a + no_step f r) n p h.2)
 
@@ -52,17 +52,17 @@ pub without_one : (x : LeftOut) (ts : List Lexeme) → IsWithout any_form ts →
 without_one x ts h =
     (h.0, h.1, (h.2.0, less_partial (is_form x) any_form (fewer (is_form x) any_form (λ y k. refl)) 0 0 h.2.0.0 h.2.1))
 
-none_told : (o : Option LeftOut) (b : Bool) → told_by o b ≡ None → (o ≡ None) × (b ≡ false)
+pub none_told : (o : Option LeftOut) (b : Bool) → told_by o b ≡ None → (o ≡ None) × (b ≡ false)
 none_told None true h = cc
 none_told None false h = (refl, refl)
 none_told (Some x) b h = cc
 
-form_told : (o : Option LeftOut) (b : Bool) (x : LeftOut) → told_by o b ≡ Some (cause.LeftOut x) → o ≡ Some x
+pub form_told : (o : Option LeftOut) (b : Bool) (x : LeftOut) → told_by o b ≡ Some (cause.LeftOut x) → o ≡ Some x
 form_told None true x h = cc
 form_told None false x h = cc
 form_told (Some y) b x h = let k : y ≡ x = cc in let P : LeftOut → Type 0 = λ z. Some y ≡ Some z in subst P k refl
 
-deep_told : (o : Option LeftOut) (b : Bool) → told_by o b ≡ Some cause.TooDeep → (o ≡ None) × (b ≡ true)
+pub deep_told : (o : Option LeftOut) (b : Bool) → told_by o b ≡ Some cause.TooDeep → (o ≡ None) × (b ≡ true)
 deep_told None true h = (refl, refl)
 deep_told None false h = cc
 deep_told (Some x) b h = cc

@@ -26,7 +26,7 @@ parts_at source at [] t r = refl
 parts_at source at (x ∷ b) t r = ap (λ y. lexeme_of source at x (b ++ t ∷ r) ∷ y) (parts_at source (at + 1) b t r)
 
 -- what comes behind a token that is refused doesn't count
-stuck_there : (a b : List Lexeme) (t : Lexeme) (s p : State) → going s a ≡ Some p → stepping p t ≡ None → going s (a ++ t ∷ b) ≡ None
+pub stuck_there : (a b : List Lexeme) (t : Lexeme) (s p : State) → going s a ≡ Some p → stepping p t ≡ None → going s (a ++ t ∷ b) ≡ None
 stuck_there [] b t s p h k = let same : s ≡ p = cc in let e : stepping s t ≡ None = ap (λ x. stepping x t) same ∙ k in rw e refl
 stuck_there (u ∷ a) b t s p h k =
     let m = after_is (stepping s u) _ p h in

@@ -31,7 +31,7 @@ or_is : (a c : Option State) (b : Option Flat) → b ≡ so c → or_so (so a) b
 or_is None c b e = e
 or_is (Some q) c b e = refl
 
-cond_is : (v : Bool) (x y : Option Flat) (a b : Option State) → x ≡ so a → y ≡ so b → cond v x y ≡ so (cond v a b)
+pub cond_is : (v : Bool) (x y : Option Flat) (a b : Option State) → x ≡ so a → y ≡ so b → cond v x y ≡ so (cond v a b)
 cond_is true x y a b e f = e
 cond_is false x y a b e f = f
 
@@ -42,11 +42,11 @@ on s q t ts o e h = rw e h
 abbrev pub Quiet : List ℕ → ℕ → State → List Token → List Token → Type 0
 Quiet source at s ts rest = (b d : List Token) → ts ≡ b ++ d → (p : State) × (going s (ahead source at b (d ++ rest)) ≡ Some p) × (told_of (flat_of p) ≡ None)
 
-quiet_none : (source : List ℕ) (at : ℕ) (s : State) (rest : List Token) → told_of (flat_of s) ≡ None → Quiet source at s [] rest
+pub quiet_none : (source : List ℕ) (at : ℕ) (s : State) (rest : List Token) → told_of (flat_of s) ≡ None → Quiet source at s [] rest
 quiet_none source at s rest n [] d e = (s, refl, n)
 quiet_none source at s rest n (x ∷ b) d e = cc
 
-quiet_more : (source : List ℕ) (at : ℕ) (s q : State) (t : Token) (ts rest : List Token) → told_of (flat_of s) ≡ None → stepping s (lexeme_of source at t (ts ++ rest)) ≡ Some q → Quiet source (at + 1) q ts rest → Quiet source at s (t ∷ ts) rest
+pub quiet_more : (source : List ℕ) (at : ℕ) (s q : State) (t : Token) (ts rest : List Token) → told_of (flat_of s) ≡ None → stepping s (lexeme_of source at t (ts ++ rest)) ≡ Some q → Quiet source (at + 1) q ts rest → Quiet source at s (t ∷ ts) rest
 quiet_more source at s q t ts rest n e h [] d k = (s, refl, n)
 quiet_more source at s q t ts rest n e h (x ∷ b) d k =
     let same : t ≡ x = cc in
@@ -67,7 +67,7 @@ module _ (same : Flatly) where
   after_so None t = refl
   after_so (Some q) t = same q t
 
-  paired : (m : Lexeme) (s : State) (t : Lexeme) → paired_in m (flat_of s) t ≡ so (pair table semi do_semi rule_stands m s t)
+  pub paired : (m : Lexeme) (s : State) (t : Lexeme) → paired_in m (flat_of s) t ≡ so (pair table semi do_semi rule_stands m s t)
   paired m s t = ap (λ o. after o (λ p. fed_in p t)) (same s m) ∙ after_so (feed table s m) t
 
   pub stepped : (s : State) (t : Lexeme) → stepped_in (flat_of s) t ≡ so (stepping s t)

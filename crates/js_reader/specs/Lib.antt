@@ -3,3 +3,4 @@ pub mod Halts
 pub mod Steps
 pub mod Reading
 pub mod Sources
+pub mod Runs

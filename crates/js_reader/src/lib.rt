@@ -7,5 +7,6 @@
 pub mod halt;
 pub mod laws;
 pub mod reading;
+pub mod run;
 pub mod source;
 pub mod terminals;

@@ -47,7 +47,7 @@ impl Reading {
 }
 
 /// A token that is none of the list: the start of a source, its end, an inserted semicolon.
-fn alone(terminal: Terminal) -> Lexeme
+pub fn alone(terminal: Terminal) -> Lexeme
     ensures { result ≡ alone terminal }
 {
     Lexeme {
@@ -58,14 +58,14 @@ fn alone(terminal: Terminal) -> Lexeme
 }
 
 /// Whether a semicolon may be inserted before a token, wherever a statement may end (ECMA-262, Rules of Automatic Semicolon Insertion).
-fn is_behind_end(lexeme: Lexeme) -> bool
+pub fn is_behind_end(lexeme: Lexeme) -> bool
     ensures { result ≡ rule_stands lexeme }
 {
     lexeme.after_line || matches!(lexeme.terminal, Terminal::RightBrace | Terminal::End)
 }
 
 /// Takes an inserted semicolon and a token behind it.
-fn take_pair(tree: &mut PartialTree, mark: Lexeme, lexeme: Lexeme) -> Result<bool, AllocError>
+pub fn take_pair(tree: &mut PartialTree, mark: Lexeme, lexeme: Lexeme) -> Result<bool, AllocError>
     ensures { IfOk result (Accepts (paired_in mark tree.old lexeme) tree.new) }
 {
     if !tree.take(mark)? {
@@ -89,7 +89,7 @@ fn take_step(tree: &mut PartialTree, lexeme: Lexeme) -> Result<bool, AllocError>
 }
 
 /// What stops a reading where the tokens so far stand: a form that is left out first, and then levels.
-fn halt_cause(tree: &PartialTree) -> Option<HaltCause>
+pub fn halt_cause(tree: &PartialTree) -> Option<HaltCause>
     ensures { result ≡ told_of tree.now }
 {
     match tree.left_out() {
@@ -123,7 +123,7 @@ fn take_token(
 }
 
 /// A token at a place of the list, before others, as the grammar sees it.
-fn lexeme_of(source: &[u8], at: u32, token: &Token, later: &[Token]) -> Lexeme
+pub fn lexeme_of(source: &[u8], at: u32, token: &Token, later: &[Token]) -> Lexeme
     ensures { result ≡ lexeme_of source.now at token.now later.now }
 {
     Lexeme {

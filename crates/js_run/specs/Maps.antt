@@ -48,6 +48,7 @@ map_party f g p =
       bodies = map (map_open_body f g) p.bodies;
       depth = p.depth;
       calls = p.calls;
+      frozen_errors = p.frozen_errors;
     }
 
 abbrev pub map_mark : {A B : Type 0} → (A → B) → A × Marks → B × Marks

@@ -40,7 +40,7 @@ pub record Loaded : Type 0 where
   pub begun : Option ℕ
 
 -- The global is the first object. The templates grow as function objects are made, and their numbers are the party's own;
--- those of the common part come before them. The body that runs stands first
+-- those of the common part come before them. The body that runs stands first. The errors that the machine makes for the host are frozen, as all its objects are
 pub record Party (R S : Type 0) : Type 0 where
   pub name : List ℕ
   pub main : List ℕ
@@ -55,6 +55,7 @@ pub record Party (R S : Type 0) : Type 0 where
   pub bodies : List (Body R S)
   pub depth : ℕ
   pub calls : List OutsideCall
+  pub frozen_errors : Bool
 
 -- BODIES
 

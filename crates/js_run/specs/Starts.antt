@@ -33,11 +33,12 @@ blank = record {
   bodies = [];
   depth = 0;
   calls = [];
+  frozen_errors = false;
 }
 
--- the host has its objects, and the link to the application's own package
+-- the host has its objects, and the link to the application's own package. Its errors are frozen
 abbrev pub host_party : Party Ref MadeSymbol
-host_party = record blank { links = codes "$root$" ∷ []; objects = host_objects (naming_of 0) }
+host_party = record blank { links = codes "$root$" ∷ []; objects = host_objects (naming_of 0); frozen_errors = true }
 
 -- a name that a package is given: data that may be listed, written and configured
 -- LavaMoat policy, globals

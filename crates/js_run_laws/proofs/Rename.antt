@@ -68,6 +68,7 @@ module _ {A B S T : Type 0} (p : A ≡ B) (q : S ≡ T) where
     bodies = list_moves (λ i. Body (p i) (q i)) (map_open_body (to p) (to_symbol q)) open_body_moves r.bodies j;
     depth = r.depth;
     calls = coe j 1 (_. List OutsideCall) r.calls;
+    frozen_errors = r.frozen_errors;
   }
 
   mark_moves : (e : A × Marks) → coe 0 1 (i. p i × Marks) e ≡ map_mark (to p) e

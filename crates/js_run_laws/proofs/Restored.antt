@@ -324,4 +324,5 @@ module _ {A B S T : Type 0} (f : A → B) (g : S → T) (h : B → A) (k : T →
         bodies = all_restored open_body_identities (map_open_body f to) (map_open_body h fro) open_body_restored p.bodies (first_of bodies (builtin ++ modules) after_scopes) j;
         depth = p.depth;
         calls = p.calls;
+        frozen_errors = p.frozen_errors;
       }

@@ -56,13 +56,14 @@ impl Elements {
 
     /// The property at an index.
     #[tactic(auto, using(crate::proofs::Dense_laws::found_dense, crate::proofs::Dense_laws::found_sparse))]
+    #[inline]
     pub(crate) fn get(&self, index: u32) -> Option<&Descriptor>
         ensures { option_map (λ d. d.now) result ≡ lookup (is_at (nat_cmp index)) self.now }
     {
         if (index as usize) < self.dense.len() {
             self.dense[index as usize].as_ref()
         } else {
-            self.sparse.get(&index)
+            get_sparse(&self.sparse, index)
         }
     }
 
@@ -136,6 +137,15 @@ impl Elements {
     {
         self.sparse.len();
     }
+}
+
+/// The property at an index among the sparse ones.
+#[inline(never)]
+fn get_sparse(sparse: &BTreeMap<u32, Descriptor>, index: u32) -> Option<&Descriptor>
+    ensures { let found = option_map (λ d. d.now) result in
+        found ≡ lookup (is_at (nat_cmp index)) sparse.now.entries }
+{
+    sparse.get(&index)
 }
 
 /// Puts a property, or none, at a dense index.

@@ -9,7 +9,7 @@ ghost use Rattle.js_text.specs.Fingerprints.{text_fingerprint};
 ghost use Rattle.js_text.specs.Values.{same_key};
 ghost use Rattle.js_text.specs.declared.value.Key.TheVariants as spelled;
 ghost use Rattle.indexmap.specs.IndexMap.{insert_entry};
-ghost use Rattle.js_store.specs.Few.{chosen, entries_before, with_value_at};
+ghost use Rattle.js_store.specs.Few.{chosen, entries_before, mark_of, with_value_at};
 
 use indexmap::IndexMap;
 use js_desc::descriptor::Descriptor;
@@ -25,11 +25,101 @@ use std::marker::Model;
 /// How many names are found by a look at each: from there on hashing is faster.
 const FEW_NAMES: usize = 8;
 
+/// A property with its key, and a mark of the key, by which most other keys are told apart at once.
+#[derive(Drop)]
+struct NamedProperty {
+    mark: u32,
+    key: Key,
+    property: Descriptor,
+}
+
+impl Model for NamedProperty {
+    ghost use Rattle.std.specs.Prelude.{◌≡◌};
+    ghost use Rattle.lava_base.specs.declared.ids.MadeSymbol.{MadeSymbol};
+    ghost use Rattle.lava_base.specs.declared.ids.Ref.{Ref};
+    ghost use Rattle.js_text.specs.declared.value.Key.{Key as Name};
+    ghost use Rattle.js_desc.specs.declared.descriptor.Descriptor.{Descriptor as Property};
+    ghost use Rattle.js_store.specs.Few.{mark_of};
+
+    ghost Value = { Name MadeSymbol × Property Ref MadeSymbol };
+
+    ghost view = { λ p. (p.key, p.property) };
+
+    ghost invariant = { λ p. p.mark ≡ mark_of p.key };
+}
+
+impl NamedProperty {
+    /// A property at a key.
+    fn new(key: Key, property: Descriptor) -> NamedProperty
+        ensures { result ≡ (key, property) }
+    {
+        let mark = mark_of(&key);
+        NamedProperty {
+            mark,
+            key,
+            property,
+        }
+    }
+
+    /// Its key.
+    #[inline]
+    fn key(&self) -> &Key
+        ensures { result.now ≡ self.now.0 }
+    {
+        &self.key
+    }
+
+    /// The property.
+    #[inline]
+    fn property(&self) -> &Descriptor
+        ensures { result.now ≡ self.now.1 }
+    {
+        &self.property
+    }
+
+    /// Puts another property in its place.
+    fn put(&mut self, property: Descriptor)
+        ensures { self.new ≡ (self.old.0, property) }
+    {
+        self.property = property;
+    }
+
+    /// Whether the key is this text, which has this fingerprint.
+    #[inline]
+    fn is_at(&self, text: &Text, fingerprint: u32) -> bool
+        requires { fingerprint ≡ text_fingerprint text.now }
+        ensures { result ≡ same_key same_made_symbol (spelled.Text text.now) self.now.0 }
+    {
+        self.mark == fingerprint && is_key_of_text(&self.key, text)
+    }
+}
+
+/// The mark of a key: the fingerprint of a text, and 0 for any other.
+fn mark_of(key: &Key) -> u32
+    ensures { result ≡ mark_of key.now }
+{
+    match key {
+        Key::Text(text) => text.fingerprint(),
+        _ => 0,
+    }
+}
+
+/// Whether a key is this text.
+#[inline]
+fn is_key_of_text(key: &Key, text: &Text) -> bool
+    ensures { result ≡ same_key same_made_symbol (spelled.Text text.now) key.now }
+{
+    match key {
+        Key::Text(other) => text.has_same_units(other),
+        _ => false,
+    }
+}
+
 /// The properties at keys that are no array indices, in order of creation. The first `FEW_NAMES` stand in a vector and are found by a scan, those behind them are hashed.
 #[derive(Drop)]
 pub(crate) struct NamedProperties {
     /// The first ones.
-    few: Vec<(Key, Descriptor)>,
+    few: Vec<NamedProperty>,
     /// Those behind them.
     many: IndexMap<Key, Descriptor>,
 }
@@ -66,18 +156,16 @@ impl NamedProperties {
 
     /// The property of a key.
     #[tactic(auto, using(crate::proofs::Few_laws::own_few, crate::proofs::Few_laws::own_many, crate::proofs::Few_laws::own_none))]
+    #[inline]
     pub(crate) fn own(&self, key: &Key) -> Option<&Descriptor>
         ensures { let found = option_map (λ d. d.now) result in
             found ≡ lookup (same_key same_made_symbol key.now) self.now }
     {
         let at = place_of(&self.few, key);
         if at < self.few.len() {
-            return Some(&self.few[at].1);
+            return Some(self.few[at].property());
         }
-        if self.many.is_empty() {
-            return None;
-        }
-        self.many.get(key)
+        own_hashed(&self.many, key)
     }
 
     /// Writes the property of a key: one that is there keeps its place, and a new one goes last.
@@ -123,8 +211,21 @@ impl NamedProperties {
     }
 }
 
+/// The property of a key among the hashed ones. Where there are none, the key is not hashed.
+#[inline(never)]
+fn own_hashed<'a>(many: &'a IndexMap<Key, Descriptor>, key: &Key) -> Option<&'a Descriptor>
+    ensures { let found = option_map (λ d. d.now) result in
+        found ≡ lookup (same_key same_made_symbol key.now) many.now.entries }
+{
+    if many.is_empty() {
+        return None;
+    }
+    many.get(key)
+}
+
 /// Where the property of a key stands, or how many there are where it does not.
-fn place_of(few: &[(Key, Descriptor)], key: &Key) -> usize
+#[inline]
+fn place_of(few: &[NamedProperty], key: &Key) -> usize
     ensures { result ≡ entries_before (same_key same_made_symbol key.now) few.now }
 {
     match key {
@@ -135,13 +236,14 @@ fn place_of(few: &[(Key, Descriptor)], key: &Key) -> usize
 
 /// The same of a text. Only one of the same fingerprint is compared with it.
 #[tactic(auto, using(crate::proofs::Few_laws::scan_step, crate::proofs::Few_laws::scan_end))]
-fn place_of_text(few: &[(Key, Descriptor)], text: &Text) -> usize
+#[inline]
+fn place_of_text(few: &[NamedProperty], text: &Text) -> usize
     ensures { let same = same_key same_made_symbol (spelled.Text text.now) in
         result ≡ entries_before same few.now }
 {
     let fingerprint = text.fingerprint();
     for at in 0..few.len() {
-        if is_key_of_text(&few[at].0, text, fingerprint) {
+        if few[at].is_at(text, fingerprint) {
             return at;
         }
     }
@@ -150,32 +252,22 @@ fn place_of_text(few: &[(Key, Descriptor)], text: &Text) -> usize
 
 /// The same of a key that is no text.
 #[tactic(auto, using(crate::proofs::Few_laws::scan_step, crate::proofs::Few_laws::scan_end))]
-fn place_of_other(few: &[(Key, Descriptor)], key: &Key) -> usize
+#[inline(never)]
+fn place_of_other(few: &[NamedProperty], key: &Key) -> usize
     ensures { result ≡ entries_before (same_key same_made_symbol key.now) few.now }
 {
     for at in 0..few.len() {
-        if is_same_key(key, &few[at].0) {
+        if is_same_key(key, few[at].key()) {
             return at;
         }
     }
     few.len()
 }
 
-/// Whether a key is this text, which has this fingerprint.
-fn is_key_of_text(key: &Key, text: &Text, fingerprint: u32) -> bool
-    requires { fingerprint ≡ text_fingerprint text.now }
-    ensures { result ≡ same_key same_made_symbol (spelled.Text text.now) key.now }
-{
-    match key {
-        Key::Text(other) => other.fingerprint() == fingerprint && text.is_same(other),
-        _ => false,
-    }
-}
-
 /// Writes the property of a key among the first ones, or those behind them.
 #[tactic(auto, using(crate::proofs::Few_laws::written_here, crate::proofs::Few_laws::written_next, crate::proofs::Few_laws::written_many))]
 fn write_first(
-    few: &mut Vec<(Key, Descriptor)>,
+    few: &mut Vec<NamedProperty>,
     many: &mut IndexMap<Key, Descriptor>,
     key: Key,
     property: Descriptor,
@@ -199,7 +291,7 @@ fn write_first(
 
 /// Takes the property of a key out of the first ones, or of those behind them.
 #[tactic(auto, using(crate::proofs::Few_laws::removed_here, crate::proofs::Few_laws::removed_many))]
-fn remove_first(few: &mut Vec<(Key, Descriptor)>, many: &mut IndexMap<Key, Descriptor>, key: &Key)
+fn remove_first(few: &mut Vec<NamedProperty>, many: &mut IndexMap<Key, Descriptor>, key: &Key)
     ensures { let before = few.old.items ++ many.old.entries in
         let after = remove_entry (same_key same_made_symbol key.now) before in
         few.new.items ++ many.new.entries ≡ after }
@@ -215,7 +307,7 @@ fn remove_first(few: &mut Vec<(Key, Descriptor)>, many: &mut IndexMap<Key, Descr
 /// Replaces the property of a key among the first ones, or those behind them.
 #[tactic(auto, using(crate::proofs::Few_laws::replaced_here, crate::proofs::Few_laws::replaced_many, crate::proofs::Few_laws::found_few, crate::proofs::Few_laws::own_many))]
 fn replace_first(
-    few: &mut Vec<(Key, Descriptor)>,
+    few: &mut Vec<NamedProperty>,
     many: &mut IndexMap<Key, Descriptor>,
     key: Key,
     property: Descriptor,
@@ -237,15 +329,15 @@ fn replace_first(
 
 /// Puts another property at a place.
 #[tactic(auto, using(crate::proofs::Few_laws::put_at))]
-fn put(few: &mut Vec<(Key, Descriptor)>, at: usize, property: Descriptor)
+fn put(few: &mut Vec<NamedProperty>, at: usize, property: Descriptor)
     requires { at < length few.old.items }
     ensures { few.new.items ≡ with_value_at few.old.items at property }
 {
-    few[at].1 = property;
+    few[at].put(property);
 }
 
 /// Takes a property at a place out.
-fn take_out(few: &mut Vec<(Key, Descriptor)>, at: usize)
+fn take_out(few: &mut Vec<NamedProperty>, at: usize)
     requires { at < length few.old.items }
     ensures { few.new.items ≡ remove few.old.items at }
 {
@@ -253,11 +345,11 @@ fn take_out(few: &mut Vec<(Key, Descriptor)>, at: usize)
 }
 
 /// Appends a property to the first ones.
-fn push(few: &mut Vec<(Key, Descriptor)>, key: Key, property: Descriptor) -> Result<(), OutOfMemory>
+fn push(few: &mut Vec<NamedProperty>, key: Key, property: Descriptor) -> Result<(), OutOfMemory>
     ensures ok { OnOk result (few.new.items ≡ few.old.items ++ (key, property) ∷ []) }
     ensures err { OnErr result (few.new.items ≡ few.old.items) }
 {
-    few.push((key, property))?;
+    few.push(NamedProperty::new(key, property))?;
     Ok(())
 }
 
@@ -289,17 +381,13 @@ fn replace_hashed(many: &mut IndexMap<Key, Descriptor>, key: Key, property: Desc
 }
 
 /// Appends those keys of the first ones that are symbols, or those that are none.
-fn push_few(
-    few: &[(Key, Descriptor)],
-    symbols: bool,
-    keys: &mut List<Key>,
-) -> Result<(), OutOfMemory>
+fn push_few(few: &[NamedProperty], symbols: bool, keys: &mut List<Key>) -> Result<(), OutOfMemory>
     ensures { let names = filter (chosen symbols) (keys_of few.now) in
         OnOk result (keys.new ≡ keys.old ++ names) }
 {
     for entry in few {
-        if is_chosen(&entry.0, symbols) {
-            keys.push(copy_key(&entry.0)?)?;
+        if is_chosen(entry.key(), symbols) {
+            keys.push(copy_key(entry.key())?)?;
         }
     }
     Ok(())

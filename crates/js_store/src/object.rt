@@ -144,6 +144,7 @@ impl FlatObject {
     }
 
     /// The own property of a key.
+    #[inline]
     pub(crate) fn own(&self, key: &Key) -> Option<&Descriptor>
         ensures { let found = option_map (λ d. d.now) result in
             found ≡ ordinary_get_own_property same_made_symbol key.now self.now.properties }

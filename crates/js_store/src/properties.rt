@@ -52,6 +52,7 @@ impl Properties {
 
     /// The property of a key.
     #[tactic(auto, using(crate::proofs::Halves_laws::own_index, crate::proofs::Halves_laws::own_named))]
+    #[inline]
     pub(crate) fn own(&self, key: &Key) -> Option<&Descriptor>
         ensures { let found = option_map (λ d. d.now) result in
             found ≡ ordinary_get_own_property same_made_symbol key.now self.now }

@@ -13,3 +13,4 @@ pub mod Places
 pub mod Rising
 pub mod Search_laws
 pub mod Units
+pub mod Words

@@ -38,6 +38,7 @@ fn fingerprint_with(len: u32, first: u16, middle: u16, last: u16) -> u32
 
 impl Text {
     /// A number that is the same for the same text. It takes constant time, and one look at a text of few units, which was made with it.
+    #[inline]
     pub fn fingerprint(&self) -> u32
         ensures { result ≡ text_fingerprint self.now }
     {
@@ -48,6 +49,7 @@ impl Text {
     }
 
     /// The fingerprint of a text whose units stand apart.
+    #[inline(never)]
     fn long_fingerprint(&self) -> u32
         ensures { result ≡ text_fingerprint self.now }
     {

@@ -192,15 +192,25 @@ impl Text {
     }
 
     /// The same, without a look at the fingerprints.
-    fn has_same_units(&self, other: &Text) -> bool
-        ensures { IsTrue result ↔ (self.now ≡ other.now) }
+    #[inline]
+    pub fn has_same_units(&self, other: &Text) -> bool
+        ensures test { result ≡ same_units self.now other.now }
+        ensures equal { IsTrue result ↔ (self.now ≡ other.now) }
     {
         match (&*self.node, &*other.node) {
             (Node::Whole { units, .. }, Node::Whole { units: others, .. }) => are_same(
                 units, others,
             ),
-            _ => self.len() == other.len() && self.has_at(0, other),
+            _ => self.has_same_runs(other),
         }
+    }
+
+    /// The same, where the units may be in several pieces.
+    #[inline(never)]
+    fn has_same_runs(&self, other: &Text) -> bool
+        ensures { IsTrue result ↔ (self.now ≡ other.now) }
+    {
+        self.len() == other.len() && self.has_at(0, other)
     }
 
     /// Whether a part that is not too long for it stands at a place.

@@ -82,6 +82,7 @@ party_with p c o = record p {
   bodies = o.bodies;
   depth = o.depth;
   calls = o.calls;
+  frozen_errors = nat_eq o.me 0;
 }
 
 -- a body that waits, with what goes on there

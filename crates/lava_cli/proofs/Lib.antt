@@ -1,1 +1,3 @@
 mod Comes
+mod Decided
+mod Finished

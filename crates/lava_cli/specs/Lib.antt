@@ -1,1 +1,3 @@
 pub mod RunAnswers
+pub mod Causes
+pub mod Finishes

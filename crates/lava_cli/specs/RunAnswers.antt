@@ -1,16 +1,16 @@
 -- What `lava run DIR` and `lava trace DIR` answer: the cause of each answer, and what the call leaves of the outside.
-use Rattle.std.specs.Prelude.{◌≡◌, ℕ, ◌-◌, List, Option, Some, None, Result, Ok, Err}
+use Rattle.std.specs.Prelude.{◌≡◌, ◌⊎◌, ℕ, List, Option, Some, None, Result, Ok, Err}
 use Rattle.lava_host.specs.Hosts.{HostWorld}
 use Rattle.lava_lines.specs.Puts as puts
 use Rattle.lava_lines.specs.declared.status.TheConstants as texts
 use Rattle.lava_runner.specs.Reports.{IsRunOf}
 use Rattle.lava_runner.specs.lava_report.declared.report.Mode.{Mode}
 use Rattle.lava_streams.specs.Outside.{Outside, outside}
-use Rattle.lava_tree.specs.TreeAnswers.{TreeAnswers}
+use Rattle.lava_tree.specs.TreeAnswers.{TreeAnswers, TreeEnds, TreeRefuses}
 use Rattle.lava_runner.specs.ses_prelude.Preludes.{IsPreludeFault, prelude}
 use Rattle.lava_runner.specs.lava_loading.Loads.{CountsLoading, IsLoading}
 use Rattle.lava_runner.specs.lava_report.Tells.{RunReports, ended_in}
-use Rattle.lava_runner.specs.lava_report.Words.{Asked, Runs, Trees, command_of}
+use Rattle.lava_words.specs.Words.{Asked, Runs, Trees, command_of}
 use Rattle.lava_runner.specs.lava_loading.declared.loading.LoadedApplication.{LoadedApplication}
 use Rattle.lava_runner.specs.lava_loading.declared.loading.LoadingFault.{LoadingFault}
 use Rattle.lava_runner.specs.lava_loading.declared.loading.LoadingFault.TheVariants as loading
@@ -70,9 +70,11 @@ pub record RunAnswers (mode : Mode) (directory : List ℕ) (budget : ℕ) (befor
 abbrev pub outside_in : HostWorld → Outside
 outside_in w = outside w.folder w.output w.errors
 
--- `tree FILE`
+-- `tree FILE`: each answer has its cause, and a file that is a program, or none, has its answer
 pub record TreeAnswersIn (file : List ℕ) (before after : HostWorld) (status : ℕ) : Type 0 where
   pub answers : TreeAnswers file (outside_in before) (outside_in after) status
+  pub ends : TreeEnds file (outside_in before) (outside_in after) status
+  pub refuses : TreeRefuses file (outside_in before) (outside_in after) status
   pub input : after.input ≡ before.input
   pub clock : after.clock ≡ before.clock
 
@@ -86,6 +88,11 @@ AnswersTo None before after status = UsageAnswers before after status
 AnswersTo (Some (Runs mode directory budget)) before after status = RunAnswers mode directory budget before after status
 AnswersTo (Some (Trees file)) before after status = TreeAnswersIn file before after status
 
+-- there was no memory to take the words apart: that is told, and nothing else is touched
+pub record WordsLack (before after : HostWorld) (status : ℕ) : Type 0 where
+  pub told : puts.Lacks before.errors after.errors status
+  pub rest : after ≡ record before { errors = after.errors }
+
 -- the answer to words
 abbrev pub CommandAnswers : (said : List (List ℕ)) → (before after : HostWorld) → (status : ℕ) → Type 0
-CommandAnswers said before after status = AnswersTo (command_of said) before after status
+CommandAnswers said before after status = AnswersTo (command_of said) before after status ⊎ WordsLack before after status

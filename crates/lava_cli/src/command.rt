@@ -1,23 +1,28 @@
 // What the program does with its words.
 
 ghost use Rattle.std.specs.Prelude.{◌≡◌, ◌≢◌, map, string_bytes};
+ghost use Rattle.std.specs.Option.{option_map};
 ghost use Rattle.std.specs.IoError.{error_kind};
 ghost use Rattle.lava_host.specs.Hosts.{host_world};
 ghost use Rattle.lava_lines.specs.Puts.{Puts};
 ghost use Rattle.lava_lines.specs.declared.status.TheConstants as texts;
-ghost use Rattle.lava_cli.specs.RunAnswers.{CommandAnswers, RunAnswers};
+ghost use Rattle.lava_words.specs.Words.{told_command};
+ghost use Rattle.lava_cli.specs.Causes.{CommandDecides};
+ghost use Rattle.lava_cli.specs.Finishes.{CommandFinishes};
+ghost use Rattle.lava_cli.specs.RunAnswers.{AnswersTo, CommandAnswers, RunAnswers};
 
 use crate::run_command::run_directory;
 use lava_lines::report::put_line;
 use lava_lines::status::{MEMORY_LINE, MEMORY_STATUS, USAGE_LINE, USAGE_STATUS};
+use lava_runner::lava_loading::laws::one_loading;
 use lava_runner::lava_report::report::Mode;
 use lava_runner::lava_report::run_report::report_run;
-use lava_runner::lava_report::words::{Command, command_of};
 use lava_streams::clock::Clock;
 use lava_streams::folder::Folder;
 use lava_streams::sink::Sink;
 use lava_streams::source::Source;
 use lava_tree::tree::tree;
+use lava_words::words::{Command, command_of};
 use std::alloc::Global;
 use std::io;
 use std::io::ErrorKind;
@@ -46,30 +51,23 @@ fn run<F: Folder, I: Source, O: Sink, E: Sink, C: Clock>(
     report_run(alloc, outcome, err)
 }
 
-/// Does what the words say, and gives the exit status. The words come without the program's own name.
-///
-/// - `run DIR [--budget N]` loads the application of a directory (`package.json`, its policy files, `index.js` or its `main`, and what these require) and runs it, each package with what its row grants it.
-/// - `trace DIR [--budget N]` does the same, and appends the trace of the run in place of what it prints.
-/// - `tree FILE` appends the lines of the core term that a module is lowered to.
-///
-/// The statuses: 0 done, 1 a thrown value that nothing caught, 2 usage, 3 nothing was loaded, 4 a policy file is refused, 5 a limit of the language, 6 the budget was used up,
-/// 7 a call on an object of the outside failed, 9 want of memory.
-pub fn lava<F: Folder, I: Source, O: Sink, E: Sink, C: Clock>(
+/// Does what was asked for, or tells that nothing was.
+fn do_asked<F: Folder, I: Source, O: Sink, E: Sink, C: Clock>(
     alloc: Global,
-    words: &[String],
+    asked: Option<Command<'_>>,
     folder: &mut F,
     input: &mut I,
     out: &mut O,
     err: &mut E,
     clock: &mut C,
 ) -> u8
-    ensures answers { let before = host_world (F.Folder.stand folder.old) (I.Source.stand input.old)
+    ensures { let before = host_world (F.Folder.stand folder.old) (I.Source.stand input.old)
         (O.Sink.stand out.old) (E.Sink.stand err.old) (C.Clock.stand clock.old) in
         let after = host_world (F.Folder.stand folder.new) (I.Source.stand input.new)
         (O.Sink.stand out.new) (E.Sink.stand err.new) (C.Clock.stand clock.new) in
-        CommandAnswers (map string_bytes words.now) before after result }
+        AnswersTo (option_map told_command asked.entry) before after result }
 {
-    match command_of(words) {
+    match asked {
         Some(
             Command::Run {
                 mode,
@@ -82,6 +80,70 @@ pub fn lava<F: Folder, I: Source, O: Sink, E: Sink, C: Clock>(
         Some(Command::Tree { file }) => tree(alloc, file, folder, out, err),
         None => put_line(USAGE_LINE.as_bytes(), USAGE_STATUS, err),
     }
+}
+
+/// Takes the words apart, and does what they say.
+fn answer<F: Folder, I: Source, O: Sink, E: Sink, C: Clock>(
+    alloc: Global,
+    words: &[String],
+    folder: &mut F,
+    input: &mut I,
+    out: &mut O,
+    err: &mut E,
+    clock: &mut C,
+) -> u8
+    ensures { let before = host_world (F.Folder.stand folder.old) (I.Source.stand input.old)
+        (O.Sink.stand out.old) (E.Sink.stand err.old) (C.Clock.stand clock.old) in
+        let after = host_world (F.Folder.stand folder.new) (I.Source.stand input.new)
+        (O.Sink.stand out.new) (E.Sink.stand err.new) (C.Clock.stand clock.new) in
+        CommandAnswers (map string_bytes words.now) before after result }
+{
+    match command_of(alloc, words) {
+        Ok(asked) => do_asked(alloc, asked, folder, input, out, err, clock),
+        Err(_) => put_line(MEMORY_LINE.as_bytes(), MEMORY_STATUS, err),
+    }
+}
+
+/// Does what the words say, and gives the exit status. The words come without the program's own name.
+///
+/// - `run DIR [--budget N]` loads the application of a directory (`package.json`, its policy files, `index.js` or its `main`, and what these require) and runs it, each package with what its row grants it.
+/// - `trace DIR [--budget N]` does the same, and appends the trace of the run in place of what it prints.
+/// - `tree FILE` appends the lines of the core term that a module is lowered to.
+///
+/// The words are those of a command of `clap`: `--budget=N` is the option too, and behind `--` a word may begin with `-`.
+///
+/// The statuses: 0 done, 1 a thrown value that nothing caught, 2 usage, 3 nothing was loaded, 4 a policy file is refused, 5 a limit of the language, 6 the budget was used up,
+/// 7 a call on an object of the outside failed, 9 want of memory.
+pub fn lava<F: Folder, I: Source, O: Sink, E: Sink, C: Clock>(
+    alloc: Global,
+    words: &[String],
+    folder: &mut F,
+    input: &mut I,
+    out: &mut O,
+    err: &mut E,
+    clock: &mut C,
+) -> u8
+    // Each answer has its cause.
+    ensures answers { let before = host_world (F.Folder.stand folder.old) (I.Source.stand input.old)
+        (O.Sink.stand out.old) (E.Sink.stand err.old) (C.Clock.stand clock.old) in
+        let after = host_world (F.Folder.stand folder.new) (I.Source.stand input.new)
+        (O.Sink.stand out.new) (E.Sink.stand err.new) (C.Clock.stand clock.new) in
+        CommandAnswers (map string_bytes words.now) before after result }
+    // Each cause has its answer, and no other one beside it.
+    ensures decides { let before = host_world (F.Folder.stand folder.old) (I.Source.stand input.old)
+        (O.Sink.stand out.old) (E.Sink.stand err.old) (C.Clock.stand clock.old) in
+        let after = host_world (F.Folder.stand folder.new) (I.Source.stand input.new)
+        (O.Sink.stand out.new) (E.Sink.stand err.new) (C.Clock.stand clock.new) in
+        CommandDecides (map string_bytes words.now) before after result }
+    // Where there is no cause, the run is over, or there was no memory.
+    ensures finishes { let before = host_world (F.Folder.stand folder.old) (I.Source.stand input.old)
+        (O.Sink.stand out.old) (E.Sink.stand err.old) (C.Clock.stand clock.old) in
+        let after = host_world (F.Folder.stand folder.new) (I.Source.stand input.new)
+        (O.Sink.stand out.new) (E.Sink.stand err.new) (C.Clock.stand clock.new) in
+        CommandFinishes (map string_bytes words.now) before after result }
+{
+    one_loading();
+    answer(alloc, words, folder, input, out, err, clock)
 }
 
 /// Says why a command couldn't begin, and gives the exit status: a word that is not UTF-8 is a usage fault, and all else is want of memory.

@@ -1,10 +1,11 @@
 -- A line rests on the marks that are found for each reference alone.
-use Rattle.std.proofs.Common.{Bool, true, false, List, [], ◌∷◌, ◌++◌, ap, subst, sym}
+use Rattle.std.proofs.Common.{◌≡◌, refl, Bool, true, false, List, [], ◌∷◌, ◌++◌, ap, subst, sym}
 use Rattle.std.specs.Option.{option_map, unwrap_or}
 use Rattle.lava_base.specs.declared.ids.MadeSymbol.{MadeSymbol}
 use Rattle.lava_base.specs.declared.ids.Ref.{Ref}
 use Rattle.lava_base.specs.declared.ids.Ref.TheVariants.{Common, Own}
 use Rattle.lava_journal.specs.Alike.{AreAlike}
+use Rattle.lava_journal.specs.Pages.{with_each}
 use Rattle.lava_journal.specs.Quotes.{marks_text}
 use Rattle.lava_journal.specs.Sheets.{An_object, A_symbol, Piece, Plain, Sheet, is_shown, with_marks_of, with_name, with_piece, with_pieces}
 
@@ -40,3 +41,9 @@ pub alike_pieces : (ps : List (Piece Ref MadeSymbol)) (s t : Sheet) → AreAlike
 unfolding with_pieces
 alike_pieces [] s t a = a
 alike_pieces (p ∷ ps) s t a = alike_pieces ps (with_piece s p) (with_piece t p) (alike_piece s t p a)
+
+-- a sheet is a page
+pub on_a_sheet : (ps : List (Piece Ref MadeSymbol)) (s : Sheet) → with_each with_piece s ps ≡ with_pieces s ps
+unfolding with_each with_pieces
+on_a_sheet [] s = refl
+on_a_sheet (p ∷ ps) s = on_a_sheet ps (with_piece s p)

@@ -1,24 +1,23 @@
 // A line that is being written, with what the trace has named.
 
-ghost use Rattle.std.specs.Prelude.{◌≡◌, ◌++◌, ◌∷◌, [], decimal, false, slice_get, OnOk};
-ghost use Rattle.std.specs.Fmt.{signed_decimal};
+ghost use Rattle.std.specs.Prelude.{◌≡◌, ◌++◌, [], false, OnOk};
 ghost use Rattle.std.specs.Map.{lookup};
-ghost use Rattle.std.specs.Option.{unwrap_or};
 ghost use Rattle.lava_base.specs.Ids.{same_ref};
 ghost use Rattle.lava_base.specs.declared.ids.Ref.{Ref as Reference};
-ghost use Rattle.js_text.specs.CommonPaths.{common_paths};
-ghost use Rattle.lava_journal.specs.Bodies.{plain};
 ghost use Rattle.lava_journal.specs.Alike.{AreAlike};
+ghost use Rattle.lava_journal.specs.Lines.{crossing_line};
 ghost use Rattle.lava_journal.specs.Quotes as quote;
-ghost use Rattle.lava_journal.specs.Sheets.{An_object, A_symbol, blank, is_shown, no_names, with_marks_of, with_name, with_pieces};
+ghost use Rattle.lava_journal.specs.Sheets.{blank, is_shown, no_names, with_marks_of, with_name};
 
+use crate::bodies::write_line;
 use crate::numbers::Numbers;
-use crate::quotes::{class_name, push_quoted};
+use crate::page::Page;
+use crate::quotes::{push_common, push_marks, push_quoted, push_quoted_number};
 use indexmap::IndexMap;
 use itoa::Buffer;
-use js_text::common::common_path;
+use js_desc::crossing::Crossing;
 use js_text::text::Text;
-use lava_base::ids::{CommonId, MadeSymbol, PartyId, Ref};
+use lava_base::ids::{MadeSymbol, PartyId, Ref};
 use lava_base::list::List;
 use lava_base::marks::Marks;
 use lava_base::memory::OutOfMemory;
@@ -69,79 +68,18 @@ impl Pen {
         self.text.as_slice()
     }
 
-    /// Writes bytes as they stand.
-    #[tactic(auto, unfolding(crate::specs::Sheets::with_pieces))]
-    pub(crate) fn bytes(&mut self, bytes: &[u8]) -> Result<(), OutOfMemory>
-        ensures { OnOk result (self.new ≡ with_pieces self.old (plain bytes.now)) }
+    /// Writes the line of a crossing, and nothing else. The marks of the references that it names are listed.
+    pub(crate) fn fresh_line(
+        &mut self,
+        number: u64,
+        crossing: &Crossing,
+        marks: &List<(Ref, Marks)>,
+    ) -> Result<(), OutOfMemory>
+        ensures { let line = crossing_line self.old.names number crossing.now marks.now in
+            OnOk result (AreAlike self.new line) }
     {
-        self.text.extend_from_slice(bytes)
-    }
-
-    /// Writes a word.
-    pub(crate) fn word(&mut self, word: &str) -> Result<(), OutOfMemory>
-        ensures { OnOk result (self.new ≡ with_pieces self.old (plain word.now)) }
-    {
-        self.bytes(word.as_bytes())
-    }
-
-    /// Writes a number in decimal.
-    pub(crate) fn number(&mut self, number: u64) -> Result<(), OutOfMemory>
-        ensures { OnOk result (self.new ≡ with_pieces self.old (plain (decimal number))) }
-    {
-        let mut buffer = Buffer::new();
-        self.word(buffer.format(number))
-    }
-
-    /// Writes an integer in decimal.
-    pub(crate) fn integer(&mut self, integer: i64) -> Result<(), OutOfMemory>
-        ensures { OnOk result (self.new ≡ with_pieces self.old (plain (signed_decimal integer))) }
-    {
-        let mut buffer = Buffer::new();
-        self.word(buffer.format(integer))
-    }
-
-    /// Writes a quoted text.
-    #[tactic(auto, unfolding(crate::specs::Sheets::with_pieces))]
-    pub(crate) fn quoted(&mut self, text: &Text) -> Result<(), OutOfMemory>
-        ensures { OnOk result (self.new ≡ with_pieces self.old (plain (quote.quoted text.now))) }
-    {
-        push_quoted(&mut self.text, text)
-    }
-
-    /// Writes the digits of a number between two `"`.
-    #[tactic(auto, unfolding(crate::specs::Sheets::with_pieces))]
-    pub(crate) fn quoted_number(&mut self, number: u32) -> Result<(), OutOfMemory>
-        ensures { OnOk result (self.new ≡ with_pieces self.old
-            (plain (quote.quoted_number number))) }
-    {
-        let mut buffer = Buffer::new();
-        self.text.push(b'"')?;
-        self.text
-            .extend_from_slice(buffer.format(number).as_bytes())?;
-        self.text.push(b'"')
-    }
-
-    /// Writes a reference by its name, and by its marks where it stands for the first time.
-    #[tactic(auto, unfolding(crate::specs::Sheets::with_pieces))]
-    pub(crate) fn object(&mut self, reference: Ref) -> Result<(), OutOfMemory>
-        ensures { OnOk result (self.new ≡ with_pieces self.old (An_object reference ∷ [])) }
-    {
-        let is_shown = self.numbers.is_shown(reference);
-        self.name(reference)?;
-        if is_shown {
-            return Ok(());
-        }
-        self.marks_of(reference)
-    }
-
-    /// Writes a made symbol by its name.
-    #[tactic(auto, unfolding(crate::specs::Sheets::with_pieces))]
-    pub(crate) fn symbol(&mut self, symbol: MadeSymbol) -> Result<(), OutOfMemory>
-        ensures { OnOk result (self.new ≡ with_pieces self.old (A_symbol symbol ∷ [])) }
-    {
-        let number = self.numbers.symbol(symbol)?;
-        self.text.push(b'@')?;
-        push_pair(&mut self.text, symbol.party, number)
+        self.begin(marks)?;
+        write_line(self, number, crossing)
     }
 
     /// Writes the name of an object.
@@ -170,6 +108,45 @@ impl Pen {
     }
 }
 
+impl Page for Pen {
+    ghost use Rattle.lava_journal.specs.Sheets as sheet;
+
+    ghost with_piece = { sheet.with_piece };
+
+    #[tactic(auto, unfolding(crate::specs::Pages::with_each))]
+    fn bytes(&mut self, bytes: &[u8]) -> Result<(), OutOfMemory> {
+        self.text.extend_from_slice(bytes)
+    }
+
+    #[tactic(auto, unfolding(crate::specs::Pages::with_each))]
+    fn quoted(&mut self, text: &Text) -> Result<(), OutOfMemory> {
+        push_quoted(&mut self.text, text)
+    }
+
+    #[tactic(auto, unfolding(crate::specs::Pages::with_each))]
+    fn quoted_number(&mut self, number: u32) -> Result<(), OutOfMemory> {
+        push_quoted_number(&mut self.text, number)
+    }
+
+    /// A reference has its marks behind its name where it stands for the first time.
+    #[tactic(auto, unfolding(crate::specs::Pages::with_each))]
+    fn object(&mut self, reference: Ref) -> Result<(), OutOfMemory> {
+        let is_shown = self.numbers.is_shown(reference);
+        self.name(reference)?;
+        if is_shown {
+            return Ok(());
+        }
+        self.marks_of(reference)
+    }
+
+    #[tactic(auto, unfolding(crate::specs::Pages::with_each))]
+    fn symbol(&mut self, symbol: MadeSymbol) -> Result<(), OutOfMemory> {
+        let number = self.numbers.symbol(symbol)?;
+        self.text.push(b'@')?;
+        push_pair(&mut self.text, symbol.party, number)
+    }
+}
+
 /// Appends a party and a number in it.
 fn push_pair(out: &mut List<u8>, party: PartyId, number: u64) -> Result<(), OutOfMemory>
     ensures { OnOk result (out.new ≡ out.old ++ quote.pair_text party.0 number) }
@@ -178,40 +155,6 @@ fn push_pair(out: &mut List<u8>, party: PartyId, number: u64) -> Result<(), OutO
     out.extend_from_slice(buffer.format(party.0).as_bytes())?;
     out.push(b'.')?;
     out.extend_from_slice(buffer.format(number).as_bytes())
-}
-
-/// The path of a common object.
-fn path_of(id: CommonId) -> &'static str
-    ensures { result.now ≡ unwrap_or (slice_get common_paths id.0) [] }
-{
-    match common_path(id) {
-        None => "",
-        Some(path) => path,
-    }
-}
-
-/// Appends the path of a common object between two `%`.
-fn push_common(out: &mut List<u8>, id: CommonId) -> Result<(), OutOfMemory>
-    ensures { OnOk result (out.new ≡ out.old ++ quote.common_text id.0) }
-{
-    out.push(b'%')?;
-    out.extend_from_slice(path_of(id).as_bytes())?;
-    out.push(b'%')
-}
-
-/// Appends the marks of an object.
-fn push_marks(out: &mut List<u8>, marks: Marks) -> Result<(), OutOfMemory>
-    ensures { OnOk result (out.new ≡ out.old ++ quote.marks_text marks) }
-{
-    out.push(b'/')?;
-    out.extend_from_slice(class_name(marks.class).as_bytes())?;
-    if marks.callable {
-        out.extend_from_slice(b"+call")?;
-    }
-    if marks.constructor {
-        out.extend_from_slice(b"+new")?;
-    }
-    Ok(())
 }
 
 /// Puts the listed marks into a table that is empty. Of two at one reference the first is kept.

@@ -1,1 +1,4 @@
 mod Comes
+mod Load_laws
+mod Policy_laws
+mod One

@@ -1,3 +1,2 @@
-pub mod Words
 pub mod Tells
 pub use Rattle.lava_loading.specs as lava_loading

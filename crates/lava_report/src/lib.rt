@@ -1,16 +1,14 @@
-// What a command asks for, how a run of a folder ends, and what is told of that.
+// How a run of a folder ends, and what is told of that.
 //
-// - `words` has the words of a command.
 // - `report` has how a run ended, `outcome` how the run of a folder ends, and `ended` the name of the party in which one ended.
 // - `run_report` has what is told, and the exit status.
 //
-// Definitions are in specs/: `Words` has what words ask for, `Tells` what is told of each outcome.
+// Definitions are in specs/: `Tells` has what is told of each outcome.
 #![tactic(auto)]
 
 pub mod ended;
 pub mod outcome;
 pub mod report;
 pub mod run_report;
-pub mod words;
 
 pub use lava_loading;

@@ -1,2 +1,6 @@
 pub mod Calling
 pub mod Reported
+pub mod Repaired
+pub mod Counted
+pub mod Ended_laws
+pub mod Told

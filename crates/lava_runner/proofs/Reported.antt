@@ -9,7 +9,8 @@ use Rattle.lava_base.specs.declared.marks.Marks.{Marks}
 use Rattle.js_text.specs.Naming.{Origin, Own, Common, Foreign, naming_of, origin_of}
 use Rattle.js_store.specs.Foreign.{marks_of}
 use Rattle.js_store.specs.Objects.{object_at}
-use Rattle.js_host_laws.specs.Calls.{Gone_at_the_newest, Host_calls_are_crossings}
+use Rattle.js_host_laws.specs.Calls.{Gone_at_the_newest, HasHost, Host_calls_are_crossings}
+use Rattle.js_host_laws.specs.Prototypes.{HasRepairs}
 use Rattle.lava_driver.specs.js_run.Heap as heap
 use Rattle.lava_driver.specs.js_run.Heap.{Over_with, World, begins}
 use Rattle.lava_driver.specs.js_run.Completions as halt
@@ -17,7 +18,6 @@ use Rattle.lava_driver.specs.js_run.Journal.{Application, Fault, foreign_of}
 use Rattle.lava_driver.specs.js_run.Laws.{IsWellMade, Journal_is_net}
 use Rattle.lava_driver.specs.js_run.Parties.{Party}
 use Rattle.lava_driver.specs.js_run.Laws as laws
-use Rattle.lava_driver.specs.js_run.Starts.{host_party}
 use Rattle.lava_driver.specs.js_machine.Begun as begun
 use Rattle.lava_driver.specs.js_machine.Begun.{own_of}
 use Rattle.lava_driver.specs.js_machine.Looks.{marks_at, marks_in}
@@ -28,7 +28,7 @@ use Rattle.lava_driver.specs.js_crossing.declared.ending.Ending.{Ending}
 use Rattle.lava_driver.specs.js_crossing.declared.ending.Ending.TheVariants as ending
 use Rattle.lava_host.specs.Hosts.{HostWorld}
 use Rattle.lava_host.specs.Printed.{printed_reference, printed_value}
-use Rattle.lava_packages.specs.lava_start.Applications.{AllInRange, RunParts}
+use Rattle.lava_packages.specs.lava_start.Applications.{AllInRange, RunParts, package_starts}
 use Rattle.lava_packages.specs.lava_start.Firsts.{IsFirstWorld}
 use Rattle.lava_packages.specs.lava_start.Laws.{Runs_are_well_made}
 use Rattle.pkg_graph.specs.declared.graph.Package.{Package}
@@ -37,6 +37,7 @@ use Rattle.pkg_load.specs.declared.module.LoadedModule.{LoadedModule}
 use Rattle.lava_packages.specs.pkg_source.declared.code.ModuleCode.{ModuleCode}
 use Rattle.policy_row.specs.Rows.{Rows}
 use Rattle.lava_packages.specs.Commons.{IsCommonPart}
+use Rattle.lava_packages.specs.Laws.{Common_part_calls_repairs}
 use Rattle.lava_packages.specs.Packages.{IsFirstOf, party_names, run_parts}
 use Rattle.lava_driver.specs.Ran.{AreAskedIn, BeginsSo}
 use Rattle.lava_runner.specs.Reports.{EndsSo, HasReport, HasRunFrom, HasTraceReport, HasTracedFrom, IsApplicationOf, IsEmittedRun, IsReportOf, IsTracedRun, IsUncaughtText, traced_as, uncaught_text}
@@ -48,6 +49,7 @@ use Rattle.lava_packages.specs.declared.common.CommonPart.{CommonPart}
 use Rattle.lava_driver.specs.declared.run.Ran.{Ran}
 use Rattle.lava_driver.specs.declared.trace_run.Traced.{Traced}
 use Rattle.lava_runner.proofs.Calling.{are_called}
+use Rattle.lava_runner.proofs.Repaired.{has_repairs}
 use Rattle.lava_packages.proofs.In_range.{parts_in_range}
 
 -- THE APPLICATION BEGINS AS THE FIRST WORLD RESTS
@@ -60,9 +62,13 @@ asked_in parts budget v f [] a = tt
 asked_in parts budget v f (t ∷ ts) a =
     ((λ app b g e. subst (λ n. (c : ℕ) × ((heap.heap app n c).control ≡ Over_with (Fault t.party halt.Outside))) f.limit (a.0 app (begins_so parts budget v f app b) g e)), asked_in parts budget v f ts a.1)
 
--- the host stands first
-host_first : (parts : RunParts) (app : Application) → IsApplicationOf parts app → app.own 0 ≡ host_party
-host_first parts app a = ap (λ (x : Application). x.own 0) a.is
+-- the host stands first, and what its objects inherit calls the functions of lockdown alone
+has_host : (parts : RunParts) → HasRepairs parts.common → (app : Application) → IsApplicationOf parts app → HasHost app
+has_host parts repairs app a = record {
+  first = ap (λ (x : Application). x.own 0) a.is;
+  counted = λ e. let bad : suc (length (package_starts 1 parts.packages)) ≡ 0 = sym (ap (λ (x : Application). x.count) a.is) ∙ e in cc bad;
+  repairs = subst (λ (x : Application). HasRepairs x.shared.objects) (sym a.is) repairs;
+}
 
 -- WHAT NOTHING CAUGHT
 
@@ -108,27 +114,28 @@ ran_from (Ok r) emit dir packages ms policy c budget before after first f h = re
 ran_from (Err e) emit dir packages ms policy c budget before after first f h = tt
 
 -- what the packages are made of is what they are made of as they are handed in
-ends_so : Journal_is_net → Host_calls_are_crossings → Runs_are_well_made → (parts : RunParts) (budget crossings : ℕ) (last : WorldView) (ran : Ran) (r : Report) → AllInRange parts.packages → IsReportOf last ran r → (app : Application) → IsApplicationOf parts app
+ends_so : Journal_is_net → Host_calls_are_crossings → Runs_are_well_made → (parts : RunParts) → HasRepairs parts.common → (budget crossings : ℕ) (last : WorldView) (ran : Ran) (r : Report) → AllInRange parts.packages → IsReportOf last ran r → (app : Application) → IsApplicationOf parts app
     → IsOver app (heap.heap app budget crossings) last ran.ending → EndsSo app budget crossings r
-ends_so law calls made parts budget n last ran r range s app a over =
+ends_so law calls made parts repairs budget n last ran r range s app a over =
     let is : (heap.heap app budget n).control ≡ Over_with (ending_of r.ending) = over.control ∙ ap (λ e. Over_with (ending_of e)) (sym s.ending) in
     let well = subst IsWellMade (sym a.is) (made parts a.surroundings range) in
     record {
       machine = is;
       network = sym (law app well budget n).ending ∙ ap laws.ending_of is;
       uncaught = uncaught_so app (heap.heap app budget n) last ran.ending r.uncaught over.answer s.uncaught ∙ ap (λ e. uncaught_text e (uncaught_of app (heap.heap app budget n))) (sym s.ending);
-      crossed = λ plain. calls app (host_first parts app a) budget n (ending_of r.ending) (ap laws.ending_of is) plain;
+      crossed = calls app (has_host parts repairs app a) budget n (ending_of r.ending) (ap laws.ending_of is);
     }
 
-pub is_run : {E : Type 0} → Journal_is_net → Host_calls_are_crossings → Gone_at_the_newest → Runs_are_well_made → (k : Result Report E) (dir : List ℕ) (loaded : loads.Application ModuleCode) (policy : Rows) (budget : ℕ) (before after : HostWorld) (c : CommonPart)
+pub is_run : {E : Type 0} → Journal_is_net → Host_calls_are_crossings → Gone_at_the_newest → Runs_are_well_made → Common_part_calls_repairs → (k : Result Report E) (dir : List ℕ) (loaded : loads.Application ModuleCode) (policy : Rows) (budget : ℕ) (before after : HostWorld) (c : CommonPart)
     → IsCommonPart c → IfOk k (HasRunFrom true dir loaded.packages loaded.modules policy c budget before after) → IfOk k (IsEmittedRun dir loaded policy budget before after)
-is_run law calls gone made (Err e) dir loaded policy budget before after c part run = run
-is_run law calls gone made (Ok r) dir loaded policy budget before after c part run =
+is_run law calls gone made calling (Err e) dir loaded policy budget before after c part run = run
+is_run law calls gone made calling (Ok r) dir loaded policy budget before after c part run =
     let first = run.first in
     let f = run.is in
     let h = run.report in
     let come = h.runs.come in
     let parts = run_parts c loaded.packages loaded.modules policy in
+    let repairs : HasRepairs parts.common = has_repairs c.objects (calling c part) in
     let range = parts_in_range loaded.packages loaded.modules policy 0 loaded.packages in
     let are_asked = asked_in parts budget first f come.talks come.asked in
     record {
@@ -138,10 +145,10 @@ is_run law calls gone made (Ok r) dir loaded policy budget before after c part r
       outside = come.outside;
       which = h.report.which ∙ come.newest;
       asked = are_asked;
-      called = are_called gone (IsApplicationOf parts) (host_first parts) budget come.talks are_asked;
+      called = are_called gone (IsApplicationOf parts) (has_host parts repairs) budget come.talks are_asked;
       crossings = suc come.underway.crossings;
       ends = λ app a g.
-          ends_so law calls made parts budget (suc come.underway.crossings) h.last h.ran r range h.report app a
+          ends_so law calls made parts repairs budget (suc come.underway.crossings) h.last h.ran r range h.report app a
           (subst (λ b. IsOver app (heap.heap app b (suc come.underway.crossings)) h.last h.ran.ending) f.limit (come.underway.after app (begins_so parts budget first f app a) g));
     }
 
@@ -161,10 +168,10 @@ trace_report (Err e) parties dir first last before after traced h s = tt
 as_ran : (last : WorldView) (t : Traced) (ran : Ran) (r : Report) → t.ending ≡ ran.ending → IsReportOf last (traced_as t) r → IsReportOf last (record { ending = ran.ending; failed = t.failed }) r
 as_ran last t ran r e s = record { ending = s.ending ∙ e; which = s.which; uncaught = subst (λ x. IsUncaughtText last x r.uncaught) e s.uncaught }
 
-pub is_traced : {E : Type 0} → Journal_is_net → Host_calls_are_crossings → Gone_at_the_newest → Runs_are_well_made → (k : Result Report E) (dir : List ℕ) (loaded : loads.Application ModuleCode) (policy : Rows) (budget : ℕ) (before after : HostWorld) (c : CommonPart)
+pub is_traced : {E : Type 0} → Journal_is_net → Host_calls_are_crossings → Gone_at_the_newest → Runs_are_well_made → Common_part_calls_repairs → (k : Result Report E) (dir : List ℕ) (loaded : loads.Application ModuleCode) (policy : Rows) (budget : ℕ) (before after : HostWorld) (c : CommonPart)
     → IsCommonPart c → IfOk k (HasTracedFrom dir loaded.packages loaded.modules policy c budget before after) → IfOk k (IsTracedRun dir loaded policy budget before after)
-is_traced law calls gone made (Err e) dir loaded policy budget before after c part run = run
-is_traced law calls gone made (Ok r) dir loaded policy budget before after c part run =
+is_traced law calls gone made calling (Err e) dir loaded policy budget before after c part run = run
+is_traced law calls gone made calling (Ok r) dir loaded policy budget before after c part run =
     let first = run.first in
     let f = run.is in
     let h = run.report in
@@ -172,6 +179,7 @@ is_traced law calls gone made (Ok r) dir loaded policy budget before after c par
     let come = t.runs.come in
     let names = party_names loaded.packages in
     let parts = run_parts c loaded.packages loaded.modules policy in
+    let repairs : HasRepairs parts.common = has_repairs c.objects (calling c part) in
     let range = parts_in_range loaded.packages loaded.modules policy 0 loaded.packages in
     let are_asked = asked_in parts budget first f come.talks come.asked in
     let n = suc come.underway.crossings in
@@ -184,7 +192,7 @@ is_traced law calls gone made (Ok r) dir loaded policy budget before after c par
       mid = t.mid;
       outside = come.outside;
       asked = are_asked;
-      called = are_called gone (IsApplicationOf parts) (host_first parts) budget come.talks are_asked;
+      called = are_called gone (IsApplicationOf parts) (has_host parts repairs) budget come.talks are_asked;
       told = t.told;
       tells = ap (λ e. ending_told (ending_of e)) s.ending ∙ t.tells;
       text = t.text;
@@ -194,7 +202,7 @@ is_traced law calls gone made (Ok r) dir loaded policy budget before after c par
       ends = λ app a g.
           record {
             ends =
-                ends_so law calls made parts budget n h.last ran r range s app a
+                ends_so law calls made parts repairs budget n h.last ran r range s app a
                 (subst (λ b. IsOver app (heap.heap app b n) h.last t.ran.ending) f.limit (come.underway.after app (begins_so parts budget first f app a) g));
             trace = t.is app (begins_so parts budget first f app a) g ∙ ap (λ b. trace_text names app (heap.heap app b n) t.told) f.limit;
           };

@@ -1,4 +1,6 @@
 pub mod Called
+pub mod Counts
+pub mod Endings
 pub mod Reports
 pub use Rattle.lava_packages.specs.ses_prelude
 pub use Rattle.lava_report.specs.lava_loading

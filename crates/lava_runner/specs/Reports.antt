@@ -1,7 +1,7 @@
 -- The run of an application, and the report on it.
 use Rattle.std.specs.Prelude.{◌≡◌, ℕ, Bool, true, false, List, Option, Some, None}
 use Rattle.js_desc.specs.declared.ending.Ending as desc
-use Rattle.js_host_laws.specs.Calls.{ArePlain, Calls_are_crossings}
+use Rattle.js_host_laws.specs.Calls.{Calls_are_crossings}
 use Rattle.lava_driver.specs.js_run.Heap.{Over_with, heap}
 use Rattle.lava_driver.specs.js_run.Journal.{Application}
 use Rattle.lava_driver.specs.js_run.Net.{net}
@@ -66,12 +66,12 @@ pub record HasRunFrom (emit : Bool) (dir : List ℕ) (packages : List Package) (
   pub is : IsFirstOf packages ms policy c budget first
   pub report : HasReport emit dir first before after r
 
--- so many crossings after its first import the run of an application is over: so the machine of all parties says, and the network. Where the host was asked plainly, its calls of the outside are the Calls at its functions in the journal, each answered there by what the outside told
+-- so many crossings after its first import the run of an application is over: so the machine of all parties says, and the network. The host's calls of the outside are the Calls at its functions in the journal, each answered there by what the outside told
 pub record EndsSo (app : Application) (budget crossings : ℕ) (r : Report) : Type 0 where
   pub machine : (heap app budget crossings).control ≡ Over_with (ending_of r.ending)
   pub network : (net app budget crossings).ending ≡ Some (ending_of r.ending)
   pub uncaught : r.uncaught ≡ uncaught_text r.ending (uncaught_of app (heap app budget crossings))
-  pub crossed : ArePlain app (heap app budget crossings).journal → Calls_are_crossings app (heap app budget crossings) (ending_of r.ending)
+  pub crossed : Calls_are_crossings app (heap app budget crossings) (ending_of r.ending)
 
 -- the run of an application, whose packages have what its merged policy grants them: what it asks of the host, each in its turn, is what was done to the outside, and what its journal says (`Called`), and in each application whose outside answers so it ends with this report
 pub record IsEmittedRun (dir : List ℕ) (app : loads.Application ModuleCode) (policy : Rows) (budget : ℕ) (before after : HostWorld) (r : Report) : Type 0 where

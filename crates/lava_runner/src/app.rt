@@ -19,6 +19,7 @@ use lava_driver::trace_run::trace_run;
 use lava_packages::common::{CommonPart, RunFault, common_part};
 use lava_packages::first::first_of;
 use lava_packages::lava_start::laws::runs_are_well_made;
+use lava_packages::laws::common_part_calls_repairs;
 use lava_packages::names::names_of;
 use lava_packages::pkg_source::code::ModuleCode;
 use lava_packages::uncaught::uncaught;
@@ -194,6 +195,7 @@ fn run_emitted<F: Folder, I: Source, O: Sink, E: Sink, C: Clock>(
     host_calls_are_crossings();
     gone_at_the_newest();
     runs_are_well_made();
+    common_part_calls_repairs();
     run_packages(
         alloc,
         app.packages(),
@@ -236,6 +238,7 @@ fn run_with_trace<F: Folder, I: Source, O: Sink, E: Sink, C: Clock>(
     host_calls_are_crossings();
     gone_at_the_newest();
     runs_are_well_made();
+    common_part_calls_repairs();
     trace_packages(
         alloc,
         app.packages(),

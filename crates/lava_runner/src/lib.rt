@@ -1,12 +1,14 @@
 //! Runs of applications on the machine of all parties, over the outside.
 //!
 //! - `app` runs an application, and reports how that ended: `run_app`.
+//! - `laws`: a run has one ending.
 //!
 //! lava_packages has the packages and the machine before they run, lava_driver leads it to its end. Definitions are in specs/: `Reports` has what the run of an
 //! application is, `Called` that what is asked is what the journal says.
 #![tactic(auto)]
 
 pub mod app;
+pub mod laws;
 
 pub use lava_packages;
 pub use lava_report;

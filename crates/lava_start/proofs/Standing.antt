@@ -1,5 +1,5 @@
 -- That the machine of all parties stands where a run begins.
-use Rattle.std.proofs.Common.{◌≡◌, ℕ, zero, suc, ◌<◌, ◌+◌, Bool, true, false, List, [], ◌∷◌, ◌++◌, length, map, get_or, nat_eq, slice_get, take, Some, None, Option, cond, unwrap_or, Result, Ok, Err, IfOk, if◌then◌else◌, refl, sym, ap, ◌∙◌, subst, arith}
+use Rattle.std.proofs.Common.{◌≡◌, ℕ, zero, suc, ◌<◌, ◌+◌, Bool, true, false, List, [], ◌∷◌, ◌++◌, length, map, get_or, nat_eq, slice_get, take, Some, None, Option, cond, unwrap_or, Result, Ok, Err, IfOk, if◌then◌else◌, refl, sym, ap, ◌∙◌, subst, ne_eqb, arith}
 use Rattle.std.proofs.lemmas.List.{append_assoc, length-take-le, take_more}
 use Rattle.lava_base.specs.declared.ids.Ref.{Ref}
 use Rattle.lava_base.specs.declared.marks.Marks.{Marks}
@@ -38,38 +38,40 @@ use Rattle.lava_start.proofs.Links.{allowed_so, led_so}
 host_party_stands : (c : Tables) (s : Owned) → s.party.0 ≡ 0 → s.objects ≡ host_objects (naming_of 0) → StandsAs host_start 0 c (new_own s host_things (root_link ∷ []))
 host_party_stands c s party objects = record {
   me = party;
-  own = ap (λ (os : List Thing). record host_party { objects = os }) (sym objects);
+  own = λ j. record host_party { objects = sym objects j; frozen_errors = nat_eq (sym party j) 0 };
   links = λ l. allowed_so host_start.links l;
   meter = refl;
 }
 
 -- A PACKAGE
 
-package_own : (p : ℕ) (x : PackageSource) (loaded : List Loaded) (objects : List Thing) → map loaded_source x.modules.items ≡ loaded → package_objects p x.globals x.builtins ≡ objects
-    → (package_start p (parts_of x)).own ≡ record (package_start p (parts_of x)).own { modules = loaded; objects = objects }
-package_own p x loaded objects e d = λ j. record (package_start p (parts_of x)).own { modules = e j; objects = d j }
+package_own : (p : ℕ) (x : PackageSource) (loaded : List Loaded) (objects : List Thing) (party : ℕ) → 0 < p → map loaded_source x.modules.items ≡ loaded → package_objects p x.globals x.builtins ≡ objects → party ≡ p
+    → (package_start p (parts_of x)).own ≡ record (package_start p (parts_of x)).own { modules = loaded; objects = objects; frozen_errors = nat_eq party 0 }
+package_own p x loaded objects party l e d f =
+    let extensible : false ≡ nat_eq party 0 = sym (ap (λ n. nat_eq n 0) f ∙ ne_eqb p 0 (λ z. absurd (omega (arith, l, z)))) in
+    λ j. record (package_start p (parts_of x)).own { modules = e j; objects = d j; frozen_errors = extensible j }
 
 -- over a code that has grown
-pub package_stands : (c d : Tables) (p : ℕ) (x : PackageSource) (o : Own) → KeepsTemplates c d → IsPackageOver c p x o → StandsAs (package_start p (parts_of x)) p d o
-package_stands c d p x o keeps over =
+pub package_stands : (c d : Tables) (p : ℕ) (x : PackageSource) (o : Own) → 0 < p → KeepsTemplates c d → IsPackageOver c p x o → StandsAs (package_start p (parts_of x)) p d o
+package_stands c d p x o l keeps over =
     let s = over.own.store in
     let have : HaveSources d over.modules x.modules.items = sources_still c d over.modules x.modules.items keeps over.have in
     let builtin = package_builtin p x.globals x.builtins in
     let so : StandsAs (package_start p (parts_of x)) p d (new_own s (package_with x over.modules builtin) (allowed_names x.links.items)) = record {
       me = over.own.party;
-      own = package_own p x (map (loaded_of d) over.modules) s.objects (sym have.are) (sym over.own.objects);
+      own = package_own p x (map (loaded_of d) over.modules) s.objects s.party.0 l (sym have.are) (sym over.own.objects) over.own.party;
       links = λ l. allowed_so (map part_of_link x.links.items) l;
       meter = refl;
     } in
     subst (StandsAs (package_start p (parts_of x)) p d) (sym over.own.is) so
 
 -- each package, by its place behind the first one
-pub packages_stand : (c d : Tables) (p : ℕ) (xs : List PackageSource) (os : List Own) → KeepsTemplates c d → ArePackagesOver c p xs os → (k : ℕ) → k < length os → StandsAs (get_or (package_starts p (map parts_of xs)) k no_start) (p + k) d (get_or os k no_own)
-packages_stand c d p [] [] keeps over k lt = absurd (omega (arith, lt))
-packages_stand c d p [] (o ∷ os) keeps over k lt = absurd over
-packages_stand c d p (x ∷ xs) [] keeps over k lt = absurd over
-packages_stand c d p (x ∷ xs) (o ∷ os) keeps over zero lt = subst (λ n. StandsAs (package_start p (parts_of x)) n d o) (omega arith) (package_stands c d p x o keeps over.0)
-packages_stand c d p (x ∷ xs) (o ∷ os) keeps over (suc k) lt = subst (λ n. StandsAs (get_or (package_starts (suc p) (map parts_of xs)) k no_start) n d (get_or os k no_own)) (omega arith) (packages_stand c d (suc p) xs os keeps over.1 k (omega (arith, lt)))
+pub packages_stand : (c d : Tables) (p : ℕ) (xs : List PackageSource) (os : List Own) → 0 < p → KeepsTemplates c d → ArePackagesOver c p xs os → (k : ℕ) → k < length os → StandsAs (get_or (package_starts p (map parts_of xs)) k no_start) (p + k) d (get_or os k no_own)
+packages_stand c d p [] [] l keeps over k lt = absurd (omega (arith, lt))
+packages_stand c d p [] (o ∷ os) l keeps over k lt = absurd over
+packages_stand c d p (x ∷ xs) [] l keeps over k lt = absurd over
+packages_stand c d p (x ∷ xs) (o ∷ os) l keeps over zero lt = subst (λ n. StandsAs (package_start p (parts_of x)) n d o) (omega arith) (package_stands c d p x o l keeps over.0)
+packages_stand c d p (x ∷ xs) (o ∷ os) l keeps over (suc k) lt = subst (λ n. StandsAs (get_or (package_starts (suc p) (map parts_of xs)) k no_start) n d (get_or os k no_own)) (omega arith) (packages_stand c d (suc p) xs os (omega arith) keeps over.1 k (omega (arith, lt)))
 
 pub as_many : (c : Tables) (p : ℕ) (xs : List PackageSource) (os : List Own) → ArePackagesOver c p xs os → length os ≡ length (map parts_of xs)
 as_many c p [] [] over = refl
@@ -117,7 +119,7 @@ module _ (common : List CommonObject) (templates : List Template) (xs : List Pac
   stands (suc q) lt =
       let e : own_here world (suc q) ≡ get_or owns q no_own = elsewhere m.me (suc q) (own_of m) (get_or owns q no_own) (λ z. absurd (let bad : suc q ≡ 0 = sym z ∙ here in omega (arith, bad))) in
       let so : StandsAs (start_at (all_starts (map parts_of xs)) (suc q)) (suc q) m.code (get_or owns q no_own) =
-      subst (λ n. StandsAs (get_or (package_starts 1 (map parts_of xs)) q no_start) n m.code (get_or owns q no_own)) (omega arith) (packages_stand p.code m.code 1 xs owns keeps over q (omega (arith, lt)))
+      subst (λ n. StandsAs (get_or (package_starts 1 (map parts_of xs)) q no_start) n m.code (get_or owns q no_own)) (omega arith) (packages_stand p.code m.code 1 xs owns (omega arith) keeps over q (omega (arith, lt)))
       in
       subst (λ (o : Own). StandsAs (start_at (all_starts (map parts_of xs)) (suc q)) (suc q) m.code o) (sym e) so
 

@@ -1,5 +1,5 @@
 -- A view stays the same under other names.
-use Rattle.std.proofs.Common.{◌≡◌, ℕ, ◌+◌, ◌≤◌, ◌==◌, Bool, true, false, ◌||◌, cond, List, [], ◌∷◌, ◌++◌, codes, decimal, map, refl, ap, ◌∙◌, sym, arith}
+use Rattle.std.proofs.Common.{◌≡◌, ℕ, ◌+◌, ◌≤◌, ◌==◌, Bool, true, false, ◌||◌, cond, List, [], ◌∷◌, ◌++◌, codes, decimal, map, None, refl, ap, ◌∙◌, sym, arith}
 use Rattle.std.proofs.lemmas.Bool.{cond-false, ne_eqb}
 use Rattle.std.proofs.lemmas.List.{map-append}
 use Rattle.std.specs.List.{list_any}
@@ -110,9 +110,9 @@ module _ (p q : ℕ) (f : Ref → Ref) (g : MadeSymbol → MadeSymbol) (o : IsRe
       let first = h.0 in
       let ps = body_pieces s.body in
       let is : body_pieces t.body ≡ renamed_pieces f g ps = ap body_pieces first.body ∙ body_renamed f g s.body in
-      (λ k. (record { sent = first.sent k; body = viewed_text q (others names) t.marks (is k) }) ∷ view_lines q (viewed_names q (others names) (is k)) ts)
-      ∙ (λ k. (record { sent = s.sent; body = all_text names s.marks t.marks ps first.marks k }) ∷ view_lines q (all_names names ps k) ts)
-      ∙ ap (λ l. (record { sent = s.sent; body = viewed_text p names s.marks ps }) ∷ l) (lines_other (viewed_names p names ps) ss ts h.1)
+      (λ k. (record { sent = first.sent k; steps = None; body = viewed_text q (others names) t.marks (is k) }) ∷ view_lines q (viewed_names q (others names) (is k)) ts)
+      ∙ (λ k. (record { sent = s.sent; steps = None; body = all_text names s.marks t.marks ps first.marks k }) ∷ view_lines q (all_names names ps k) ts)
+      ∙ ap (λ l. (record { sent = s.sent; steps = None; body = viewed_text p names s.marks ps }) ∷ l) (lines_other (viewed_names p names ps) ss ts h.1)
 
   all_other : (known : List (Identity Ref MadeSymbol)) (rs : List Ref) → with_all (map other known) (map f rs) ≡ map other (with_all known rs)
   all_other known [] = refl

@@ -1,5 +1,5 @@
 -- A party's view of a trace: what it sent and what came to it, in order, where its own are named by their leaving and those of others by their coming.
-use Rattle.std.specs.Prelude.{ℕ, ◌+◌, ◌==◌, Bool, true, false, ◌||◌, if◌then◌else◌, List, [], ◌∷◌, ◌++◌, codes, decimal, map}
+use Rattle.std.specs.Prelude.{ℕ, ◌+◌, ◌==◌, Bool, true, false, ◌||◌, if◌then◌else◌, List, [], ◌∷◌, ◌++◌, codes, decimal, map, None}
 use Rattle.std.specs.List.{flat_map, list_any}
 use Rattle.std.specs.Map.{lookup}
 use Rattle.std.specs.Option.{option_map, unwrap_or}
@@ -18,6 +18,7 @@ use Rattle.lava_journal.specs.Quotes.{common_text, marks_text}
 use Rattle.lava_journal.specs.Sheets.{An_object, A_symbol, Piece, Plain}
 use Rattle.lava_trace.specs.declared.line.Trace.{Trace}
 use Rattle.lava_trace.specs.declared.line.TraceLine.{TraceLine}
+use Rattle.lava_view.specs.declared.view_line.ViewLine.{ViewLine}
 
 -- NAMES
 
@@ -124,14 +125,10 @@ seen_by p listed (l ∷ ls) =
     then (record { sent = l.crossing.from.0 == p; body = l.crossing.body; marks = listed ++ l.marks }) ∷ seen_by p (listed ++ l.marks) ls
     else seen_by p (listed ++ l.marks) ls
 
-pub record ViewLine : Type 0 where
-  pub sent : Bool
-  pub body : List ℕ
-
 abbrev pub view_lines : ℕ → ViewNames → List Seen → List ViewLine
 view_lines p names [] = []
 view_lines p names (s ∷ ss) =
-    (record { sent = s.sent; body = viewed_text p names s.marks (body_pieces s.body) }) ∷ view_lines p (viewed_names p names (body_pieces s.body)) ss
+    (record { sent = s.sent; steps = None; body = viewed_text p names s.marks (body_pieces s.body) }) ∷ view_lines p (viewed_names p names (body_pieces s.body)) ss
 
 -- AT THE START
 

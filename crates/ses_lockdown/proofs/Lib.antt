@@ -8,3 +8,5 @@ mod Again_laws
 mod Marks_stay
 mod Repair_laws
 mod Others_laws
+mod Initial_laws
+mod Accessor_laws

@@ -71,7 +71,7 @@ plus_zero n = omega arith
 plus_suc : (n k : ℕ) → n + suc k ≡ suc n + k
 plus_suc n k = omega arith
 
-zero_plus : (n : ℕ) → 0 + n ≡ n
+pub zero_plus : (n : ℕ) → 0 + n ≡ n
 zero_plus n = omega arith
 
 row_points : (rs : List Permit) (n k : ℕ) → all_point n rs ≡ true → points (n + k) (get_or rs k no_permit).override ≡ true
@@ -79,20 +79,20 @@ row_points [] n k h = refl
 row_points (r ∷ rs) n zero h = ap (λ m. points m r.override) (plus_zero n) ∙ (both_hold (points n r.override) (all_point (suc n) rs) h).0
 row_points (r ∷ rs) n (suc k) h = ap (λ m. points m (get_or rs k no_permit).override) (plus_suc n k) ∙ row_points rs (suc n) k (both_hold (points n r.override) (all_point (suc n) rs) h).1
 
-abbrev is_here : Holder → Bool
+abbrev pub is_here : Holder → Bool
 is_here EachFunction = false
 is_here (At p) = ltb p count
 
 -- an object of a permit whose property becomes an accessor is a common one
-abbrev all_here : List Permit → Bool
+abbrev pub all_here : List Permit → Bool
 all_here [] = true
 all_here (r ∷ rs) = cond (cond (becomes_accessor r.override) (is_here r.holder) true) (all_here rs) false
 
-they_are_here : all_here permits ≡ true
+pub they_are_here : all_here permits ≡ true
 unfolding permits count
 they_are_here = refl
 
-row_here : (rs : List Permit) (k : ℕ) → all_here rs ≡ true → becomes_accessor (get_or rs k no_permit).override ≡ true → is_here (get_or rs k no_permit).holder ≡ true
+pub row_here : (rs : List Permit) (k : ℕ) → all_here rs ≡ true → becomes_accessor (get_or rs k no_permit).override ≡ true → is_here (get_or rs k no_permit).holder ≡ true
 row_here [] k h a = absurd cc
 row_here (r ∷ rs) zero h a = ap (λ b. cond b (is_here r.holder) true) (sym a) ∙ (both_hold (cond (becomes_accessor r.override) (is_here r.holder) true) (all_here rs) h).0
 row_here (r ∷ rs) (suc k) h a = row_here rs k (both_hold (cond (becomes_accessor r.override) (is_here r.holder) true) (all_here rs) h).1 a
@@ -111,22 +111,22 @@ unfolding permits is_repaired common_paths
 they_are_repaired = refl
 
 -- and none of them is a function
-abbrev all_ordinary : ℕ → List Place → Bool
+abbrev pub all_ordinary : ℕ → List Place → Bool
 all_ordinary n [] = true
 all_ordinary n (p ∷ ps) = cond (cond (is_repaired n) (not (is_function p.0)) true) (all_ordinary (suc n) ps) false
 
-they_are_ordinary : all_ordinary 0 places ≡ true
+pub they_are_ordinary : all_ordinary 0 places ≡ true
 unfolding places is_repaired common_paths
 they_are_ordinary = refl
 
-row_ordinary : (ps : List Place) (n k : ℕ) → all_ordinary n ps ≡ true → is_repaired (n + k) ≡ true → is_function (get_or ps k no_place).0 ≡ false
+pub row_ordinary : (ps : List Place) (n k : ℕ) → all_ordinary n ps ≡ true → is_repaired (n + k) ≡ true → is_function (get_or ps k no_place).0 ≡ false
 row_ordinary [] n k h a = refl
 row_ordinary (p ∷ ps) n zero h a = not_true (is_function p.0) (ap (λ b. cond b (not (is_function p.0)) true) (sym (ap is_repaired (sym (plus_zero n)) ∙ a)) ∙ (both_hold (cond (is_repaired n) (not (is_function p.0)) true) (all_ordinary (suc n) ps) h).0)
 row_ordinary (p ∷ ps) n (suc k) h a = row_ordinary ps (suc n) k (both_hold (cond (is_repaired n) (not (is_function p.0)) true) (all_ordinary (suc n) ps) h).1 (ap is_repaired (sym (plus_suc n k)) ∙ a)
 
 -- ONE PROPERTY
 
-tamed_is : (s : Stands) (v : Value Ref MadeSymbol) (w e c : Bool) → tamed s (Data v w e c) ≡ Data (tamed_value s v) w e c
+pub tamed_is : (s : Stands) (v : Value Ref MadeSymbol) (w e c : Bool) → tamed s (Data v w e c) ≡ Data (tamed_value s v) w e c
 tamed_is stands.OwnName v w e c = refl
 tamed_is stands.OwnLength v w e c = refl
 tamed_is (stands.Object p) v w e c = refl
@@ -166,7 +166,7 @@ all_accessors o place is (r ∷ rs) h = by_test (is_for r.holder place false) (f
     by_test false a rest = rest
 
 -- a prototype that is repaired is a common object
-is_place : (place : ℕ) → is_repaired place ≡ true → place < count
+pub is_place : (place : ℕ) → is_repaired place ≡ true → place < count
 unfolding is_repaired
 is_place place h = by_cases (slice_get common_paths place) refl h
   where

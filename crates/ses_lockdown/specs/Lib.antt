@@ -4,4 +4,5 @@ pub mod Intrinsics
 pub mod Entries
 pub mod Laws
 pub mod Repairs
+pub mod Accessors
 pub mod Apart

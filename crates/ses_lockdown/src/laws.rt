@@ -1,6 +1,7 @@
 // Laws of the definitions.
 
 ghost use Rattle.std.specs.Prelude.{IsTrue};
+ghost use Rattle.ses_lockdown.specs.Accessors.{Lockdown_calls_repairs, PropertiesStay};
 ghost use Rattle.ses_lockdown.specs.Apart.{all_apart};
 ghost use Rattle.ses_lockdown.specs.Entries.{Lockdown_orders};
 ghost use Rattle.ses_lockdown.specs.Laws.{Lockdown_locks, MarksStay, Lockdown_once, Lockdown_drops};
@@ -39,6 +40,19 @@ pub fn lockdown_repairs()
     ensures { Lockdown_repairs }
 {
     common_paths_rise();
+    own_after_a_change::<Ref, MadeSymbol>();
+    written_keeps_places::<Ref, MadeSymbol>();
+}
+
+/// The properties of the common objects are those of the tables, whatever functions come: none has a setter, and those of the seven prototypes hold values.
+pub fn properties_stay()
+    ensures { PropertiesStay }
+{}
+
+/// Once such objects are locked, what all inherit from calls the functions of lockdown alone.
+pub fn lockdown_calls_repairs()
+    ensures { Lockdown_calls_repairs }
+{
     own_after_a_change::<Ref, MadeSymbol>();
     written_keeps_places::<Ref, MadeSymbol>();
 }

@@ -3,3 +3,4 @@ pub mod Functions_laws
 pub mod Bodies_laws
 pub mod Prelude_laws
 mod Marks_laws
+mod Property_laws

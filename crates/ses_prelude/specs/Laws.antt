@@ -3,6 +3,7 @@ use Rattle.std.specs.Prelude.{◌≡◌, ℕ, ◌<◌, List, map, Some, slice_ge
 use Rattle.js_store.specs.Objects.{object_at}
 use Rattle.js_term.specs.declared.term.TemplateKind.{TemplateKind}
 use Rattle.js_tree.specs.declared.tree.Stmt.{Stmt}
+use Rattle.ses_lockdown.specs.Accessors.{HasTableProperties}
 use Rattle.ses_lockdown.specs.Entries.{HasTableMarks}
 use Rattle.ses_lockdown.specs.Intrinsics.{body_of}
 use Rattle.ses_lockdown.specs.Lockdown.{Obj}
@@ -36,3 +37,8 @@ Each_has_its_body = (l : List Stmt) (ds : List PreludeFunction) (i : Intrinsics)
 -- SES intrinsics
 abbrev pub Preludes_have_marks : Type 0
 Preludes_have_marks = (source : List ℕ) (i : Intrinsics) → IsPrelude source i → HasTableMarks i.objects
+
+-- so do they have the properties and prototypes of the tables
+-- SES intrinsics
+abbrev pub Preludes_have_properties : Type 0
+Preludes_have_properties = (source : List ℕ) (i : Intrinsics) → IsPrelude source i → HasTableProperties i.objects

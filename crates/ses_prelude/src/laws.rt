@@ -1,9 +1,9 @@
 // Laws of preludes.
 
-ghost use Rattle.ses_prelude.specs.Laws.{One_prelude, Each_has_its_body, Preludes_have_marks};
+ghost use Rattle.ses_prelude.specs.Laws.{One_prelude, Each_has_its_body, Preludes_have_marks, Preludes_have_properties};
 
 use js_program::laws::one_tree;
-use ses_lockdown::laws::marks_stay;
+use ses_lockdown::laws::{marks_stay, properties_stay};
 
 /// A text makes one list of intrinsics at most.
 #[tactic(none)]
@@ -26,4 +26,12 @@ pub fn preludes_have_marks()
     ensures { Preludes_have_marks }
 {
     marks_stay();
+}
+
+/// So do they have the properties and prototypes of the tables: none has a setter, and those of the seven prototypes hold values.
+#[tactic(none)]
+pub fn preludes_have_properties()
+    ensures { Preludes_have_properties }
+{
+    properties_stay();
 }

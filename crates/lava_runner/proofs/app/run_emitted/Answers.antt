@@ -13,4 +13,4 @@ returns g c =
     let policy = c.args.policy.now in
     let own = subst (λ ps. IfOk k (HasRunFrom true c.args.dir.now ps c.modules.result.now policy c.args.common c.args.budget before after)) c.packages.ensures c.run_packages.ensures in
     let ran = subst (λ ms. IfOk k (HasRunFrom true c.args.dir.now c.args.app.now.packages ms policy c.args.common c.args.budget before after)) c.modules.ensures own in
-    is_run c.journal_is_net.ensures c.host_calls_are_crossings.ensures c.gone_at_the_newest.ensures c.runs_are_well_made.ensures k c.args.dir.now c.args.app.now policy c.args.budget before after c.args.common c.requires ran
+    is_run c.journal_is_net.ensures c.host_calls_are_crossings.ensures c.gone_at_the_newest.ensures c.runs_are_well_made.ensures c.common_part_calls_repairs.ensures k c.args.dir.now c.args.app.now policy c.args.budget before after c.args.common c.requires ran

@@ -1,0 +1,15 @@
+pub mod Forms
+pub mod Scopes
+pub mod Names
+pub mod Linked
+pub mod Lowering
+pub mod Literals
+pub mod Calls
+pub mod Operators
+pub mod Bindings
+pub mod Labels
+pub mod Blocks
+pub mod Loops
+pub mod Statements
+pub mod Bodies
+pub mod Sources

@@ -1,0 +1,2 @@
+pub mod Pending_laws
+pub mod Steps_laws

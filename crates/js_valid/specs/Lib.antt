@@ -1,0 +1,4 @@
+pub mod Surroundings
+pub mod Inner
+pub mod Valid
+pub mod Work

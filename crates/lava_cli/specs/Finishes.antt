@@ -1,0 +1,59 @@
+-- Where nothing that a folder holds is a cause of a refusal, and no count of faults rose, a run is answered by its ending, or there was no memory.
+use Rattle.std.specs.Prelude.{◌≡◌, ◌⊎◌, ℕ, List, Option, Some, None, Ok, Err}
+use Rattle.lava_base.specs.declared.place.Place.{Place}
+use Rattle.js_fault.specs.declared.fault.SyntaxWhat.{SyntaxWhat}
+use Rattle.lava_host.specs.Hosts.{HostWorld}
+use Rattle.lava_lines.specs.Puts as puts
+use Rattle.lava_streams.specs.Files.{Files}
+use Rattle.lava_streams.specs.Outside.{Stand}
+use Rattle.lava_words.specs.Words.{Asked, Runs, Trees, command_of}
+use Rattle.lava_runner.specs.Counts.{AreFaultless}
+use Rattle.lava_runner.specs.Endings.{ending_status}
+use Rattle.lava_runner.specs.Reports.{IsRunOf}
+use Rattle.lava_runner.specs.lava_report.Tells.{TellsEnding, ended_in}
+use Rattle.lava_runner.specs.lava_report.declared.report.Mode.{Mode}
+use Rattle.lava_runner.specs.lava_report.declared.report.Report.{Report}
+use Rattle.lava_runner.specs.lava_loading.Laws.{IsHeld}
+use Rattle.lava_runner.specs.lava_loading.Loads.{IsLoading}
+use Rattle.lava_runner.specs.lava_loading.declared.loading.LoadedApplication.{LoadedApplication}
+use Rattle.lava_runner.specs.lava_loading.declared.loading.LoadingFault.{LoadingFault}
+use Rattle.lava_runner.specs.ses_prelude.Preludes.{IsPreludeFault, prelude}
+use Rattle.lava_cli.specs.RunAnswers.{HasReadFolder}
+
+-- nothing that the folder holds is a cause of a refusal, and the prelude is none
+pub record HasNoCause (files : Files) (directory : List ℕ) : Type 0 where
+  pub content : (f : LoadingFault) → ¬ IsHeld files directory (Err f)
+  pub common : (place : Place) (what : SyntaxWhat) → ¬ IsPreludeFault prelude place what
+
+-- the application was loaded and ran to its end, which is told, and the status is that of this ending
+pub record HasFinished (mode : Mode) (directory : List ℕ) (budget : ℕ) (before after : HostWorld) (status : ℕ) : Type 0 where
+  pub app : LoadedApplication
+  pub loaded : IsLoading before.folder.told directory (Ok app)
+  pub mid : HostWorld
+  pub read : HasReadFolder before mid (Ok app)
+  pub end : HostWorld
+  pub report : Report
+  pub ran : IsRunOf mode directory app.app app.policy budget mid end report
+  pub ends : status ≡ ending_status report.ending
+  pub told : TellsEnding (ended_in app.app.packages report.ending) report.ending report.uncaught end.errors after.errors status
+  pub rest : after ≡ record end { errors = after.errors }
+
+-- there was no memory, which is told, whatever was done before
+abbrev pub IsLack : (after : HostWorld) → (status : ℕ) → Type 0
+IsLack after status = (errors : Stand (List ℕ)) × puts.Lacks errors after.errors status
+
+-- Where the folder tells its files, no cause stands and no count rose, the run is over, and the answer is that of its ending, or there was no memory.
+-- own: a run without a cause of a refusal comes to its end
+abbrev pub Finishes : (mode : Mode) → (directory : List ℕ) → (budget : ℕ) → (before after : HostWorld) → (status : ℕ) → Type 0
+Finishes mode directory budget before after status =
+    (files : Files) → before.folder.told ≡ Some files → HasNoCause files directory → AreFaultless before after
+    → HasFinished mode directory budget before after status ⊎ IsLack after status
+
+abbrev pub FinishesOf : Option Asked → (before after : HostWorld) → (status : ℕ) → Type 0
+FinishesOf None before after status = Unit {0}
+FinishesOf (Some (Runs mode directory budget)) before after status = Finishes mode directory budget before after status
+FinishesOf (Some (Trees file)) before after status = Unit {0}
+
+-- the same of words: those of `run` and `trace`
+abbrev pub CommandFinishes : (said : List (List ℕ)) → (before after : HostWorld) → (status : ℕ) → Type 0
+CommandFinishes said before after status = FinishesOf (command_of said) before after status
