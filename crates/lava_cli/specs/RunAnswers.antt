@@ -6,7 +6,7 @@ use Rattle.lava_lines.specs.declared.status.TheConstants as texts
 use Rattle.lava_runner.specs.Reports.{IsRunOf}
 use Rattle.lava_runner.specs.lava_report.declared.report.Mode.{Mode}
 use Rattle.lava_streams.specs.Outside.{Outside, outside}
-use Rattle.lava_tree.specs.TreeAnswers.{TreeAnswers, TreeEnds, TreeRefuses}
+use Rattle.lava_tree.specs.TreeAnswers.{TreeAnswers, TreeEnds, TreeMisses, TreeRefuses}
 use Rattle.lava_runner.specs.ses_prelude.Preludes.{IsPreludeFault, prelude}
 use Rattle.lava_runner.specs.lava_loading.Loads.{CountsLoading, IsLoading}
 use Rattle.lava_runner.specs.lava_report.Tells.{RunReports, ended_in}
@@ -70,11 +70,12 @@ pub record RunAnswers (mode : Mode) (directory : List ℕ) (budget : ℕ) (befor
 abbrev pub outside_in : HostWorld → Outside
 outside_in w = outside w.folder w.output w.errors
 
--- `tree FILE`: each answer has its cause, and a file that is a program, or none, has its answer
+-- `tree FILE`: each answer has its cause, and a file that is a program, or none, or isn't there, or is too long, has its answer
 pub record TreeAnswersIn (file : List ℕ) (before after : HostWorld) (status : ℕ) : Type 0 where
   pub answers : TreeAnswers file (outside_in before) (outside_in after) status
   pub ends : TreeEnds file (outside_in before) (outside_in after) status
   pub refuses : TreeRefuses file (outside_in before) (outside_in after) status
+  pub misses : TreeMisses file (outside_in before) (outside_in after) status
   pub input : after.input ≡ before.input
   pub clock : after.clock ≡ before.clock
 

@@ -26,7 +26,7 @@ written_so (Ok a) v old new x t is w = record { traces = t; newest = x; is = is;
 written_so (Err e) v old new x t is w = tt
 
 -- the steps of all parties, as a list
-steps_listed : (p : ℕ) (f : ℕ → ℕ) (xs : List ℕ) → ((q : ℕ) → q < length xs → f (p + q) ≡ get_or xs q 0) → xs ≡ steps_from p (length xs) f
+pub steps_listed : (p : ℕ) (f : ℕ → ℕ) (xs : List ℕ) → ((q : ℕ) → q < length xs → f (p + q) ≡ get_or xs q 0) → xs ≡ steps_from p (length xs) f
 steps_listed p f [] h = refl
 steps_listed p f (x ∷ xs) h =
     let here : p + 0 ≡ p = omega arith in
@@ -41,15 +41,28 @@ counted parties app [] = refl
 counted parties app (x ∷ js) = let next : length js + 1 ≡ suc (length js) = omega arith in ap (λ n. n + 1) (counted parties app js) ∙ next
 
 pub traced_whole : (parties : List (List ℕ)) (dir : List ℕ) (first now : WorldView) (before mid after : HostWorld) (ran : Ran) (trace : TraceText) (r : Traced) → HasTracedTo parties dir first before now (turn.Over ran.ending) ran.failed trace mid
-    → length now.steps ≡ length parties → IsFinished now ran trace mid.output after.output r → after ≡ record mid { output = after.output } → HasTraced parties dir first before now r after
-traced_whole parties dir first now before mid after ran trace r h size f rest =
+    → ran.crossings ≡ trace.count → length now.steps ≡ length parties → IsFinished now ran trace mid.output after.output r → after ≡ record mid { output = after.output } → HasTraced parties dir first before now r after
+traced_whole parties dir first now before mid after ran trace r h tally size f rest =
     let u = h.tracing in
     let n = u.crossings in
     let b = first.budget in
     record {
       ran = ran;
       mid = mid;
-      runs = record { come = record { talks = h.talks; outside = h.outside; asked = h.asked; underway = record { crossings = n; after = u.stands; budget = u.budget }; newest = h.newest } };
+      runs = record {
+        come = record {
+          talks = h.talks;
+          outside = h.outside;
+          asked = h.asked;
+          underway = record {
+            crossings = n;
+            stands = u.stands;
+            counts = λ app s g. tally ∙ ap (λ (t : TraceText). t.count) (u.lines app s g) ∙ counted parties app (heap app b (suc n)).journal;
+            budget = u.budget;
+          };
+          newest = h.newest;
+        };
+      };
       ending = f.ending;
       told = f.told;
       tells = f.tells;
@@ -66,6 +79,6 @@ traced_whole parties dir first now before mid after ran trace r h size f rest =
     }
 
 pub whole_so : {E : Type 0} (k : Result Traced E) (parties : List (List ℕ)) (dir : List ℕ) (first now : WorldView) (before mid after : HostWorld) (ran : Ran) (trace : TraceText) → HasTracedTo parties dir first before now (turn.Over ran.ending) ran.failed trace mid
-    → length now.steps ≡ length parties → IfOk k (IsFinished now ran trace mid.output after.output) → after ≡ record mid { output = after.output } → IfOk k (λ r. HasTraced parties dir first before now r after)
-whole_so (Ok r) parties dir first now before mid after ran trace h size f rest = traced_whole parties dir first now before mid after ran trace r h size f rest
-whole_so (Err e) parties dir first now before mid after ran trace h size f rest = tt
+    → ran.crossings ≡ trace.count → length now.steps ≡ length parties → IfOk k (IsFinished now ran trace mid.output after.output) → after ≡ record mid { output = after.output } → IfOk k (λ r. HasTraced parties dir first before now r after)
+whole_so (Ok r) parties dir first now before mid after ran trace h tally size f rest = traced_whole parties dir first now before mid after ran trace r h tally size f rest
+whole_so (Err e) parties dir first now before mid after ran trace h tally size f rest = tt

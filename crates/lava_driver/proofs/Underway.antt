@@ -1,5 +1,5 @@
 -- How a run goes on, from the first import to the end.
-use Rattle.std.proofs.Common.{◌≡◌, ℕ, zero, suc, ◌+◌, Bool, List, [], ◌∷◌, drop, Option, Some, None, refl, sym, ap, ◌∙◌, subst, arith, Result, Ok, Err, IfOk}
+use Rattle.std.proofs.Common.{◌≡◌, ℕ, zero, suc, Bool, List, [], ◌∷◌, drop, Option, Some, None, refl, sym, ap, ◌∙◌, subst, Result, Ok, Err, IfOk}
 use Rattle.std.specs.Option.{unwrap_or}
 use Rattle.js_text.specs.Naming.{naming_of}
 use Rattle.js_world.specs.js_run.Completions as halt
@@ -10,7 +10,7 @@ use Rattle.js_world.specs.js_run.Runs.{Stopped, answered}
 use Rattle.js_world.specs.js_machine.Outsides.{answer_of, newest_call}
 use Rattle.js_world.specs.js_machine.declared.outside.HostAnswer.TheVariants as host_answer
 use Rattle.lava_driver.specs.declared.answers.Answered.{Answered}
-use Rattle.js_world.specs.js_run.Heap.{Control, Over_with, World, has_run, heap}
+use Rattle.js_world.specs.js_run.Heap.{Control, Over_with, World, begins, cross, has_run, heap}
 use Rattle.js_world.specs.js_machine.Steps.{settles}
 use Rattle.js_world.specs.js_machine.Stops.{runs_on, told_as}
 use Rattle.js_world.specs.js_machine.Views.{party_of}
@@ -18,60 +18,53 @@ use Rattle.js_world.specs.js_machine.declared.frame.Mode.{Mode}
 use Rattle.js_world.specs.js_machine.declared.outside.HostAnswer.{HostAnswer}
 use Rattle.js_world.specs.js_machine.declared.stop.Pause.{Pause}
 use Rattle.js_world.specs.Asked_outside.{Answers}
-use Rattle.js_world.specs.Ends.{Ends}
+use Rattle.js_world.specs.Crossings.{Rests}
 use Rattle.js_world.specs.First.{IsBegun}
 use Rattle.js_world.specs.js_machine.declared.stop.Stop.TheVariants as stop
-use Rattle.js_world.specs.Worlds.{After, HasStopped, Stands, WorldView, around}
+use Rattle.js_world.specs.Worlds.{After, Crosses, HasStopped, WorldView, around}
 use Rattle.js_world.specs.js_crossing.declared.ending.Turn.{Turn}
 use Rattle.js_world.specs.js_crossing.declared.ending.Turn.TheVariants as turn
 use Rattle.lava_host.specs.Hosts.{HostWorld}
 use Rattle.lava_host.specs.declared.fault.Which.{Which}
-use Rattle.lava_driver.specs.Ran.{BeginsSo, HasComeTo, IsAskedIn, IsUnderway}
-use Rattle.lava_driver.specs.Talks.{IsHostTalk, IsTalk, Talk, talk_of}
+use Rattle.lava_driver.specs.Ran.{BeginsSo, HasComeTo, IsAskedIn, IsUnderway, StandsAt, counted}
+use Rattle.lava_driver.specs.Talks.{Agrees, IsHostTalk, IsTalk, Talk, talk_of}
+use Rattle.lava_driver.proofs.Growing.{advance, counts_then, runs_grown, stands_so, stopped_grown}
 
--- the host's import is sent, and the machine runs
-begins_so : (first mid new : WorldView) (m : Mode) (t : Turn) → IsBegun first mid m → Ends mid m new t → IsUnderway first [] new t
-begins_so first mid new m t b e =
-    let here : 0 + e.crossings ≡ e.crossings = omega arith in
-    let next : 0 + suc e.crossings ≡ suc e.crossings = omega arith in
+-- the host's import is sent
+begins_so : (first new : WorldView) (m : Mode) → IsBegun first new m → IsUnderway first [] new (turn.Runs m) 1
+begins_so first new m b = record { crossings = 0; stands = λ app r a. b.begins app r; counts = λ app r a. refl; budget = b.budget }
+
+pub begun : {E : Type 0} (r : Result Mode E) (first new : WorldView) → IfOk r (IsBegun first new) → IfOk r (λ m. IsUnderway first [] new (turn.Runs m) 1)
+begun (Ok m) first new b = begins_so first new m b
+begun (Err x) first new b = tt
+
+-- it runs on to the next crossing
+runs_so : (first : WorldView) (talks : List Talk) (old new : WorldView) (m : Mode) (t : Turn) (k : ℕ) → IsUnderway first talks old (turn.Runs m) k → Crosses old m new t → IsUnderway first talks new t (counted t k)
+runs_so first talks old new m t k u c =
+    let n = u.crossings in
+    let b = first.budget in
+    let after : (app : Application) → Rests app (begins app) first → Agrees app talks → After app (heap app b n) (heap app b (suc n)) new t =
+    λ app r g. subst (λ x. After app (heap app b n) (cross app x (heap app b n) (heap app b n).control) new t) u.budget (c.crosses app (heap app b n) (u.stands app r g)) in
     record {
-      crossings = e.crossings;
-      after = λ app r a. subst (λ x. After app (heap app x e.crossings) (heap app x (suc e.crossings)) new t) b.budget
-          (subst (λ n. After app (heap app mid.budget e.crossings) (heap app mid.budget n) new t) next
-          (subst (λ n. After app (heap app mid.budget n) (heap app mid.budget (0 + suc e.crossings)) new t) here (e.heaps app 0 (b.begins app r))));
-      budget = e.budget ∙ b.budget;
+      crossings = advance t n;
+      stands = λ app r g. stands_so app b n new t (after app r g);
+      counts = λ app r g. counts_then app b n k new t (runs_grown app b (heap app b n) old m (u.stands app r g)) (after app r g) (u.counts app r g);
+      budget = c.budget ∙ u.budget;
     }
 
-pub begun : {E : Type 0} (r : Result Turn E) (first mid new : WorldView) (m : Mode) → IsBegun first mid m → IfOk r (Ends mid m new) → IfOk r (IsUnderway first [] new)
-begun (Ok t) first mid new m b e = begins_so first mid new m t b e
-begun (Err x) first mid new m b e = tt
-
--- it runs on
-runs_so : (first : WorldView) (talks : List Talk) (old new : WorldView) (m : Mode) (t : Turn) → IsUnderway first talks old (turn.Runs m) → Ends old m new t → IsUnderway first talks new t
-runs_so first talks old new m t u e =
-    let k = suc u.crossings in
-    let size : k + suc e.crossings ≡ suc (k + e.crossings) = omega arith in
-    record {
-      crossings = k + e.crossings;
-      after = λ app r a. (
-          let here = subst (λ b. Stands app (heap app b k) old m) (sym u.budget) (u.after app r a) in
-          let there = subst (λ b. After app (heap app b (k + e.crossings)) (heap app b (k + suc e.crossings)) new t) u.budget (e.heaps app k here) in
-          subst (λ n. After app (heap app first.budget (k + e.crossings)) (heap app first.budget n) new t) size there);
-      budget = e.budget ∙ u.budget;
-    }
-
-pub ran_on : {E : Type 0} (r : Result Turn E) (first : WorldView) (talks : List Talk) (old new : WorldView) (m : Mode) → IsUnderway first talks old (turn.Runs m) → IfOk r (Ends old m new) → IfOk r (IsUnderway first talks new)
-ran_on (Ok t) first talks old new m u e = runs_so first talks old new m t u e
-ran_on (Err x) first talks old new m u e = tt
+pub ran_on : (first : WorldView) (talks : List Talk) (old new : WorldView) (m : Mode) (t : Turn) (k n : ℕ) → n ≡ counted t k → Crosses old m new t → IsUnderway first talks old (turn.Runs m) k → IsUnderway first talks new t n
+ran_on first talks old new m t k n e c u = subst (IsUnderway first talks new t) (sym e) (runs_so first talks old new m t k u c)
 
 -- nothing was asked yet
-pub none_asked : (emit : Bool) (dir : List ℕ) (first new : WorldView) (w : HostWorld) (t : Turn) → IsUnderway first [] new t → HasComeTo emit dir first w new t None w
-none_asked emit dir first new w t u = record { talks = []; outside = refl; asked = tt; underway = u; newest = refl }
+pub none_asked : (emit : Bool) (dir : List ℕ) (first new : WorldView) (w : HostWorld) (t : Turn) (k : ℕ) → IsUnderway first [] new t k → HasComeTo emit dir first w new t None k w
+none_asked emit dir first new w t k u = record { talks = []; outside = refl; asked = tt; underway = u; newest = refl }
 
 -- it has come further
-pub came_on : (emit : Bool) (dir : List ℕ) (first old new : WorldView) (start w : HostWorld) (t : Turn) (m : Mode) (failed : Option Which) → HasComeTo emit dir first start old (turn.Runs m) failed w
-    → ((talks : List Talk) → IsUnderway first talks old (turn.Runs m) → IsUnderway first talks new t) → HasComeTo emit dir first start new t failed w
-came_on emit dir first old new start w t m failed h go = record { talks = h.talks; outside = h.outside; asked = h.asked; underway = go h.talks h.underway; newest = h.newest }
+pub further : {S E : Type 0} (r : Result S E) (t : S → Turn) (f : S → Option Which) (c : S → ℕ) (emit : Bool) (dir : List ℕ) (first old new : WorldView) (start w : HostWorld) (m : Mode) (failed : Option Which) (k : ℕ)
+    → HasComeTo emit dir first start old (turn.Runs m) failed k w → ((talks : List Talk) → IsUnderway first talks old (turn.Runs m) k → IfOk r (λ s. IsUnderway first talks new (t s) (c s))) → IfOk r (λ s. f s ≡ failed)
+    → IfOk r (λ s. HasComeTo emit dir first start new (t s) (f s) (c s) w)
+further (Ok s) t f c emit dir first old new start w m failed k h go same = record { talks = h.talks; outside = h.outside; asked = h.asked; underway = go h.talks h.underway; newest = same ∙ h.newest }
+further (Err e) t f c emit dir first old new start w m failed k h go same = tt
 
 -- a run ends where its outside has no answer
 gone_told : (told : Option ℕ) (app : Application) (p n : ℕ) (w : World) → (has_run app p w (told_as told (Stopped halt.Outside n))).control ≡ Over_with (Fault p halt.Outside)
@@ -86,22 +79,29 @@ gone app w after v p h e =
     let leads : OutsideAnswer → Control = λ o. (has_run app me w (runs_on names a.shared a.env p (settles a v.machine v.machine.values (answered names a.env (outside_answers names a.shared (party_of a v.machine) o))))).control in
     ap (λ (x : World). x.control) h.comes ∙ ap leads e ∙ gone_told p.told app me p.steps w
 
-pub asked_here : (first old : WorldView) (talks : List Talk) (p : Pause) (x : HostAnswer) (failed : Option Which) → IsUnderway first talks old (turn.Asks p) → IsAskedIn (BeginsSo first) first.budget (talk_of old x failed) talks
-asked_here first old talks p x failed u =
-    λ app b g e. (suc u.crossings, gone app (heap app first.budget u.crossings) (heap app first.budget (suc u.crossings)) old p (u.after app b g) e)
+pub asked_here : (first old : WorldView) (talks : List Talk) (p : Pause) (x : HostAnswer) (failed : Option Which) (n : ℕ) → ((app : Application) → Rests app (begins app) first → Agrees app talks → StandsAt app first.budget n old (turn.Asks p))
+    → IsAskedIn (BeginsSo first) first.budget (talk_of old x failed) talks
+asked_here first old talks p x failed n stands =
+    λ app b g e. (suc n, gone app (heap app first.budget n) (heap app first.budget (suc n)) old p (stands app b g) e)
 
 -- the outside has answered
-pub came_by : (emit : Bool) (dir : List ℕ) (first old new : WorldView) (start before after : HostWorld) (p : Pause) (x : HostAnswer) (t : Turn) (earlier failed : Option Which) → HasComeTo emit dir first start old (turn.Asks p) earlier before
-    → IsTalk emit dir old.machine.me (talk_of old x failed) before after → Answers p x old new t → HasComeTo emit dir first start new t failed after
-came_by emit dir first old new start before after p x t earlier failed h talk a =
+pub came_by : (emit : Bool) (dir : List ℕ) (first old new : WorldView) (start before after : HostWorld) (p : Pause) (x : HostAnswer) (t : Turn) (earlier failed : Option Which) (k m : ℕ) → HasComeTo emit dir first start old (turn.Asks p) earlier k before
+    → IsTalk emit dir old.machine.me (talk_of old x failed) before after → Answers p x old new t → m ≡ counted t k → HasComeTo emit dir first start new t failed m after
+came_by emit dir first old new start before after p x t earlier failed k m h talk a e =
+    let u = h.underway in
+    let n = u.crossings in
+    let b = first.budget in
+    let came : (app : Application) → Rests app (begins app) first → Agrees app (talk_of old x failed ∷ h.talks) → After app (heap app b n) (heap app b (suc n)) new t =
+    λ app r g. a.answers app (heap app b n) (heap app b (suc n)) (u.stands app r g.1) g.0 in
     record {
       talks = talk_of old x failed ∷ h.talks;
       outside = (before, (h.outside, talk));
-      asked = (asked_here first old h.talks p x failed h.underway, h.asked);
+      asked = (asked_here first old h.talks p x failed n u.stands, h.asked);
       underway = record {
-        crossings = h.underway.crossings;
-        after = λ app r g. a.answers app (heap app first.budget h.underway.crossings) (heap app first.budget (suc h.underway.crossings)) (h.underway.after app r g.1) g.0;
-        budget = a.budget ∙ h.underway.budget;
+        crossings = advance t n;
+        stands = λ app r g. stands_so app b n new t (came app r g);
+        counts = λ app r g. e ∙ counts_then app b n k new t (stopped_grown app (heap app b n) (heap app b (suc n)) old p (u.stands app r g.1)) (came app r g) (u.counts app r g.1);
+        budget = a.budget ∙ u.budget;
       };
       newest = refl;
     }

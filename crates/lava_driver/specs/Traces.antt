@@ -7,9 +7,8 @@ use Rattle.js_world.specs.js_run.Heap.{World, begins, heap}
 use Rattle.js_world.specs.js_run.Journal as journal
 use Rattle.js_world.specs.js_run.Journal.{Application, Crossing}
 use Rattle.js_world.specs.js_crossing.Newest.{newest_crossing}
-use Rattle.js_world.specs.js_machine.declared.stop.Stop.TheVariants as stop
 use Rattle.js_world.specs.Crossings.{Rests}
-use Rattle.js_world.specs.Worlds.{HasStopped, IsOver, Stands, WorldView, ending_of}
+use Rattle.js_world.specs.Worlds.{WorldView, ending_of}
 use Rattle.js_world.specs.js_crossing.declared.ending.Ending.{Ending}
 use Rattle.js_world.specs.js_crossing.declared.ending.Ending.TheVariants as ending
 use Rattle.js_world.specs.js_crossing.declared.ending.Turn.{Turn}
@@ -21,7 +20,7 @@ use Rattle.lava_host.specs.Hosts.{HostWorld}
 use Rattle.lava_host.specs.declared.fault.Which.{Which}
 use Rattle.lava_host.specs.declared.fault.Which.TheVariants as which
 use Rattle.lava_streams.specs.Outside.{Fails, Grows, Stand}
-use Rattle.lava_driver.specs.Ran.{AreAskedIn, BeginsSo, HasRun}
+use Rattle.lava_driver.specs.Ran.{AreAskedIn, BeginsSo, HasRun, StandsAt, made_at}
 use Rattle.lava_driver.specs.Talks.{Agrees, AreTalks, Talk, newest_failed}
 use Rattle.lava_driver.specs.declared.run.Ran.{Ran}
 use Rattle.lava_driver.specs.declared.trace_run.Traced.{Traced}
@@ -103,23 +102,11 @@ HasNoted v (turn.Over (ending.Budget p)) old new = new ≡ old
 HasNoted v (turn.Over (ending.Fault p h)) old new = new ≡ old
 HasNoted v (turn.Asks p) old new = new ≡ old
 
--- where a run that is traced stands, after so many crossings
-abbrev pub StandsAt : Application → (budget crossings : ℕ) → WorldView → Turn → Type 0
-StandsAt app budget n v (turn.Runs m) = Stands app (heap app budget n) v m
-StandsAt app budget n v (turn.Over e) = IsOver app (heap app budget (suc n)) v e
-StandsAt app budget n v (turn.Asks p) = HasStopped app (heap app budget n) v (stop.Outside p) (heap app budget (suc n))
-
--- so far its crossings have their lines
-abbrev pub lines_at : Turn → ℕ → ℕ
-lines_at (turn.Runs m) n = n
-lines_at (turn.Over e) n = suc n
-lines_at (turn.Asks p) n = n
-
 -- after so much was asked and answered the machine stands there, and the trace is that of the journal so far, in each application that begins as the first world rests and whose outside answers so
 pub record IsTracing (parties : List (List ℕ)) (first : WorldView) (talks : List Talk) (now : WorldView) (t : Turn) (trace : TraceText) : Type 0 where
   pub crossings : ℕ
   pub stands : (app : Application) → Rests app (begins app) first → Agrees app talks → StandsAt app first.budget crossings now t
-  pub lines : (app : Application) → Rests app (begins app) first → Agrees app talks → IsTraceOf parties app (heap app first.budget (lines_at t crossings)).journal trace
+  pub lines : (app : Application) → Rests app (begins app) first → Agrees app talks → IsTraceOf parties app (heap app first.budget (made_at t crossings)).journal trace
   pub budget : now.budget ≡ first.budget
 
 -- the same, with what was done to the outside meanwhile, and the object of it that has failed last. Lines that are printed go nowhere

@@ -150,6 +150,7 @@ fn run_traced<F: Folder, I: Source, O: Sink, E: Sink, C: Clock>(
         (O.Sink.stand out.new) (E.Sink.stand err.new) (C.Clock.stand clock.new) in
         IfOk result (λ r. HasTracedTo parties dir.now world.old before world.new
         (turn.Over r.ending) r.failed tracer.new after) }
+    ensures crossings { IfOk result (λ r. r.crossings ≡ tracer.new.count) }
 {
     let mut host = Host::new(alloc);
     let mut step = Step {
@@ -161,6 +162,7 @@ fn run_traced<F: Folder, I: Source, O: Sink, E: Sink, C: Clock>(
             return Ok(Ran {
                 ending,
                 failed: step.failed,
+                crossings: tracer.count(),
             });
         }
         step = go_further(
@@ -224,7 +226,7 @@ fn finish<O: Sink>(
 }
 
 /// So many parties have steps. Want of memory is answered where there are others.
-fn as_many(world: &World, count: usize) -> Result<(), OutOfMemory>
+pub fn as_many(world: &World, count: usize) -> Result<(), OutOfMemory>
     ensures { OnOk result (length world.now.steps ≡ count) }
 {
     if world.steps().len() != count {

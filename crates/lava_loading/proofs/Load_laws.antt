@@ -1,11 +1,11 @@
--- Two answers on the modules of an application are one, but for the reason for which a module is refused.
+-- Two answers on the modules of an application are one, but for the name of a form that is left out where a module is refused.
 use Rattle.std.proofs.Common.{◌≡◌, ℕ, zero, suc, ◌+◌, List, [], Result, Ok, Err, sym, ap, ◌∙◌, refl}
 use Rattle.std.proofs.Math.Nat.{add_comm, add-suc, add-zero}
 use Rattle.pkg_load.specs.Applications.{Application, IsLoaded}
 use Rattle.pkg_load.specs.LoadFaults.{Answers}
 use Rattle.pkg_load.specs.Loading.{Loading, after, loading_begun, next_of, then_next}
 use Rattle.pkg_load.specs.Reasons.{Explained}
-use Rattle.pkg_load.specs.Sources.{Sources, no_place, no_reason}
+use Rattle.pkg_load.specs.Sources.{Sources, plain_reason}
 use Rattle.pkg_load.specs.declared.fault.LoadFault.{LoadFault}
 use Rattle.pkg_load.specs.declared.fault.LoadFault.TheVariants as load
 use Rattle.pkg_load.specs.declared.reader.ModuleKind.{ModuleKind}
@@ -56,7 +56,7 @@ module _ {T : Type 0} where
   comes_of reads w (Ok app) p of =
       record { end = Ok p.0; turns = p.1.0; is = p.1.1; over = p.2; answer = λ j. Ok (record { packages = p.4 j; modules = p.3 j }) }
   comes_of reads w (Err (load.Syntax name path place what)) p of =
-      record { end = Err (load.Syntax name path no_place no_reason); turns = p.0.0; is = p.0.1; over = tt; answer = refl }
+      record { end = Err (load.Syntax name path place (plain_reason what)); turns = p.0.0; is = p.0.1; over = tt; answer = refl }
   comes_of reads w (Err (load.Missing name request)) p of = record { end = Err (load.Missing name request); turns = p.0; is = p.1; over = tt; answer = refl }
   comes_of reads w (Err (load.TooMany what count)) p of = record { end = Err (load.TooMany what count); turns = p.0; is = p.1; over = tt; answer = refl }
   comes_of reads w (Err load.Folder) p of = absurd of

@@ -3,7 +3,7 @@ use Rattle.std.specs.Prelude.{◌≡◌, ℕ, List, Some, Result, Ok, Err}
 use Rattle.lava_streams.specs.Files.{Files}
 use Rattle.pkg_graph.specs.declared.fault.GraphFault.{GraphFault}
 use Rattle.pkg_graph.specs.declared.fault.GraphFault.TheVariants as graph
-use Rattle.pkg_load.specs.Sources.{IsMeaning, no_place, no_reason}
+use Rattle.pkg_load.specs.Sources.{IsMeaning, plain_reason}
 use Rattle.pkg_load.specs.declared.fault.LoadFault.{LoadFault}
 use Rattle.pkg_load.specs.declared.fault.LoadFault.TheVariants as load
 use Rattle.pkg_load.specs.declared.reader.ModuleKind.{ModuleKind}
@@ -43,10 +43,10 @@ IsOfContent (fault.Graph f) = IsOfManifests f
 IsOfContent (fault.Policies f) = IsOfPolicies f
 IsOfContent (fault.Load f) = IsOfModules f
 
--- WITHOUT THE REASON FOR WHICH A MODULE IS REFUSED: its reader may have several to tell
+-- WITHOUT THE NAME OF A FORM THAT IS LEFT OUT: of several at one token the reader of a module may tell any
 
 abbrev pub plain_module_fault : LoadFault → LoadFault
-plain_module_fault (load.Syntax name path place what) = load.Syntax name path no_place no_reason
+plain_module_fault (load.Syntax name path place what) = load.Syntax name path place (plain_reason what)
 plain_module_fault (load.Missing name request) = load.Missing name request
 plain_module_fault load.Folder = load.Folder
 plain_module_fault (load.TooMany what count) = load.TooMany what count
@@ -69,7 +69,7 @@ abbrev pub IsHeld : Files → (directory : List ℕ) → Result LoadedApplicatio
 IsHeld files directory (Ok l) = IsLoading (Some files) directory (Ok l)
 IsHeld files directory (Err f) = IsLoading (Some files) directory (Err f) × IsOfContent f
 
--- a function that says of all bytes which module of the language they are, or that they are none
+-- a function that says of all bytes which module of the language they are, or at which place they are refused and why
 abbrev pub Meaning : Type 0
 Meaning = ModuleKind → List ℕ → ModuleRead ModuleCode
 

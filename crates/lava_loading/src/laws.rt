@@ -2,7 +2,7 @@
 
 ghost use Rattle.lava_loading.specs.Laws.{One_loading};
 
-/// What a folder holds is loaded in one way, or refused for one cause: the first in the order of loading. Only which of several reasons is told where a module is refused may differ.
+/// What a folder holds is loaded in one way, or refused for one cause: the first in the order of loading. Where a module is refused, its place and the reason are one, but for the name of a form that is left out: which of several at one token is told may differ.
 #[tactic(none)]
 pub fn one_loading()
     ensures { One_loading }

@@ -1,5 +1,5 @@
 -- The report on a run that is over.
-use Rattle.std.proofs.Common.{◌≡◌, ◌<◌, ℕ, zero, suc, Bool, true, List, [], ◌∷◌, get_or, set, length, nat_eq, Option, refl, sym, ap, ◌∙◌, subst, arith, Result, Ok, Err, IfOk, ⊎_elim, if◌then◌else◌}
+use Rattle.std.proofs.Common.{◌≡◌, ◌<◌, ℕ, zero, suc, ◌+◌, Bool, true, List, [], ◌∷◌, get_or, set, length, nat_eq, Option, refl, sym, ap, ◌∙◌, subst, arith, Result, Ok, Err, IfOk, ⊎_elim, if◌then◌else◌}
 use Rattle.std.proofs.lemmas.Bool.Decides.{eqb_tells}
 use Rattle.std.specs.Option.{option_map}
 use Rattle.lava_base.specs.Ids.{same_ref}
@@ -42,12 +42,13 @@ use Rattle.lava_packages.specs.Packages.{IsFirstOf, party_names, run_parts}
 use Rattle.lava_driver.specs.Ran.{AreAskedIn, BeginsSo}
 use Rattle.lava_runner.specs.Reports.{EndsSo, HasReport, HasRunFrom, HasTraceReport, HasTracedFrom, IsApplicationOf, IsEmittedRun, IsReportOf, IsTracedRun, IsUncaughtText, traced_as, uncaught_text}
 use Rattle.lava_driver.specs.Talks.{Talk, newest_failed}
-use Rattle.lava_driver.specs.Traces.{HasTraced, PutsText, ending_told, trace_text}
+use Rattle.lava_driver.specs.Traces.{HasTraced, PutsText, ending_told, steps_from, trace_text}
 use Rattle.lava_packages.specs.Uncaught.{IsUncaughtIn, Thrown, host_marks, marks_there, shown, thrown_in, uncaught_of}
 use Rattle.lava_report.specs.declared.report.Report.{Report}
 use Rattle.lava_packages.specs.declared.common.CommonPart.{CommonPart}
 use Rattle.lava_driver.specs.declared.run.Ran.{Ran}
 use Rattle.lava_driver.specs.declared.trace_run.Traced.{Traced}
+use Rattle.lava_driver.proofs.Traced_whole.{steps_listed}
 use Rattle.lava_runner.proofs.Calling.{are_called}
 use Rattle.lava_runner.proofs.Repaired.{has_repairs}
 use Rattle.lava_packages.proofs.In_range.{parts_in_range}
@@ -108,21 +109,27 @@ uncaught_so app w v (ending.Fault p h) text k u = u
 
 -- THE RUN OF AN APPLICATION
 
-pub ran_from : {E : Type 0} (r : Result Report E) (emit : Bool) (dir : List ℕ) (packages : List Package) (ms : List (LoadedModule ModuleCode)) (policy : Rows) (c : CommonPart) (budget : ℕ) (before after : HostWorld) (first : WorldView)
-    → IsFirstOf packages ms policy c budget first → IfOk r (HasReport emit dir first before after) → IfOk r (HasRunFrom emit dir packages ms policy c budget before after)
-ran_from (Ok r) emit dir packages ms policy c budget before after first f h = record { first = first; is = f; report = h }
-ran_from (Err e) emit dir packages ms policy c budget before after first f h = tt
+pub ran_from : {E : Type 0} (r : Result Report E) (emit : Bool) (dir : List ℕ) (packages : List Package) (ms : List (LoadedModule ModuleCode)) (policy : Rows) (c : CommonPart) (budget : ℕ) (before after : HostWorld) (first : WorldView) (names : List (List ℕ))
+    → IsFirstOf packages ms policy c budget first → names ≡ party_names packages → IfOk r (HasReport emit dir names first before after) → IfOk r (HasRunFrom emit dir packages ms policy c budget before after)
+ran_from (Ok r) emit dir packages ms policy c budget before after first names f e h = record { first = first; is = f; report = subst (λ ns. HasReport emit dir ns first before after r) e h }
+ran_from (Err e) emit dir packages ms policy c budget before after first names f n h = tt
 
 -- what the packages are made of is what they are made of as they are handed in
-ends_so : Journal_is_net → Host_calls_are_crossings → Runs_are_well_made → (parts : RunParts) → HasRepairs parts.common → (budget crossings : ℕ) (last : WorldView) (ran : Ran) (r : Report) → AllInRange parts.packages → IsReportOf last ran r → (app : Application) → IsApplicationOf parts app
-    → IsOver app (heap.heap app budget crossings) last ran.ending → EndsSo app budget crossings r
-ends_so law calls made parts repairs budget n last ran r range s app a over =
+ends_so : Journal_is_net → Host_calls_are_crossings → Runs_are_well_made → (parts : RunParts) → HasRepairs parts.common → (budget crossings : ℕ) (last : WorldView) (names : List (List ℕ)) (ran : Ran) (r : Report) → AllInRange parts.packages → IsReportOf last names ran r → (app : Application) → IsApplicationOf parts app
+    → IsOver app (heap.heap app budget crossings) last ran.ending → ran.crossings ≡ length (heap.heap app budget crossings).journal → EndsSo app budget crossings r
+ends_so law calls made parts repairs budget n last names ran r range s app a over count =
+    let w : World = heap.heap app budget n in
     let is : (heap.heap app budget n).control ≡ Over_with (ending_of r.ending) = over.control ∙ ap (λ e. Over_with (ending_of e)) (sym s.ending) in
     let well = subst IsWellMade (sym a.is) (made parts a.surroundings range) in
     record {
       machine = is;
       network = sym (law app well budget n).ending ∙ ap laws.ending_of is;
       uncaught = uncaught_so app (heap.heap app budget n) last ran.ending r.uncaught over.answer s.uncaught ∙ ap (λ e. uncaught_text e (uncaught_of app (heap.heap app budget n))) (sym s.ending);
+      steps =
+          s.steps
+          ∙ steps_listed 0 w.steps last.steps (λ q l. (let here : 0 + q ≡ q = omega arith in ap w.steps here ∙ over.steps q l))
+          ∙ ap (λ m. steps_from 0 m w.steps) (s.many ∙ ap length (sym s.names));
+      count = s.crossings ∙ count;
       crossed = calls app (has_host parts repairs app a) budget n (ending_of r.ending) (ap laws.ending_of is);
     }
 
@@ -144,12 +151,14 @@ is_run law calls gone made calling (Ok r) dir loaded policy budget before after 
       talks = come.talks;
       outside = come.outside;
       which = h.report.which ∙ come.newest;
+      names = h.report.names;
       asked = are_asked;
       called = are_called gone (IsApplicationOf parts) (has_host parts repairs) budget come.talks are_asked;
       crossings = suc come.underway.crossings;
       ends = λ app a g.
-          ends_so law calls made parts repairs budget (suc come.underway.crossings) h.last h.ran r range h.report app a
-          (subst (λ b. IsOver app (heap.heap app b (suc come.underway.crossings)) h.last h.ran.ending) f.limit (come.underway.after app (begins_so parts budget first f app a) g));
+          ends_so law calls made parts repairs budget (suc come.underway.crossings) h.last (party_names loaded.packages) h.ran r range h.report app a
+          (subst (λ b. IsOver app (heap.heap app b (suc come.underway.crossings)) h.last h.ran.ending) f.limit (come.underway.stands app (begins_so parts budget first f app a) g))
+          (come.underway.counts app (begins_so parts budget first f app a) g ∙ ap (λ b. length (heap.heap app b (suc come.underway.crossings)).journal) f.limit);
     }
 
 -- WITH A TRACE
@@ -160,13 +169,13 @@ traced_from (Ok r) dir packages ms policy c budget before after first names f e 
 traced_from (Err e) dir packages ms policy c budget before after first names f n h = tt
 
 pub trace_report : {E : Type 0} (k : Result Report E) (parties : List (List ℕ)) (dir : List ℕ) (first last : WorldView) (before after : HostWorld) (traced : Traced)
-    → HasTraced parties dir first before last traced after → IfOk k (IsReportOf last (traced_as traced)) → IfOk k (HasTraceReport parties dir first before after)
+    → HasTraced parties dir first before last traced after → IfOk k (IsReportOf last parties (traced_as traced)) → IfOk k (HasTraceReport parties dir first before after)
 trace_report (Ok r) parties dir first last before after traced h s = record { last = last; traced = traced; runs = h; report = s }
 trace_report (Err e) parties dir first last before after traced h s = tt
 
 -- the report says how the run ended
-as_ran : (last : WorldView) (t : Traced) (ran : Ran) (r : Report) → t.ending ≡ ran.ending → IsReportOf last (traced_as t) r → IsReportOf last (record { ending = ran.ending; failed = t.failed }) r
-as_ran last t ran r e s = record { ending = s.ending ∙ e; which = s.which; uncaught = subst (λ x. IsUncaughtText last x r.uncaught) e s.uncaught }
+as_ran : (last : WorldView) (names : List (List ℕ)) (t : Traced) (ran : Ran) (r : Report) → t.ending ≡ ran.ending → IsReportOf last names (traced_as t) r → IsReportOf last names (record { ending = ran.ending; failed = t.failed; crossings = t.crossings }) r
+as_ran last names t ran r e s = record { ending = s.ending ∙ e; which = s.which; uncaught = subst (λ x. IsUncaughtText last x r.uncaught) e s.uncaught; names = s.names; steps = s.steps; many = s.many; crossings = s.crossings }
 
 pub is_traced : {E : Type 0} → Journal_is_net → Host_calls_are_crossings → Gone_at_the_newest → Runs_are_well_made → Common_part_calls_repairs → (k : Result Report E) (dir : List ℕ) (loaded : loads.Application ModuleCode) (policy : Rows) (budget : ℕ) (before after : HostWorld) (c : CommonPart)
     → IsCommonPart c → IfOk k (HasTracedFrom dir loaded.packages loaded.modules policy c budget before after) → IfOk k (IsTracedRun dir loaded policy budget before after)
@@ -183,8 +192,8 @@ is_traced law calls gone made calling (Ok r) dir loaded policy budget before aft
     let range = parts_in_range loaded.packages loaded.modules policy 0 loaded.packages in
     let are_asked = asked_in parts budget first f come.talks come.asked in
     let n = suc come.underway.crossings in
-    let ran : Ran = record { ending = t.ran.ending; failed = h.traced.failed } in
-    let s = as_ran h.last h.traced t.ran r t.ending h.report in
+    let ran : Ran = record { ending = t.ran.ending; failed = h.traced.failed; crossings = h.traced.crossings } in
+    let s = as_ran h.last names h.traced t.ran r t.ending h.report in
     record {
       common = c;
       part = part;
@@ -198,12 +207,14 @@ is_traced law calls gone made calling (Ok r) dir loaded policy budget before aft
       text = t.text;
       puts = subst (λ w. PutsText t.text (newest_failed come.talks) w t.mid.output after.output) (sym h.report.which) (subst (λ v. PutsText t.text v h.traced.failed t.mid.output after.output) come.newest t.puts);
       rest = t.rest;
+      names = s.names;
       crossings = n;
       ends = λ app a g.
           record {
             ends =
-                ends_so law calls made parts repairs budget n h.last ran r range s app a
-                (subst (λ b. IsOver app (heap.heap app b n) h.last t.ran.ending) f.limit (come.underway.after app (begins_so parts budget first f app a) g));
+                ends_so law calls made parts repairs budget n h.last names ran r range s app a
+                (subst (λ b. IsOver app (heap.heap app b n) h.last t.ran.ending) f.limit (come.underway.stands app (begins_so parts budget first f app a) g))
+                (t.count app (begins_so parts budget first f app a) g ∙ ap (λ b. length (heap.heap app b n).journal) f.limit);
             trace = t.is app (begins_so parts budget first f app a) g ∙ ap (λ b. trace_text names app (heap.heap app b n) t.told) f.limit;
           };
     }

@@ -15,7 +15,7 @@ use lava_driver::js_crossing::ending::Ending;
 use lava_driver::js_run_laws::journal_is_net;
 use lava_driver::js_world::world::World;
 use lava_driver::run::{Ran, run};
-use lava_driver::trace_run::trace_run;
+use lava_driver::trace_run::{as_many, trace_run};
 use lava_packages::common::{CommonPart, RunFault, common_part};
 use lava_packages::first::first_of;
 use lava_packages::lava_start::laws::runs_are_well_made;
@@ -48,15 +48,34 @@ fn uncaught_at(
     }
 }
 
-/// The report on a run that is over.
-fn report_of(alloc: Global, world: &mut World, ran: Ran) -> Result<Report, OutOfMemory>
-    ensures { IfOk result (IsReportOf world.old ran) }
+/// The steps that each party has taken.
+fn steps_of(alloc: Global, world: &World) -> Result<List<u64>, OutOfMemory>
+    ensures { IfOk result (λ steps. steps ≡ world.now.steps) }
 {
+    let mut steps = List::new(alloc);
+    steps.extend_from_slice(world.steps())?;
+    Ok(steps)
+}
+
+/// The report on a run of these parties that is over. Want of memory is answered where there are others.
+fn report_of(
+    alloc: Global,
+    world: &mut World,
+    names: List<Name>,
+    ran: Ran,
+) -> Result<Report, OutOfMemory>
+    ensures { IfOk result (IsReportOf world.old names ran) }
+{
+    as_many(world, names.len())?;
+    let steps = steps_of(alloc, world)?;
     let uncaught = uncaught_at(alloc, world, ran.ending)?;
     Ok(Report {
         ending: ran.ending,
         uncaught,
         which: ran.failed,
+        names,
+        steps,
+        crossings: ran.crossings,
     })
 }
 
@@ -64,6 +83,7 @@ fn report_of(alloc: Global, world: &mut World, ran: Ran) -> Result<Report, OutOf
 fn run_world<F: Folder, I: Source, O: Sink, E: Sink, C: Clock>(
     alloc: Global,
     world: &mut World,
+    names: List<Name>,
     emit: bool,
     dir: &str,
     folder: &mut F,
@@ -77,10 +97,10 @@ fn run_world<F: Folder, I: Source, O: Sink, E: Sink, C: Clock>(
         (O.Sink.stand out.old) (E.Sink.stand err.old) (C.Clock.stand clock.old) in
         let after = host_world (F.Folder.stand folder.new) (I.Source.stand input.new)
         (O.Sink.stand out.new) (E.Sink.stand err.new) (C.Clock.stand clock.new) in
-        IfOk result (HasReport emit dir.now world.old before after) }
+        IfOk result (HasReport emit dir.now names world.old before after) }
 {
     let ran = run(world, alloc, emit, dir, folder, input, out, err, clock)?;
-    report_of(alloc, world, ran)
+    report_of(alloc, world, names, ran)
 }
 
 /// Runs the packages of an application over a common part, and reports on it.
@@ -106,8 +126,11 @@ fn run_packages<F: Folder, I: Source, O: Sink, E: Sink, C: Clock>(
         let run = HasRunFrom emit dir.now packages.now modules.now policy.now common budget in
         IfOk result (run before after) }
 {
+    let names = names_of(alloc, packages)?;
     let mut world = first_of(alloc, packages, modules, policy, common, budget)?;
-    let report = run_world(alloc, &mut world, emit, dir, folder, input, out, err, clock);
+    let report = run_world(
+        alloc, &mut world, names, emit, dir, folder, input, out, err, clock,
+    );
     discard(world);
     report
 }
@@ -116,7 +139,7 @@ fn run_packages<F: Folder, I: Source, O: Sink, E: Sink, C: Clock>(
 fn trace_world<F: Folder, I: Source, O: Sink, E: Sink, C: Clock>(
     alloc: Global,
     world: &mut World,
-    parties: &List<Name>,
+    parties: List<Name>,
     dir: &str,
     folder: &mut F,
     input: &mut I,
@@ -129,14 +152,15 @@ fn trace_world<F: Folder, I: Source, O: Sink, E: Sink, C: Clock>(
         (O.Sink.stand out.old) (E.Sink.stand err.old) (C.Clock.stand clock.old) in
         let after = host_world (F.Folder.stand folder.new) (I.Source.stand input.new)
         (O.Sink.stand out.new) (E.Sink.stand err.new) (C.Clock.stand clock.new) in
-        IfOk result (HasTraceReport parties.now dir.now world.old before after) }
+        IfOk result (HasTraceReport parties dir.now world.old before after) }
 {
-    let traced = trace_run(world, alloc, parties, dir, folder, input, out, err, clock)?;
+    let traced = trace_run(world, alloc, &parties, dir, folder, input, out, err, clock)?;
     let ran = Ran {
         ending: traced.ending,
         failed: traced.failed,
+        crossings: traced.crossings,
     };
-    report_of(alloc, world, ran)
+    report_of(alloc, world, parties, ran)
 }
 
 /// Runs the packages of an application over a common part, with a trace, and reports on it.
@@ -164,7 +188,7 @@ fn trace_packages<F: Folder, I: Source, O: Sink, E: Sink, C: Clock>(
     let names = names_of(alloc, packages)?;
     let mut world = first_of(alloc, packages, modules, policy, common, budget)?;
     let report = trace_world(
-        alloc, &mut world, &names, dir, folder, input, out, err, clock,
+        alloc, &mut world, names, dir, folder, input, out, err, clock,
     );
     discard(world);
     report

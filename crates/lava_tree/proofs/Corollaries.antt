@@ -12,7 +12,7 @@ use Rattle.js_program.specs.Programs.{HasProgram, IsProgram, IsProgramFault}
 use Rattle.js_tree.specs.declared.tree.SourceKind.TheVariants as kinds
 use Rattle.js_tree_lines.specs.Lines.{AreLinesOf}
 use Rattle.lava_tree.specs.declared.tree_source.TheConstants.{FILE_LIMIT}
-use Rattle.lava_tree.specs.TreeAnswers.{IsFileAt, IsTreeText, OneText, OneTree, TellsFile, TreeAnswers, TreeComes, TreeEnds, TreeRefuses, TreeReports, TreeStops, TreeWrites}
+use Rattle.lava_tree.specs.TreeAnswers.{IsFileAt, IsTreeText, OneText, OneTree, TellsFile, TreeAnswers, TreeComes, TreeEnds, TreeLacks, TreeMisses, TreeRefuses, TreeReports, TreeStops, TreeWrites}
 use Rattle.lava_tree.specs.declared.tree_outcome.TreeOutcome.{TreeOutcome}
 use Rattle.lava_tree.specs.declared.tree_outcome.TreeOutcome.TheVariants as outcome
 
@@ -28,6 +28,9 @@ no_absent a e = cc
 
 no_longer : (a : List ℕ) → Longer ≡ Bytes a → ⊥
 no_longer a e = cc
+
+not_absent : Longer ≡ Absent → ⊥
+not_absent e = cc
 
 one_of : OneTree → OneText → (bytes a b : List ℕ) → IsTreeText bytes a → IsTreeText bytes b → a ≡ b
 one_of tree text bytes a b x y = text (source_template_of y.0) a b (subst (λ m. AreLinesOf (source_template_of m) a) (tree kinds.Module bytes x.0 y.0 x.1.0 y.1.0) x.2) y.2
@@ -70,3 +73,24 @@ module _ (path : List ℕ) (before after : Outside) (status : ℕ) where
       let e : bytes ≡ s.2.0 = bytes_are bytes s.2.0 (sym (told_is path before s.0 (Bytes bytes) told s.1) ∙ s.2.1) in
       absurd (s.2.3 place what (subst (λ b. IsProgramFault kinds.Module b place what) e fault))
   refuses (outcome.OutOfMemory, c, r) bytes place what told fault = ⊎_elim (λ w. inr (inr w)) (λ w. inr (inr w)) r
+
+  absent : TreeAnswers path before after status → TreeLacks path before after status Absent outcome.Missing
+  absent (outcome.Finished, c, r) told = (let s = c.1.1 in absurd (no_absent s.2.0 (sym (told_is path before s.0 Absent told s.1) ∙ s.2.1)))
+  absent (outcome.Missing, c, r) told = ⊎_elim (λ w. inl w) (λ w. inr (inr w)) r
+  absent (outcome.TooLong, c, r) told = absurd (not_absent (sym c.1.2 ∙ told_is path before c.1.0 Absent told c.1.1))
+  absent (outcome.Syntax place what, c, r) told = (let s = c.1 in absurd (no_absent s.2.0 (sym (told_is path before s.0 Absent told s.1) ∙ s.2.1)))
+  absent (outcome.FolderFailed, c, r) told = ⊎_elim (λ w. inr (inl (c.0, w))) (λ w. inr (inr w)) r
+  absent (outcome.OutputFailed, c, r) told = (let s = c.1.1 in absurd (no_absent s.2.0 (sym (told_is path before s.0 Absent told s.1) ∙ s.2.1)))
+  absent (outcome.OutOfMemory, c, r) told = ⊎_elim (λ w. inr (inr w)) (λ w. inr (inr w)) r
+
+  longer : TreeAnswers path before after status → TreeLacks path before after status Longer outcome.TooLong
+  longer (outcome.Finished, c, r) told = (let s = c.1.1 in absurd (no_longer s.2.0 (sym (told_is path before s.0 Longer told s.1) ∙ s.2.1)))
+  longer (outcome.Missing, c, r) told = absurd (not_absent (sym (told_is path before c.1.0 Longer told c.1.1) ∙ c.1.2))
+  longer (outcome.TooLong, c, r) told = ⊎_elim (λ w. inl w) (λ w. inr (inr w)) r
+  longer (outcome.Syntax place what, c, r) told = (let s = c.1 in absurd (no_longer s.2.0 (sym (told_is path before s.0 Longer told s.1) ∙ s.2.1)))
+  longer (outcome.FolderFailed, c, r) told = ⊎_elim (λ w. inr (inl (c.0, w))) (λ w. inr (inr w)) r
+  longer (outcome.OutputFailed, c, r) told = (let s = c.1.1 in absurd (no_longer s.2.0 (sym (told_is path before s.0 Longer told s.1) ∙ s.2.1)))
+  longer (outcome.OutOfMemory, c, r) told = ⊎_elim (λ w. inr (inr w)) (λ w. inr (inr w)) r
+
+  pub misses : TreeAnswers path before after status → TreeMisses path before after status
+  misses h = (absent h, longer h)

@@ -139,6 +139,15 @@ TreeRefuses path before after status =
     → ((at : Place) × (said : SyntaxWhat) × IsRefusal place what (faults.At at said) × TreeWrites path (outcome.Syntax at said) before.errors after.errors status)
     ⊎ TreeStops path before after status
 
+-- where the folder tells that there is no such file, or one that is too long, that is the answer
+abbrev pub TreeLacks : (path : List ℕ) → (before after : Outside) → (status : ℕ) → FileRead → TreeOutcome → Type 0
+TreeLacks path before after status r o =
+    TellsFile path before r → TreeWrites path o before.errors after.errors status ⊎ TreeStops path before after status
+
+abbrev pub TreeMisses : (path : List ℕ) → (before after : Outside) → (status : ℕ) → Type 0
+TreeMisses path before after status =
+    TreeLacks path before after status Absent outcome.Missing × TreeLacks path before after status Longer outcome.TooLong
+
 -- a source has one syntax tree at most, and a term one text of lines
 abbrev pub OneTree : Type 0
 OneTree = (kind : SourceKind) (bytes : List ℕ) (a b : Module) → IsModuleOf kind bytes a → IsModuleOf kind bytes b → a ≡ b

@@ -2,7 +2,7 @@
 
 ghost use Rattle.std.specs.Prelude.{◌≡◌, ℕ, List};
 ghost use Rattle.lava_streams.specs.Outside.{Stand, outside};
-ghost use Rattle.lava_tree.specs.TreeAnswers.{TreeAnswers, TreeComes, TreeEnds, TreeRefuses, TreeReports};
+ghost use Rattle.lava_tree.specs.TreeAnswers.{TreeAnswers, TreeComes, TreeEnds, TreeMisses, TreeRefuses, TreeReports};
 
 use crate::tree_outcome::{TreeOutcome, TreeSource};
 use crate::tree_source::find;
@@ -116,6 +116,10 @@ pub fn tree<F: Folder, O: Sink, E: Sink>(
     ensures refuses { let before = outside (F.stand folder.old) (O.stand out.old) (E.stand err.old) in
         let after = outside (F.stand folder.new) (O.stand out.new) (E.stand err.new) in
         TreeRefuses path.now before after result }
+    // Where there is no such file, or one that is too long, that is told.
+    ensures misses { let before = outside (F.stand folder.old) (O.stand out.old) (E.stand err.old) in
+        let after = outside (F.stand folder.new) (O.stand out.new) (E.stand err.new) in
+        TreeMisses path.now before after result }
     ensures folder { (F.stand folder.new).told ≡ (F.stand folder.old).told }
 {
     one_tree();

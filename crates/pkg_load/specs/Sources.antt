@@ -2,8 +2,7 @@
 use Rattle.std.specs.Prelude.{◌≡◌, ℕ, ◌++◌, ◌∷◌, [], List, Option, Some, None, option_map, nat_eq, if◌then◌else◌}
 use Rattle.std.specs.List.{ends_with}
 use Rattle.js_fault.specs.declared.fault.SyntaxWhat.{SyntaxWhat}
-use Rattle.js_fault.specs.declared.fault.SyntaxWhat.TheVariants.{NotUtf8}
-use Rattle.lava_base.specs.declared.place.Place.{Place}
+use Rattle.js_fault.specs.declared.fault.SyntaxWhat.TheVariants.{Unsupported}
 use Rattle.lava_streams.specs.Files.{Files}
 use Rattle.lava_streams.specs.Folders.{file_read}
 use Rattle.lava_streams.specs.declared.folder.FileRead.{FileRead}
@@ -45,23 +44,21 @@ abbrev pub sources_of : {T : Type 0} → Files → (root : List ℕ) → List Pa
 sources_of files root packages meaning =
     record { packages = packages; stands = stands_in files root packages; meaning = meaning }
 
--- What stands for bytes that are no module, where the reason doesn't matter: a reader may have several to tell.
-abbrev pub no_place : Place
-no_place = record { line = 1; unit = 1 }
+-- A reason without the name of a form that is left out: where several are at one token, a reader may tell any of them.
+abbrev pub plain_reason : SyntaxWhat → SyntaxWhat
+plain_reason (Unsupported name) = Unsupported []
+plain_reason what = what
 
-abbrev pub no_reason : SyntaxWhat
-no_reason = NotUtf8
+abbrev pub plain_read : {T : Type 0} → ModuleRead T → ModuleRead T
+plain_read (Good requests code) = Good requests code
+plain_read (Refused place what) = Refused place (plain_reason what)
 
-abbrev pub without_reason : {T : Type 0} → ModuleRead T → ModuleRead T
-without_reason (Good requests code) = Good requests code
-without_reason (Refused place what) = Refused no_place no_reason
-
--- A function that says of all bytes which module a reader reads them as, or that they are none.
+-- A function that says of all bytes which module a reader reads them as, or at which place they are refused and why.
 abbrev pub IsMeaning : {T : Type 0} → (reads : ModuleKind → List ℕ → ModuleRead T → Type 0) → (meaning : ModuleKind → List ℕ → ModuleRead T) → Type 0
 IsMeaning {T} reads meaning =
-    (kind : ModuleKind) (bytes : List ℕ) (r : ModuleRead T) → reads kind bytes r → without_reason r ≡ meaning kind bytes
+    (kind : ModuleKind) (bytes : List ℕ) (r : ModuleRead T) → reads kind bytes r → plain_read r ≡ meaning kind bytes
 
--- P of each function that says so. There is one where bytes are read as one module at most, and are not refused besides.
+-- P of each function that says so. There is one where bytes are read as one module at most, or refused at one place for one reason.
 abbrev pub ForMeaning : {T : Type 0} → (reads : ModuleKind → List ℕ → ModuleRead T → Type 0) → (P : (ModuleKind → List ℕ → ModuleRead T) → Type 0) → Type 0
 ForMeaning {T} reads P = (meaning : ModuleKind → List ℕ → ModuleRead T) → IsMeaning reads meaning → P meaning
 

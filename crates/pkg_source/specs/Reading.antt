@@ -8,6 +8,7 @@ use Rattle.js_fault.specs.declared.fault.SyntaxWhat.TheVariants.{NotUtf8}
 use Rattle.js_lexer.specs.Sources.{end_place}
 use Rattle.js_names.specs.Lists.{flat}
 use Rattle.js_program.specs.Programs.{IsProgram, HasProgram, IsProgramFault}
+use Rattle.js_reader.specs.Reading.{IsRefusal}
 use Rattle.js_scope.specs.Resolutions.{resolved, request_in}
 use Rattle.js_scope.specs.declared.finding.ModuleRequest.{ModuleRequest}
 use Rattle.js_scope.specs.declared.resolve.Resolved.{Resolved}
@@ -47,12 +48,16 @@ module_of r = Good (requests_of r) (code.Source r)
 abbrev pub IsFaultless : List ℕ → Type 0
 IsFaultless bytes = (place : Place) (what : SyntaxWhat) → ¬ IsProgramFault AsModule bytes place what
 
--- a source is the module of its program; what is no program is refused with one of its faults
+-- no other fault is told of a source, but for another form that is left out at the same token
+abbrev pub IsOnlyFault : List ℕ → Place → SyntaxWhat → Type 0
+IsOnlyFault bytes place what = (other : Place) (w : SyntaxWhat) → IsProgramFault AsModule bytes other w → IsRefusal other w (At place what)
+
+-- a source is the module of its program; what is no program is refused with its fault
 -- ECMA-262 ParseModule
 abbrev pub IsSourceRead : List ℕ → Read → Type 0
 IsSourceRead bytes (Good requests c) =
     (tree : Tree) × IsProgram AsModule bytes tree × IsFaultless bytes × (requests ≡ requests_of (resolved tree)) × (c ≡ code.Source (resolved tree))
-IsSourceRead bytes (Refused place what) = IsProgramFault AsModule bytes place what × (¬ HasProgram AsModule bytes)
+IsSourceRead bytes (Refused place what) = IsProgramFault AsModule bytes place what × (¬ HasProgram AsModule bytes) × IsOnlyFault bytes place what
 
 -- what is told of a fault
 abbrev pub IsRefusedBy : SyntaxFault → Read → Type 0

@@ -7,5 +7,5 @@ abbrev pub invariant-loop-i : goal.invariant-loop-i
 invariant-loop-i g l =
     HasComeTo l.fn.emit l.fn.dir l.fn.world
     (host_world (g.F.Folder.stand l.fn.folder) (g.I.Source.stand l.fn.input) (g.O.Sink.stand l.fn.out) (g.E.Sink.stand l.fn.err) (g.C.Clock.stand l.fn.clock))
-    l.world l.step.turn l.step.failed
+    l.world l.stage.step.turn l.stage.step.failed l.stage.crossings
     (host_world (g.F.Folder.stand l.folder) (g.I.Source.stand l.input) (g.O.Sink.stand l.out) (g.E.Sink.stand l.err) (g.C.Clock.stand l.clock))

@@ -21,3 +21,9 @@ returns-clause-refuses g c =
     let before = outside (g.F.Folder.stand c.args.folder.now) (g.O.Sink.stand c.args.out.now) (g.E.Sink.stand c.args.err.now) in
     let after = outside (g.F.Folder.stand c.outcome_of-outcome.new.folder) (g.O.Sink.stand c.outcome_of-outcome.new.out) (g.E.Sink.stand c.report.new.err) in
     corollaries.refuses c.args.path.now before after c.report.result (returns-clause-answers g c)
+
+pub returns-clause-misses : goal.returns-clause-misses
+returns-clause-misses g c =
+    let before = outside (g.F.Folder.stand c.args.folder.now) (g.O.Sink.stand c.args.out.now) (g.E.Sink.stand c.args.err.now) in
+    let after = outside (g.F.Folder.stand c.outcome_of-outcome.new.folder) (g.O.Sink.stand c.outcome_of-outcome.new.out) (g.E.Sink.stand c.report.new.err) in
+    corollaries.misses c.args.path.now before after c.report.result (returns-clause-answers g c)

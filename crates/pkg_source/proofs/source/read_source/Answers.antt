@@ -7,4 +7,4 @@ returns-in-Ok c =
 
 pub returns-in-Err : goal.returns-in-Err
 returns-in-Err c =
-    bad_read c.args.bytes.now c.in-Err.fault c.refused_by.result c.in-Err.ensures.cause c.in-Err.ensures.only c.refused_by.ensures
+    bad_read c.args.bytes.now c.in-Err.fault c.refused_by.result c.in-Err.ensures.cause c.in-Err.ensures.only c.in-Err.ensures.refused c.refused_by.ensures
