@@ -61,11 +61,11 @@ cross_grown : (app : Application) (budget : ℕ) (w : World) (p : ℕ) (point : 
 cross_grown app budget w p point = run_grown app p w (run (naming_of p) app.shared (env_of app (table_of app w.journal) p) (w.steps p + (budget - w.spent)) (w.steps p) point)
 
 pub runs_grown : (app : Application) (budget : ℕ) (w : World) (v : WorldView) (m : Mode) → Stands app w v m → let y = cross app budget w w.control in Grown y.control w.journal y.journal
-pub runs_grown app budget w v m s =
+runs_grown app budget w v m s =
     subst (λ c. Grown (cross app budget w c).control w.journal (cross app budget w c).journal) (sym s.control) (cross_grown app budget w v.machine.me (point_of (around app s.suits.reads w.journal v.machine.me) v.machine m))
 
 pub stopped_grown : (app : Application) (w after : World) (v : WorldView) (p : Pause) → HasStopped app w v (stop.Outside p) after → Grown after.control w.journal after.journal
-pub stopped_grown app w after v p h =
+stopped_grown app w after v p h =
     subst (λ (y : World). Grown y.control w.journal y.journal) (sym h.comes) (run_grown app v.machine.me w (stop_of (around app h.suits.reads w.journal v.machine.me) v.machine (stop.Outside p)))
 
 -- the journal that a run has there
@@ -82,9 +82,9 @@ advance (turn.Over e) n = n
 advance (turn.Asks p) n = n
 
 pub stands_so : (app : Application) (b n : ℕ) (v : WorldView) (t : Turn) → After app (heap app b n) (heap app b (suc n)) v t → StandsAt app b (advance t n) v t
-pub stands_so app b n v (turn.Runs m) a = a
-pub stands_so app b n v (turn.Over e) a = a
-pub stands_so app b n v (turn.Asks p) a = a
+stands_so app b n v (turn.Runs m) a = a
+stands_so app b n v (turn.Over e) a = a
+stands_so app b n v (turn.Asks p) a = a
 
 -- THE COUNT OF CROSSINGS
 

@@ -1,18 +1,14 @@
 -- The trace of a run that is over.
-use Rattle.std.proofs.Common.{◌≡◌, ◌<◌, ℕ, zero, suc, ◌+◌, Bool, true, false, List, [], ◌∷◌, ◌++◌, length, get_or, Option, Some, None, refl, sym, ap, ◌∙◌, subst, arith, Result, Ok, Err, IfOk, OnOk}
+use Rattle.std.proofs.Common.{◌≡◌, ◌<◌, ℕ, suc, ◌+◌, true, List, [], ◌∷◌, ◌++◌, length, get_or, Option, Some, refl, sym, ap, ◌∙◌, arith, Result, Ok, Err, IfOk, OnOk}
 use Rattle.std.specs.Option.{option_map}
-use Rattle.js_desc.specs.declared.ending.Ending as desc
-use Rattle.js_world.specs.js_run.Heap.{World, begins, heap}
+use Rattle.js_world.specs.js_run.Heap.{World, heap}
 use Rattle.js_world.specs.js_run.Journal.{Application, Crossing}
-use Rattle.js_world.specs.Crossings.{Rests}
-use Rattle.js_world.specs.Worlds.{IsOver, WorldView, ending_of}
+use Rattle.js_world.specs.Worlds.{IsOver, WorldView}
 use Rattle.js_world.specs.js_crossing.declared.ending.Turn.TheVariants as turn
 use Rattle.js_world.specs.js_crossing.declared.newest.TracedCrossing.{TracedCrossing}
 use Rattle.lava_host.specs.Hosts.{HostWorld}
 use Rattle.lava_journal.specs.Lines.{end_text}
-use Rattle.lava_driver.specs.Ran.{HasRun}
-use Rattle.lava_driver.specs.Talks.{Agrees}
-use Rattle.lava_driver.specs.Traces.{HasTraced, HasTracedTo, HasWritten, IsFinished, TraceText, steps_from, trace_of, trace_text, with_crossing}
+use Rattle.lava_driver.specs.Traces.{HasTraced, HasTracedTo, HasWritten, IsFinished, TraceText, steps_from, trace_of, with_crossing}
 use Rattle.lava_driver.specs.declared.run.Ran.{Ran}
 use Rattle.lava_driver.specs.declared.trace_run.Traced.{Traced}
 

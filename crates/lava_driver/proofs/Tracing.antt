@@ -1,13 +1,10 @@
 -- How the trace of a run goes on with each crossing.
-use Rattle.std.proofs.Common.{◌≡◌, ℕ, suc, ◌-◌, false, List, [], ◌∷◌, Option, None, refl, sym, ap, ◌∙◌, subst}
-use Rattle.js_desc.specs.declared.reply.Reply.TheVariants as reply
+use Rattle.std.proofs.Common.{◌≡◌, ℕ, suc, false, List, [], ◌∷◌, Option, None, refl, sym, ap, ◌∙◌, subst}
 use Rattle.js_world.specs.js_run.Heap.{World, begins, cross, heap}
-use Rattle.js_world.specs.js_run.Journal.{Application, Crossing, crossing, first_import}
-use Rattle.js_world.specs.js_run.Runs.{run}
+use Rattle.js_world.specs.js_run.Journal.{Application, Crossing, first_import}
 use Rattle.js_world.specs.js_machine.declared.frame.Mode.{Mode}
 use Rattle.js_world.specs.js_machine.declared.outside.HostAnswer.{HostAnswer}
 use Rattle.js_world.specs.js_machine.declared.stop.Pause.{Pause}
-use Rattle.js_world.specs.js_machine.declared.stop.Stop.TheVariants as stop
 use Rattle.js_world.specs.Asked_outside.{Answers}
 use Rattle.js_world.specs.Crossings.{Rests}
 use Rattle.js_world.specs.First.{IsBegun}

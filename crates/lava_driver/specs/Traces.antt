@@ -1,5 +1,5 @@
 -- The text of a trace: the lines of a journal, with the first ones before them and the last ones behind them.
-use Rattle.std.specs.Prelude.{◌≡◌, ℕ, zero, suc, ◌+◌, Bool, true, false, List, [], ◌∷◌, ◌++◌, ◌⊎◌, length, Option, Some, None}
+use Rattle.std.specs.Prelude.{◌≡◌, ℕ, zero, suc, ◌+◌, true, false, List, [], ◌∷◌, ◌++◌, ◌⊎◌, length, Option, Some, None}
 use Rattle.js_desc.specs.declared.ending.Ending as desc
 use Rattle.js_desc.specs.declared.ending.Ending.TheVariants as told
 use Rattle.js_world.specs.js_run.Completions as halt
@@ -9,7 +9,6 @@ use Rattle.js_world.specs.js_run.Journal.{Application, Crossing}
 use Rattle.js_world.specs.js_crossing.Newest.{newest_crossing}
 use Rattle.js_world.specs.Crossings.{Rests}
 use Rattle.js_world.specs.Worlds.{WorldView, ending_of}
-use Rattle.js_world.specs.js_crossing.declared.ending.Ending.{Ending}
 use Rattle.js_world.specs.js_crossing.declared.ending.Ending.TheVariants as ending
 use Rattle.js_world.specs.js_crossing.declared.ending.Turn.{Turn}
 use Rattle.js_world.specs.js_crossing.declared.ending.Turn.TheVariants as turn

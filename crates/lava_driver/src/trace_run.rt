@@ -143,7 +143,7 @@ fn run_traced<F: Folder, I: Source, O: Sink, E: Sink, C: Clock>(
     clock: &mut C,
 ) -> Result<Ran, OutOfMemory>
     requires { world.now.machine.frames ≡ [] }
-    ensures { (parties : List (List ℕ)) → tracer.old ≡ trace_start parties →
+    ensures traced { (parties : List (List ℕ)) → tracer.old ≡ trace_start parties →
         let before = host_world (F.Folder.stand folder.old) (I.Source.stand input.old)
         (O.Sink.stand out.old) (E.Sink.stand err.old) (C.Clock.stand clock.old) in
         let after = host_world (F.Folder.stand folder.new) (I.Source.stand input.new)

@@ -1,7 +1,6 @@
 use Rattle.std.proofs.Common.{subst}
 use Rattle.lava_host.specs.Hosts.{host_world}
 use Rattle.lava_driver.specs.Traces.{HasTracedTo}
-use Rattle.lava_driver.proofs.Tracing.{traced_further}
 use Rattle.lava_driver.proofs.trace_run.go_further.Goals as goal
 
 pub returns-in-Asks : goal.returns-in-Asks
