@@ -55,6 +55,12 @@ pub enum NumberFor {
     Object { me: Ref, next: ExoticNext },
     /// The decision of a proxy.
     Proxy { next: ProxyNext },
+    /// `fromUnits`, with the units that are there and its items; an item becomes a number, behind which this one stands.
+    Units {
+        units: List<u16>,
+        items: List<Value>,
+        next: usize,
+    },
 }
 
 impl NumberFor {

@@ -1,0 +1,111 @@
+-- The items of `fromUnits` become units.
+use Rattle.std.proofs.Common.{◌≡◌, ℕ, zero, suc, ◌+◌, ◌<◌, ◌≤◌, Bool, true, false, List, [], ◌∷◌, ◌++◌, length, drop, get_or, Option, Some, None, refl, sym, ap, ◌∙◌, subst, arith, pos, Result, Ok, Err, IfOk}
+use Rattle.std.specs.Prelude.{ℤ}
+use Rattle.lava_base.specs.declared.ids.MadeSymbol.{MadeSymbol}
+use Rattle.lava_base.specs.declared.ids.Ref.{Ref}
+use Rattle.js_text.specs.Naming.{Naming, naming_of}
+use Rattle.js_text.specs.declared.value.Value.{Value}
+use Rattle.js_text.specs.declared.value.Value.TheVariants as value
+use Rattle.js_machine.specs.js_conversions.Primitives as primitives
+use Rattle.js_machine.specs.js_conversions.Primitives.{ReadsNumbers}
+use Rattle.js_machine.specs.js_run.Acts.{Act}
+use Rattle.js_machine.specs.js_run.Asking.{waits_for}
+use Rattle.js_machine.specs.js_run.Conversions as conversions
+use Rattle.js_machine.specs.js_run.Natives.{gives_units, unit_of_number}
+use Rattle.js_machine.specs.js_run.Parties.{Party, Shared}
+use Rattle.js_machine.specs.js_run.Runs.{answered}
+use Rattle.js_machine.specs.Steps.{LeadsTo, settles}
+use Rattle.js_machine.specs.Views.{View, fitting, party_of}
+use Rattle.js_machine.specs.declared.frame.Mode.{Mode}
+use Rattle.js_machine_natives.specs.Units.{goes_after, item_of_conversion, item_read, read_on, units_read}
+use Rattle.js_machine_natives.specs.declared.units.ItemRead.{ItemRead}
+use Rattle.js_machine_natives.specs.declared.units.ItemRead.TheVariants as item
+use Rattle.js_machine_natives.specs.declared.units.Reading.{Reading}
+use Rattle.js_machine_natives.specs.declared.units.Reading.TheVariants as reading
+
+abbrev V : Type 0
+V = Value Ref MadeSymbol
+
+-- LISTS
+
+behind : (xs : List V) (n : ℕ) (x : V) (rest : List V) → drop n xs ≡ x ∷ rest → drop (suc n) xs ≡ rest
+behind [] zero x rest e = cc
+behind [] (suc n) x rest e = cc
+behind (y ∷ ys) zero x rest e = cc
+behind (y ∷ ys) (suc n) x rest e = behind ys n x rest e
+
+first : (i : ℕ) (vs : List V) (d : V) → i < length vs → drop i vs ≡ get_or vs i d ∷ drop (suc i) vs
+first i [] d l = absurd (omega (arith, l))
+first zero (v ∷ vs) d l = refl
+first (suc i) (v ∷ vs) d l = first i vs d (omega (arith, l))
+
+none : (i : ℕ) (vs : List V) → length vs ≤ i → drop i vs ≡ []
+none zero [] l = refl
+none (suc i) [] l = refl
+none zero (v ∷ vs) l = absurd (omega (arith, l))
+none (suc i) (v ∷ vs) l = none i vs (omega (arith, l))
+
+-- WHAT IS GIVEN
+
+module _ (names : Naming Ref MadeSymbol) (s : Shared) (p : Party Ref MadeSymbol) (items : List V) where
+  abbrev after : Reading × List ℕ → Act Ref MadeSymbol
+  after x = goes_after names s p items x
+
+  -- what is done with the items that are left is what is done after they have been read
+  pub units_so : (vs : List V) (n : ℕ) (us : List ℕ) → drop n items ≡ vs → gives_units names s vs us p ≡ after (units_read s.number_of vs n us)
+  units_so [] n us e = refl
+  units_so (value.Undefined ∷ vs) n us e = refl
+  units_so (value.Null ∷ vs) n us e = units_so vs (suc n) (us ++ unit_of_number (pos 0) ∷ []) (behind items n value.Null vs e)
+  units_so (value.Bool true ∷ vs) n us e = units_so vs (suc n) (us ++ unit_of_number (pos 1) ∷ []) (behind items n (value.Bool true) vs e)
+  units_so (value.Bool false ∷ vs) n us e = units_so vs (suc n) (us ++ unit_of_number (pos 0) ∷ []) (behind items n (value.Bool false) vs e)
+  units_so (value.Int i ∷ vs) n us e = units_so vs (suc n) (us ++ unit_of_number i ∷ []) (behind items n (value.Int i) vs e)
+  units_so (value.Text t ∷ vs) n us e = read_so (s.number_of t) (λ i. units_so vs (suc n) (us ++ unit_of_number i ∷ []) (behind items n (value.Text t) vs e))
+    where
+      read_so : (o : Option ℤ) → ((i : ℤ) → gives_units names s vs (us ++ unit_of_number i ∷ []) p ≡ after (units_read s.number_of vs (suc n) (us ++ unit_of_number i ∷ [])))
+          → conversions.number_read names s (waits_for names) o p (λ i q. gives_units names s vs (us ++ unit_of_number i ∷ []) q)
+          ≡ after (read_on (item_of_conversion (primitives.number_read o)) us (λ u. units_read s.number_of vs (suc n) (us ++ u ∷ [])))
+      read_so None further = refl
+      read_so (Some i) further = further i
+  units_so (value.Symbol k ∷ vs) n us e = refl
+  units_so (value.Ref r ∷ vs) n us e =
+      ap (λ ws. conversions.to_number names s (waits_for names) (value.Ref r) p (λ i q. gives_units names s ws (us ++ unit_of_number i ∷ []) q)) (sym (behind items n (value.Ref r) vs e))
+
+pub goes_on : {E : Type 0} (r : Result Mode E) (items : List V) (n : ℕ) (us more : List ℕ) (d : Reading) (old new : View)
+    → ((read : List ℕ → Option ℤ) → ReadsNumbers read → (d, more) ≡ units_read read (drop n items) n us)
+    → IfOk r (LeadsTo (λ a. goes_after (naming_of old.me) a.shared (party_of a old) items (d, more)) old new)
+    → IfOk r (LeadsTo (λ a. gives_units (naming_of old.me) a.shared (drop n items) us (party_of a old)) old new)
+goes_on (Ok m) items n us more d old new e h =
+    record {
+      leads = λ a. (
+          let b = fitting old a in
+          let names = naming_of old.me in
+          h.leads a
+          ∙ ap (λ act. settles b old old.values (answered names b.env act))
+          (ap (λ x. goes_after names b.shared (party_of b old) items x) (e b.shared.number_of b.numbers) ∙ sym (units_so names b.shared (party_of b old) items (drop n items) n us refl)));
+      keeps = h.keeps;
+    }
+goes_on (Err x) items n us more d old new e h = tt
+
+-- READING
+
+module _ (read : List ℕ → Option ℤ) (items : List V) where
+  pub unit_next : (from at : ℕ) (v : V) (old us more : List ℕ) (x : ItemRead) (u : ℕ) → at < length items → v ≡ get_or items at v
+      → units_read read (drop from items) from old ≡ units_read read (drop at items) at us → x ≡ item_read read (suc at) v → x ≡ item.Unit u → more ≡ us ++ u ∷ []
+      → units_read read (drop from items) from old ≡ units_read read (drop (suc at) items) (suc at) more
+  unit_next from at v old us more x u l e g s t m =
+      g ∙ ap (λ ys. units_read read ys at us) (first at items v l)
+      ∙ ap (λ y. read_on (item_read read (suc at) y) us (λ k. units_read read (drop (suc at) items) (suc at) (us ++ k ∷ []))) (sym e)
+      ∙ ap (λ y. read_on y us (λ k. units_read read (drop (suc at) items) (suc at) (us ++ k ∷ []))) (sym s ∙ t)
+      ∙ ap (λ ks. units_read read (drop (suc at) items) (suc at) ks) (sym m)
+
+  pub unit_stops : (from at : ℕ) (v : V) (old us : List ℕ) (x : ItemRead) (d : Reading) → at < length items → v ≡ get_or items at v
+      → units_read read (drop from items) from old ≡ units_read read (drop at items) at us → x ≡ item_read read (suc at) v → x ≡ item.Stop d
+      → (d, us) ≡ units_read read (drop from items) from old
+  unit_stops from at v old us x d l e g s t =
+      sym (g ∙ ap (λ ys. units_read read ys at us) (first at items v l)
+      ∙ ap (λ y. read_on (item_read read (suc at) y) us (λ k. units_read read (drop (suc at) items) (suc at) (us ++ k ∷ []))) (sym e)
+      ∙ ap (λ y. read_on y us (λ k. units_read read (drop (suc at) items) (suc at) (us ++ k ∷ []))) (sym s ∙ t))
+
+  pub units_end : (from at : ℕ) (old us : List ℕ) → length items ≤ at → units_read read (drop from items) from old ≡ units_read read (drop at items) at us
+      → (reading.Done, us) ≡ units_read read (drop from items) from old
+  units_end from at old us l g = sym (g ∙ ap (λ ys. units_read read ys at us) (none at items l))
