@@ -7,13 +7,14 @@ use Rattle.js_text.specs.Naming.{Naming, naming_of}
 use Rattle.js_text.specs.declared.value.Value.{Value}
 use Rattle.js_text.specs.declared.value.Value.TheVariants as value
 use Rattle.js_machine.specs.js_conversions.Primitives as primitives
-use Rattle.js_machine.specs.js_conversions.Primitives.{ReadsNumbers}
+use Rattle.js_machine.specs.js_conversions.Primitives.{Conversion, ReadsNumbers, to_number}
 use Rattle.js_machine.specs.js_run.Acts.{Act}
 use Rattle.js_machine.specs.js_run.Asking.{waits_for}
 use Rattle.js_machine.specs.js_run.Conversions as conversions
 use Rattle.js_machine.specs.js_run.Natives.{gives_units, unit_of_number}
 use Rattle.js_machine.specs.js_run.Parties.{Party, Shared}
 use Rattle.js_machine.specs.js_run.Runs.{answered}
+use Rattle.js_machine.specs.Decisions.{object_of_value}
 use Rattle.js_machine.specs.Steps.{LeadsTo, settles}
 use Rattle.js_machine.specs.Views.{View, fitting, party_of}
 use Rattle.js_machine.specs.declared.frame.Mode.{Mode}
@@ -38,12 +39,6 @@ first : (i : ℕ) (vs : List V) (d : V) → i < length vs → drop i vs ≡ get_
 first i [] d l = absurd (omega (arith, l))
 first zero (v ∷ vs) d l = refl
 first (suc i) (v ∷ vs) d l = first i vs d (omega (arith, l))
-
-none : (i : ℕ) (vs : List V) → length vs ≤ i → drop i vs ≡ []
-none zero [] l = refl
-none (suc i) [] l = refl
-none zero (v ∷ vs) l = absurd (omega (arith, l))
-none (suc i) (v ∷ vs) l = none i vs (omega (arith, l))
 
 -- WHAT IS GIVEN
 
@@ -88,24 +83,31 @@ goes_on (Err x) items n us more d old new e h = tt
 
 -- READING
 
+-- what is no object is converted
+pub item_other : (read : List ℕ → Option ℤ) (n : ℕ) (v : V) (x : ItemRead) (d : Conversion Ref MadeSymbol) (o : Option Ref) → o ≡ object_of_value v → o ≡ None → d ≡ to_number read v → x ≡ item_of_conversion d
+    → x ≡ item_read read n v
+item_other read n (value.Ref r) x d o e f g h = cc
+item_other read n v x d o e f g h = h ∙ ap item_of_conversion g
+
 module _ (read : List ℕ → Option ℤ) (items : List V) where
-  pub unit_next : (from at : ℕ) (v : V) (old us more : List ℕ) (x : ItemRead) (u : ℕ) → at < length items → v ≡ get_or items at v
-      → units_read read (drop from items) from old ≡ units_read read (drop at items) at us → x ≡ item_read read (suc at) v → x ≡ item.Unit u → more ≡ us ++ u ∷ []
-      → units_read read (drop from items) from old ≡ units_read read (drop (suc at) items) (suc at) more
-  unit_next from at v old us more x u l e g s t m =
-      g ∙ ap (λ ys. units_read read ys at us) (first at items v l)
-      ∙ ap (λ y. read_on (item_read read (suc at) y) us (λ k. units_read read (drop (suc at) items) (suc at) (us ++ k ∷ []))) (sym e)
-      ∙ ap (λ y. read_on y us (λ k. units_read read (drop (suc at) items) (suc at) (us ++ k ∷ []))) (sym s ∙ t)
-      ∙ ap (λ ks. units_read read (drop (suc at) items) (suc at) ks) (sym m)
+  -- the items from a place on, where the first of them is known
+  here : (at next : ℕ) (v : V) (us : List ℕ) → at < length items → v ≡ get_or items at v → next ≡ suc at
+      → units_read read (drop at items) at us ≡ read_on (item_read read next v) us (λ u. units_read read (drop next items) next (us ++ u ∷ []))
+  here at next v us l e n =
+      ap (λ ys. units_read read ys at us) (first at items v l)
+      ∙ ap (λ y. read_on (item_read read (suc at) y) us (λ u. units_read read (drop (suc at) items) (suc at) (us ++ u ∷ []))) (sym e)
+      ∙ ap (λ k. read_on (item_read read k v) us (λ u. units_read read (drop k items) k (us ++ u ∷ []))) (sym n)
 
-  pub unit_stops : (from at : ℕ) (v : V) (old us : List ℕ) (x : ItemRead) (d : Reading) → at < length items → v ≡ get_or items at v
-      → units_read read (drop from items) from old ≡ units_read read (drop at items) at us → x ≡ item_read read (suc at) v → x ≡ item.Stop d
+  pub unit_next : (from at next : ℕ) (v : V) (old us more : List ℕ) (x : ItemRead) (u : ℕ) → next ≡ suc at → at < length items → v ≡ get_or items at v
+      → units_read read (drop from items) from old ≡ units_read read (drop at items) at us → x ≡ item_read read next v → x ≡ item.Unit u → more ≡ us ++ u ∷ []
+      → units_read read (drop from items) from old ≡ units_read read (drop next items) next more
+  unit_next from at next v old us more x u n l e g s t m =
+      g ∙ here at next v us l e n
+      ∙ ap (λ y. read_on y us (λ k. units_read read (drop next items) next (us ++ k ∷ []))) (sym s ∙ t)
+      ∙ ap (λ ks. units_read read (drop next items) next ks) (sym m)
+
+  pub unit_stops : (from at next : ℕ) (v : V) (old us : List ℕ) (x : ItemRead) (d : Reading) → next ≡ suc at → at < length items → v ≡ get_or items at v
+      → units_read read (drop from items) from old ≡ units_read read (drop at items) at us → x ≡ item_read read next v → x ≡ item.Stop d
       → (d, us) ≡ units_read read (drop from items) from old
-  unit_stops from at v old us x d l e g s t =
-      sym (g ∙ ap (λ ys. units_read read ys at us) (first at items v l)
-      ∙ ap (λ y. read_on (item_read read (suc at) y) us (λ k. units_read read (drop (suc at) items) (suc at) (us ++ k ∷ []))) (sym e)
-      ∙ ap (λ y. read_on y us (λ k. units_read read (drop (suc at) items) (suc at) (us ++ k ∷ []))) (sym s ∙ t))
-
-  pub units_end : (from at : ℕ) (old us : List ℕ) → length items ≤ at → units_read read (drop from items) from old ≡ units_read read (drop at items) at us
-      → (reading.Done, us) ≡ units_read read (drop from items) from old
-  units_end from at old us l g = sym (g ∙ ap (λ ys. units_read read ys at us) (none at items l))
+  unit_stops from at next v old us x d n l e g s t =
+      sym (g ∙ here at next v us l e n ∙ ap (λ y. read_on y us (λ k. units_read read (drop next items) next (us ++ k ∷ []))) (sym s ∙ t))
