@@ -187,8 +187,9 @@ pub fn act_units(machine: &mut Machine, count: u32) -> Result<Mode, OutOfMemory>
         (party_of a machine.old)) rest machine.new) }
 {
     let args = machine.take_arguments(count)?;
-    match args.as_slice() {
-        [list] => act_on_list(machine, list),
-        _ => machine.fault(FaultText::WrongKind),
+    let given = args.len();
+    if given == 1 {
+        return act_on_list(machine, args.item(0));
     }
+    machine.fault(FaultText::WrongKind)
 }
