@@ -28,7 +28,6 @@ use Rattle.js_desc.specs.declared.ask.Ask.TheVariants as ask
 use Rattle.js_desc.specs.declared.fault.FaultText.TheVariants as fault
 use Rattle.js_machine.specs.js_conversions.Conversions.{method_name}
 use Rattle.js_machine.specs.js_conversions.declared.next.Wanted.TheVariants as wanted
-use Rattle.js_machine.specs.js_operations.Lists.{list_items}
 use Rattle.js_machine.specs.js_run.Faults.{faults}
 use Rattle.js_machine.specs.js_run.NativeTurns.{given_items}
 use Rattle.js_machine.specs.Wanting.{goes_with}
@@ -59,7 +58,7 @@ module _ (names : Naming Ref MadeSymbol) (s : Shared) (p : Party Ref MadeSymbol)
   after x = goes_after names s p items x
 
   -- what is done with the items that are left is what is done after they have been read
-  pub units_so : (vs : List V) (n : ℕ) (us : List ℕ) → drop n items ≡ vs → gives_units names s vs us p ≡ after (units_read s.number_of vs n us)
+  units_so : (vs : List V) (n : ℕ) (us : List ℕ) → drop n items ≡ vs → gives_units names s vs us p ≡ after (units_read s.number_of vs n us)
   units_so [] n us e = refl
   units_so (value.Undefined ∷ vs) n us e = refl
   units_so (value.Null ∷ vs) n us e = units_so vs (suc n) (us ++ unit_of_number (pos 0) ∷ []) (behind items n value.Null vs e)
@@ -94,10 +93,10 @@ goes_on (Ok m) seen items n us more d old new s e h =
 goes_on (Err x) seen items n us more d old new s e h = tt
 
 -- what is done after items have been read, by how far they have been
-abbrev pub After : List V → Reading × List ℕ → View → View → Mode → Type 0
+abbrev After : List V → Reading × List ℕ → View → View → Mode → Type 0
 After items x old new m = LeadsTo (λ a. goes_after (naming_of old.me) a.shared (party_of a old) items x) old new m
 
-pub after_by : {E : Type 0} (r : Result Mode E) (items : List V) (us : List ℕ) (d e : Reading) (old new : View) → d ≡ e → IfOk r (After items (e, us) old new) → IfOk r (After items (d, us) old new)
+after_by : {E : Type 0} (r : Result Mode E) (items : List V) (us : List ℕ) (d e : Reading) (old new : View) → d ≡ e → IfOk r (After items (e, us) old new) → IfOk r (After items (d, us) old new)
 after_by r items us d e old new f h = subst (λ x. IfOk r (After items (x, us) old new)) (sym f) h
 
 begun : {E : Type 0} (r : Result Mode E) (items : List V) (us : List ℕ) (o : Ref) (n : ℕ) (old new : View) → IfOk r (Begins (number_for.Units us items n) (value.Ref o) old new) → IfOk r (After items (reading.Object o n, us) old new)
@@ -119,29 +118,10 @@ unfolding goes_with
 came r items us more n i u old new q e s h =
     subst (λ ks. IfOk r (LeadsTo (λ a. gives_units (naming_of old.me) a.shared (drop n items) ks (party_of a old)) old new)) (s ∙ ap (λ k. us ++ k ∷ []) (e ∙ ap unit_of_number q)) h
 
--- THE LIST
-
-abbrev Listed : Option (List V) → View → View → Mode → Type 0
-Listed o old new m = LeadsTo (λ a. units_of (naming_of old.me) a.shared o (party_of a old)) old new m
+-- THE OPERANDS
 
 abbrev pub Given : V → View → View → Mode → Type 0
 Given v old new m = LeadsTo (λ a. units_of (naming_of old.me) a.shared (given_items (naming_of old.me) a.shared (party_of a old) v) (party_of a old)) old new m
-
-given : {E : Type 0} (r : Result Mode E) (v : V) (o q : Option (List V)) (old new : View) → o ≡ list_items (naming_of old.me) old.objects old.common v → o ≡ q → IfOk r (Listed q old new) → IfOk r (Given v old new)
-given (Ok m) v o q old new e f h =
-    let w = subst (λ x. Listed x old new m) (sym f ∙ e) h in
-    record { leads = λ a. w.leads a; keeps = w.keeps }
-given (Err x) v o q old new e f h = tt
-
-pub list_given : {E : Type 0} (r : Result Mode E) (v : V) (o : Option (List V)) (items : List V) (us : List ℕ) (old new : View) → o ≡ list_items (naming_of old.me) old.objects old.common v → o ≡ Some items → us ≡ []
-    → IfOk r (LeadsTo (λ a. gives_units (naming_of old.me) a.shared items us (party_of a old)) old new) → IfOk r (Given v old new)
-list_given r v o items us old new e f s h = given r v o (Some items) old new e f (subst (λ ks. IfOk r (LeadsTo (λ a. gives_units (naming_of old.me) a.shared items ks (party_of a old)) old new)) s h)
-
-pub list_missing : {E : Type 0} (r : Result Mode E) (v : V) (o : Option (List V)) (old new : View) → o ≡ list_items (naming_of old.me) old.objects old.common v → o ≡ None
-    → IfOk r (LeadsTo (λ a. faults (naming_of old.me) fault.CannotConvert (party_of a old)) old new) → IfOk r (Given v old new)
-list_missing r v o old new e f h = given r v o None old new e f h
-
--- THE OPERANDS
 
 abbrev rest_after : ℕ → View → View
 rest_after n w = record w { values = drop n w.values }
