@@ -1,5 +1,5 @@
 -- The numbers that decisions want, with the methods that give them.
-use Rattle.std.specs.Prelude.{ℕ, ℤ, Bool, true, false, List, [], ◌∷◌, codes}
+use Rattle.std.specs.Prelude.{ℕ, ℤ, Bool, true, false, List, [], ◌∷◌, ◌++◌, drop, codes}
 use Rattle.lava_base.specs.declared.ids.MadeSymbol.{MadeSymbol}
 use Rattle.lava_base.specs.declared.ids.Ref.{Ref}
 use Rattle.js_text.specs.Naming.{Naming}
@@ -14,6 +14,7 @@ use Rattle.js_operation.specs.js_run.Conversions.{method_called, ordinary_to_pri
 use Rattle.js_operation.specs.js_run.Decisions.{goes_on}
 use Rattle.js_operation.specs.js_run.Faults.{faults}
 use Rattle.js_operation.specs.js_run.Following.{halt_of}
+use Rattle.js_operation.specs.js_run.Natives.{gives_units, unit_of_number}
 use Rattle.js_operation.specs.js_run.Parties.{Party, Shared}
 use Rattle.js_operation.specs.js_run.Proxies.{proxy_has_number}
 use Rattle.js_machine.specs.declared.asked.NumberFor.{NumberFor}
@@ -30,6 +31,7 @@ module _ (names : Naming Ref MadeSymbol) (shared : Shared) where
   unfoldable pub goes_with : NumberFor → ℤ → Party Ref MadeSymbol → Act Ref MadeSymbol
   goes_with (number_for.Object me n) = λ i p. goes_on names shared me n (reply.Value (value.Int i)) p
   goes_with (number_for.Proxy n) = λ i p. proxy_has_number names shared n i p
+  goes_with (number_for.Units us vs n) = λ i p. gives_units names shared (drop n vs) (us ++ unit_of_number i ∷ []) p
 
   -- and with what a primitive value gives
   abbrev pub goes_computed : NumberFor → Computed ℤ → Party Ref MadeSymbol → Act Ref MadeSymbol

@@ -52,9 +52,20 @@ pub struct Construction {
 #[derive(Drop)]
 pub enum NumberFor {
     /// The decision of an object.
-    Object { me: Ref, next: ExoticNext },
+    Object {
+        me: Ref,
+        next: ExoticNext,
+    },
     /// The decision of a proxy.
-    Proxy { next: ProxyNext },
+    Proxy {
+        next: ProxyNext,
+    },
+    /// `fromUnits`, with the units that are there and its items; an item becomes a number, behind which this one stands.
+    Units {
+        units: List<u16>,
+        items: List<Value>,
+        next: usize,
+    },
 }
 
 impl NumberFor {

@@ -1,6 +1,7 @@
 pub mod Native_deeds
 pub mod Paid_laws
 pub mod Proxied_laws
+pub mod Unit_laws
 pub mod Wanted_numbers
 pub mod Collected
 pub mod Slot_asked

@@ -19,6 +19,7 @@ ghost use Rattle.js_machine.specs.declared.frame.Mode.TheVariants as mode_kind;
 
 use crate::kinds::act_kind;
 use crate::slot_asks::run_slot_native;
+use crate::units::act_units;
 use js_desc::ask::Ask;
 use js_desc::decision::Decision;
 use js_desc::fault::FaultText;
@@ -186,6 +187,7 @@ fn act_native(machine: &mut Machine, which: Native, count: u32) -> Result<Mode, 
 {
     match which {
         Native::ClassOf => act_kind(machine, count),
+        Native::FromUnits => act_units(machine, count),
         _ => act_decided(machine, which, count),
     }
 }

@@ -18,6 +18,7 @@ use js_machine::js_operation::operation::Computed;
 use js_machine::machine::Machine;
 use js_machine_natives::proxies::proxy_has_number;
 use js_machine_natives::to_number::{ask_number_method, try_number_rest};
+use js_machine_natives::units::unit_comes;
 use js_machine_operators::js_operators::numbers::number_of;
 use js_text::value::Value;
 use lava_base::ids::Ref;
@@ -38,6 +39,9 @@ fn go_with_number(
             resume_object(machine, me, next, Reply::Value(Value::Int(number)))
         }
         NumberFor::Proxy { next } => proxy_has_number(machine, next, number),
+        NumberFor::Units { units, items, next } => {
+            unit_comes(machine, units, items, next, number)
+        }
     }
 }
 

@@ -1,30 +1,24 @@
-// The natives that read the items of an array: `fromUnits` and `sortTexts`.
+// The natives that read the items of an array: `sortTexts`; `fromUnits` is not decided here.
 
-ghost use Rattle.std.specs.Prelude.{◌≡◌, [], ℕ, ℤ, List, Option, IfOk, false, map, pos};
+ghost use Rattle.std.specs.Prelude.{◌≡◌, IfOk, false, map, pos};
 ghost use Rattle.js_text.specs.Naming.{naming_of};
 ghost use Rattle.js_text.specs.declared.value.Value.TheVariants as value_kind;
-ghost use Rattle.js_run_laws.specs.js_conversions.Primitives.{ReadsNumbers};
-ghost use Rattle.js_native.specs.NativeDecisions.{given_text};
 ghost use Rattle.js_native.specs.TextNatives.{are_texts, is_text, text_of_value};
 ghost use Rattle.js_run_laws.specs.js_operations.Lists.{list_items};
 ghost use Rattle.js_run_laws.specs.js_run.Sorting.{sorted_places};
-ghost use Rattle.js_natives.specs.Items.{calls_items, calls_units, from_items, has_object, is_object, item_step, items_have_object, places_made, reads_items, sort_native, sorted_items, unit_of_conversion, unit_of_number, unit_read, units_given, units_native};
-ghost use Rattle.js_native_steps.specs.Steps.{of_text};
+ghost use Rattle.js_natives.specs.Items.{calls_items, item_step, places_made, reads_items, sort_native, sorted_items};
 
-use js_desc::decision::{Decision, EndKind};
+use js_desc::decision::Decision;
 use js_desc::fault::FaultText;
 use js_desc::reply::Reply;
 use js_native::sorts::sorted_places;
 use js_native_steps::arrays::add_array;
 use js_native_steps::next::NativeNext;
-use js_run_laws::js_conversions::next::Next as ConversionNext;
-use js_run_laws::js_conversions::primitives::to_number;
 use js_run_laws::js_operations::lists::list_items;
 use js_run_laws::places_are_sorted;
 use js_store::flat::FlatStore;
 use js_store::frozen::FrozenStore;
 use js_store::store::Store;
-use js_text::fault::TextFault;
 use js_text::native::Native;
 use js_text::text::{Text, from_units};
 use js_text::value::Value;
@@ -33,114 +27,11 @@ use lava_base::list::List;
 use lava_base::memory::OutOfMemory;
 use std::alloc::Global;
 
-/// A value as a unit of a text, or what is decided where it is none.
-#[derive(Drop)]
-pub enum UnitRead {
-    Read(u16),
-    Stop(Decision<NativeNext>),
-}
-
 /// Whether a native reads the items of an array, and works on them: `fromUnits` and `sortTexts`.
 pub(crate) fn reads_items(which: Native) -> bool
     ensures { result ≡ reads_items which }
 {
     matches!(which, Native::FromUnits | Native::SortTexts)
-}
-
-/// Whether a value is an object.
-fn is_object(value: &Value) -> bool
-    ensures { result ≡ is_object value.now }
-{
-    match value {
-        Value::Ref(_) => true,
-        _ => false,
-    }
-}
-
-/// Whether one of the values is an object.
-#[tactic(auto, using(crate::proofs::Item_lists::object_step, crate::proofs::Item_lists::object_end))]
-fn has_object(values: &[Value]) -> bool
-    ensures { result ≡ has_object values.now }
-{
-    for value in values {
-        if is_object(value) {
-            return true;
-        }
-    }
-    false
-}
-
-/// A number as a unit of a text (ECMA-262, ToUint16).
-fn unit_of_number(number: i64) -> u16
-    ensures { result ≡ unit_of_number number }
-{
-    number.rem_euclid(0x1_0000) as u16
-}
-
-/// The number of a conversion as a unit.
-fn unit_of_conversion(decision: Decision<ConversionNext>) -> UnitRead
-    ensures { result ≡ unit_of_conversion decision }
-{
-    match decision {
-        Decision::Done(Reply::Value(Value::Int(number))) => UnitRead::Read(unit_of_number(number)),
-        Decision::Fault(text) => UnitRead::Stop(Decision::Fault(text)),
-        Decision::End(kind) => UnitRead::Stop(Decision::End(kind)),
-        _ => UnitRead::Stop(Decision::Fault(FaultText::WrongKind)),
-    }
-}
-
-/// A value as a unit, or what is decided where it is none.
-fn unit_read(alloc: Global, value: &Value) -> Result<UnitRead, OutOfMemory>
-    ensures { (read : List ℕ → Option ℤ) → ReadsNumbers read
-        → IfOk result (λ u. u ≡ unit_read read value.now) }
-{
-    Ok(unit_of_conversion(to_number(alloc, value)?))
-}
-
-/// The text of these units is given.
-fn give_units(alloc: Global, units: &[u16]) -> Result<Decision<NativeNext>, OutOfMemory>
-    ensures { IfOk result (λ d. d ≡ of_text (given_text units.now)) }
-{
-    match from_units(alloc, units) {
-        Ok(text) => Ok(Decision::Done(Reply::Value(Value::Text(text)))),
-        Err(TextFault::TooLong) => Ok(Decision::End(EndKind::Text)),
-        Err(_) => Err(OutOfMemory),
-    }
-}
-
-/// The text whose units the values are, each as a number.
-fn units_given(alloc: Global, values: &[Value]) -> Result<Decision<NativeNext>, OutOfMemory>
-    ensures { (read : List ℕ → Option ℤ) → ReadsNumbers read
-        → IfOk result (λ d. d ≡ units_given read values.now []) }
-{
-    let mut units = Vec::new(alloc);
-    for value in values {
-        match unit_read(alloc, value)? {
-            UnitRead::Read(unit) => units.push(unit)?,
-            UnitRead::Stop(decision) => return Ok(decision),
-        }
-    }
-    give_units(alloc, &units)
-}
-
-/// `fromUnits` with the items of its operand. Want of memory is answered too where one is an object.
-fn from_items(
-    alloc: Global,
-    items: Option<List<Value>>,
-) -> Result<Decision<NativeNext>, OutOfMemory>
-    ensures given { (read : List ℕ → Option ℤ) → ReadsNumbers read
-        → IfOk result (λ d. d ≡ from_items read items) }
-    ensures plain { IfOk result (λ d. items_have_object items ≡ false) }
-{
-    match items {
-        None => Ok(Decision::Fault(FaultText::CannotConvert)),
-        Some(items) => {
-            if has_object(items.as_slice()) {
-                return Err(OutOfMemory);
-            }
-            units_given(alloc, items.as_slice())
-        }
-    }
 }
 
 /// Whether a value is a text.
@@ -253,45 +144,6 @@ fn sorted_items(
     places_made(alloc, store, &places)
 }
 
-/// `fromUnits` of one operand. Want of memory is answered too where one of its items is an object.
-fn units_of_list(
-    alloc: Global,
-    store: &FlatStore,
-    common: &FrozenStore,
-    list: &Value,
-) -> Result<Decision<NativeNext>, OutOfMemory>
-    ensures given { (read : List ℕ → Option ℤ) → ReadsNumbers read
-        → let names = naming_of store.now.party.0 in
-        let items = list_items names store.now.objects common.now list.now in
-        IfOk result (λ d. d ≡ from_items read items) }
-    ensures plain { let names = naming_of store.now.party.0 in
-        let items = list_items names store.now.objects common.now list.now in
-        IfOk result (λ d. items_have_object items ≡ false) }
-{
-    let items = list_items(alloc, store, common, list)?;
-    from_items(alloc, items)
-}
-
-/// `fromUnits` (ECMA-262, String.fromCharCode). Want of memory is answered too where an item is an object.
-fn units_native(
-    alloc: Global,
-    store: &FlatStore,
-    common: &FrozenStore,
-    args: &[Value],
-) -> Result<Decision<NativeNext>, OutOfMemory>
-    ensures given { (read : List ℕ → Option ℤ) → ReadsNumbers read
-        → let names = naming_of store.now.party.0 in
-        IfOk result (λ d. d ≡ units_native names store.now.objects common.now read args.now) }
-    ensures plain { let names = naming_of store.now.party.0 in
-        let calls = calls_units names store.now.objects common.now args.now in
-        IfOk result (λ d. calls ≡ false) }
-{
-    match args {
-        [list] => units_of_list(alloc, store, common, list),
-        _ => Ok(Decision::Fault(FaultText::WrongKind)),
-    }
-}
-
 /// `sortTexts` of one operand.
 fn sort_list(
     alloc: Global,
@@ -326,7 +178,7 @@ fn sort_native(
     }
 }
 
-/// What `fromUnits` and `sortTexts` decide. Want of memory is answered too where an item of `fromUnits` is an object.
+/// What `sortTexts` decides. Want of memory is answered for `fromUnits`, which is not decided here.
 pub(crate) fn item_native(
     alloc: Global,
     store: &mut FlatStore,
@@ -334,17 +186,14 @@ pub(crate) fn item_native(
     which: Native,
     args: &[Value],
 ) -> Result<Decision<NativeNext>, OutOfMemory>
-    ensures ok { (read : List ℕ → Option ℤ) → ReadsNumbers read
-        → let names = naming_of store.old.party.0 in
-        let step = item_step names store.old.objects common.now read which args.now in
+    ensures ok { let names = naming_of store.old.party.0 in
+        let step = item_step names store.old.objects common.now which args.now in
         IfOk result (λ d. (d, store.new.objects) ≡ step) }
-    ensures plain { let names = naming_of store.old.party.0 in
-        let calls = calls_items names store.old.objects common.now which args.now in
-        IfOk result (λ d. calls ≡ false) }
+    ensures plain { IfOk result (λ d. calls_items which ≡ false) }
     ensures party { store.new.party ≡ store.old.party }
 {
     match which {
-        Native::FromUnits => units_native(alloc, store, common, args),
+        Native::FromUnits => Err(OutOfMemory),
         Native::SortTexts => sort_native(alloc, store, common, args),
         _ => Ok(Decision::Fault(FaultText::WrongKind)),
     }

@@ -12,3 +12,8 @@ returns-in-Object c = goes_by c.resume_object.result c.args.wanted (number_for.O
 pub returns-in-Proxy : goal.returns-in-Proxy
 unfolding goes_with
 returns-in-Proxy c = goes_by c.proxy_has_number.result c.args.wanted (number_for.Proxy c.in-Proxy.next) c.args.number c.args.machine.now c.proxy_has_number.new.machine (to_z-of_z w64 c.args.number c.ranges.number) c.in-Proxy.is c.proxy_has_number.ensures
+
+pub returns-in-Units : goal.returns-in-Units
+unfolding goes_with
+returns-in-Units c =
+    goes_by c.unit_comes.result c.args.wanted (number_for.Units c.in-Units.units c.in-Units.items c.in-Units.next) c.args.number c.args.machine.now c.unit_comes.new.machine (to_z-of_z w64 c.args.number c.ranges.number) c.in-Units.is c.unit_comes.ensures
