@@ -1,2 +1,4 @@
-pub mod Refusals
+pub mod End_laws
 pub mod Passing
+pub mod Refusals
+pub mod Run_laws

@@ -1,5 +1,5 @@
-// Packages and policies: for each line of the input, `KIND REST`, what comes of a folder of packages, of an application of the language, of
-// a policy or of calls of the host is printed.
+// Packages, policies and views: for each line of the input, `KIND REST`, what comes of a folder of packages, of an application of the
+// language, of a policy, of calls of the host or of a trace is printed.
 #![tactic(auto)]
 
 mod bytes;
@@ -10,6 +10,7 @@ mod packages;
 mod policies;
 mod refusals;
 mod sources;
+mod views;
 
 use crate::fault::Fault;
 use std::alloc::Global;
@@ -33,6 +34,7 @@ fn row(alloc: Global, line: &str) -> Result<String, Fault> {
         "package" => packages::row(alloc, rest),
         "source" => sources::row(alloc, rest),
         "policy" => policies::row(alloc, rest),
+        "view" => views::row(alloc, rest),
         _ => Err(Fault::Line),
     }
 }

@@ -7,6 +7,7 @@ mod world;
 
 use self::calls::{answers, answers_where_fails};
 use self::files::{long_read, merged, reaches, read, written};
+pub use self::grants::start_in;
 use self::grants::{started, trusted};
 use crate::fault::Fault;
 use policy_row::fault::PolicyFile;

@@ -3,6 +3,7 @@
 #![tactic(auto)]
 
 mod bytes;
+mod cursors;
 mod fault;
 mod grammar;
 mod literals;
@@ -41,6 +42,7 @@ fn answer(alloc: Global, line: &str) -> Result<String, Fault> {
 fn push_answer(alloc: Global, out: &mut String, kind: &str, rest: &str) -> Result<(), Fault> {
     match kind {
         "grammar" => grammar::push_row(alloc, out, rest),
+        "cursor" => cursors::push_row(alloc, out, rest),
         "reader" => readings::push_row(alloc, out, rest),
         "literal" => literals::push_row(alloc, out, rest),
         "tree" => trees::push_row(alloc, out, rest),

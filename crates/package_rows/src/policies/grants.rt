@@ -7,11 +7,16 @@ use lava_base::name::Name;
 use policy_globals::start::start_of;
 use std::alloc::Global;
 
-/// `start TEXT`: what the row `a` of a policy grants.
-pub fn started(alloc: Global, text: &str) -> Result<String, Fault> {
+/// What the row `a` of a policy grants.
+pub fn start_in(alloc: Global, text: &str) -> Result<Start, Fault> {
     let policy = policy_of(alloc, text)?;
     let package = Name::of(alloc, "a")?;
-    let start = start_of(alloc, policy.row(&package), false)?;
+    Ok(start_of(alloc, policy.row(&package), false)?)
+}
+
+/// `start TEXT`: what the row `a` of a policy grants.
+pub fn started(alloc: Global, text: &str) -> Result<String, Fault> {
+    let start = start_in(alloc, text)?;
     shown(alloc, &start)
 }
 

@@ -1,0 +1,67 @@
+// Sources and the expressions that their tokens begin with, one after the other.
+
+use crate::fault::Fault;
+use crate::refusals::push_refusal;
+use js_cursor::cursor::Cursor;
+use js_cursor::expression::{discard, expression};
+use js_fault::fault::SyntaxFault;
+use js_lexer::lexer::tokens;
+use js_lexer::spot::MAX_SOURCE;
+use js_lexer::token::Token;
+use std::alloc::{AllocError, Global};
+
+/// `cursor SOURCE`: how many tokens are left behind each expression, up to the end or a refusal, which is asked for twice.
+pub fn push_row(alloc: Global, out: &mut String, line: &str) -> Result<(), Fault> {
+    write!(out, "{line} =")?;
+    let source = line.replace(alloc, '¶', "\n")?;
+    if source.len() > MAX_SOURCE as usize {
+        return Err(Fault::TooLong);
+    }
+    match tokens(alloc, source.as_bytes()) {
+        Ok(tokens) => push_expressions(alloc, out, source.as_bytes(), tokens.as_slice())?,
+        Err(fault) => push_fault(out, &fault)?,
+    }
+    Ok(())
+}
+
+/// Reads expressions up to the end, or up to a refusal that was answered again.
+fn push_expressions(
+    alloc: Global,
+    out: &mut String,
+    source: &[u8],
+    tokens: &[Token],
+) -> Result<(), AllocError> {
+    let mut cursor = Cursor::new(alloc, tokens, source);
+    for _ in 0..tokens.len() {
+        match expression(alloc, &mut cursor) {
+            Ok(tree) => {
+                discard(tree);
+                write!(out, " {}", cursor.left().len())?;
+            }
+            Err(fault) => {
+                push_fault(out, &fault)?;
+                return push_again(alloc, out, &mut cursor);
+            }
+        }
+        if cursor.left().is_empty() {
+            return Ok(());
+        }
+    }
+    Ok(())
+}
+
+/// What is answered behind a refusal.
+fn push_again(alloc: Global, out: &mut String, cursor: &mut Cursor) -> Result<(), AllocError> {
+    match expression(alloc, cursor) {
+        Ok(tree) => {
+            discard(tree);
+            out.push_str(" ok")
+        }
+        Err(fault) => push_fault(out, &fault),
+    }
+}
+
+fn push_fault(out: &mut String, fault: &SyntaxFault) -> Result<(), AllocError> {
+    out.push_str(" ")?;
+    push_refusal(out, fault)
+}
