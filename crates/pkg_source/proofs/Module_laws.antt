@@ -22,17 +22,20 @@ use Rattle.pkg_source.specs.declared.code.ModuleCode.TheVariants as code
 
 -- ONE REFUSAL
 
+abbrev refusal : Place → SyntaxWhat → Read
+refusal p w = Refused p w
+
 no_memory : (p : Place) (w : SyntaxWhat) → At p w ≡ OutOfMemory → ⊥
 no_memory p w e = cc
 
-same_fault : (p q : Place) (w v : SyntaxWhat) → At p w ≡ At q v → Refused {ModuleCode} p (plain_reason w) ≡ Refused q (plain_reason v)
-same_fault p q w v e = let at : p ≡ q = cc in let what : w ≡ v = cc in λ j. Refused (at j) (plain_reason (what j))
+same_fault : (p q : Place) (w v : SyntaxWhat) → At p w ≡ At q v → refusal p (plain_reason w) ≡ refusal q (plain_reason v)
+same_fault p q w v e = let at : p ≡ q = cc in let what : w ≡ v = cc in λ j. refusal (at j) (plain_reason (what j))
 
-same_form : (p q : Place) (w : SyntaxWhat) (name other : List ℕ) → At p w ≡ At q (what.Unsupported other) → Refused {ModuleCode} p (plain_reason w) ≡ Refused q (plain_reason (what.Unsupported name))
+same_form : (p q : Place) (w : SyntaxWhat) (name other : List ℕ) → At p w ≡ At q (what.Unsupported other) → refusal p (plain_reason w) ≡ refusal q (plain_reason (what.Unsupported name))
 same_form p q w name other e = same_fault p q w (what.Unsupported other) e
 
 -- where a fault is told beside another one, it is this one but for the name of a form that is left out
-one_fault : (p q : Place) (w v : SyntaxWhat) → IsRefusal q v (At p w) → Refused {ModuleCode} p (plain_reason w) ≡ Refused q (plain_reason v)
+one_fault : (p q : Place) (w v : SyntaxWhat) → IsRefusal q v (At p w) → refusal p (plain_reason w) ≡ refusal q (plain_reason v)
 one_fault p q w (what.Unsupported name) h = ⊎_elim (λ k. same_form p q w name k.0 k.1) (λ e. absurd (no_memory p w e)) h
 one_fault p q w what.NotUtf8 h = ⊎_elim (same_fault p q w what.NotUtf8) (λ e. absurd (no_memory p w e)) h
 one_fault p q w what.BadToken h = ⊎_elim (same_fault p q w what.BadToken) (λ e. absurd (no_memory p w e)) h
@@ -43,8 +46,8 @@ one_fault p q w (what.Early name) h = ⊎_elim (same_fault p q w (what.Early nam
 -- the bytes of a text break at one place
 one_place : (bytes : List ℕ) (p q : Place) → IsBrokenPlace bytes p → IsBrokenPlace bytes q → p ≡ q
 one_place bytes p q a b =
-    let same : a.0 ≡ b.0 = sym (utf8_valid_len-IsValidUpTo bytes a.0 a.1.0) ∙ utf8_valid_len-IsValidUpTo bytes b.0 b.1.0 in
-    a.1.1 ∙ ap (λ n. end_place (take n bytes)) same ∙ sym b.1.1
+    let same : a.0 ≡ b.0 = sym (utf8_valid_len-IsValidUpTo bytes a.0 a.1) ∙ utf8_valid_len-IsValidUpTo bytes b.0 b.1 in
+    a.2 ∙ ap (λ n. end_place (take n bytes)) same ∙ sym b.2
 
 -- ONE MODULE
 
