@@ -220,9 +220,11 @@ catch_good b l h =
     (optional_pattern_good b (part 1 l) (part_good (suc b) 1 l h), block_good b (part 2 l) (part_good (suc b) 2 l h), (tail_good (suc b) (part 3 l) (part_good (suc b) 3 l h)).2)
 
 catch_sits : (n : ℕ) (p : Option Pattern) (l : List Stmt) → RestGood (suc n) p → Fit n (flat walk.statement l) → Sits (suc (suc n)) (CatchPart (roll-Catch (record { parameter = p; body = l })))
-catch_sits n p l x y =
-    (refl, subst (λ r. Fit (suc n) (from_option (walk.pattern false) r.parameter ++ walk.block r.body)) (sym (out-roll-Catch (record { parameter = p; body = l })))
-    (join (suc n) (from_option (walk.pattern false) p) (walk.block l) x (block_sits n l y, tt)))
+catch_sits n p l x y = (
+  refl,
+  subst (λ r. Fit (suc n) (from_option (walk.pattern false) r.parameter ++ walk.block r.body)) (sym (out-roll-Catch (record { parameter = p; body = l })))
+      (join (suc n) (from_option (walk.pattern false) p) (walk.block l) x (block_sits n l y, tt)),
+)
 
 handler_fits : (b : ℕ) (p : Option Pattern) (o : Option (List Stmt)) → RestGood (suc b) p → Fit (suc b) (from_option (flat walk.statement) o) → Fit (suc (suc (suc b))) (from_option walk.handler (handler_with p o))
 handler_fits b p None x y = tt
@@ -235,7 +237,8 @@ finalizer_fits b (Some l) y = (deeper (suc (suc b)) (BlockPart l) (block_sits (s
 pub try_good : (b : ℕ) (l : List Phrase) → AllGood (suc b) l → Good (more b) (try_statement l)
 try_good b l h =
     let t : TailGood (suc b) (tail_of (part 2 l)) = tail_good (suc b) (part 2 l) (part_good (suc b) 2 l h) in
-    deep3_statement b _ _ (stmt.outs-Try _ (block_of (part 1 l)) (handler_with (tail_of (part 2 l)).parameter (tail_of (part 2 l)).handler) (tail_of (part 2 l)).finalizer) refl
-    (deeper (suc (suc b)) (BlockPart (block_of (part 1 l))) (block_sits (suc b) (block_of (part 1 l)) (block_good b (part 1 l) (part_good (suc b) 1 l h))),
-     join (suc (suc (suc b))) (from_option walk.handler (handler_with (tail_of (part 2 l)).parameter (tail_of (part 2 l)).handler)) (from_option walk.block (tail_of (part 2 l)).finalizer)
-     (handler_fits b (tail_of (part 2 l)).parameter (tail_of (part 2 l)).handler t.0 t.1) (finalizer_fits b (tail_of (part 2 l)).finalizer t.2))
+    deep3_statement b _ _ (stmt.outs-Try _ (block_of (part 1 l)) (handler_with (tail_of (part 2 l)).parameter (tail_of (part 2 l)).handler) (tail_of (part 2 l)).finalizer) refl (
+      deeper (suc (suc b)) (BlockPart (block_of (part 1 l))) (block_sits (suc b) (block_of (part 1 l)) (block_good b (part 1 l) (part_good (suc b) 1 l h))),
+      join (suc (suc (suc b))) (from_option walk.handler (handler_with (tail_of (part 2 l)).parameter (tail_of (part 2 l)).handler)) (from_option walk.block (tail_of (part 2 l)).finalizer)
+          (handler_fits b (tail_of (part 2 l)).parameter (tail_of (part 2 l)).handler t.0 t.1) (finalizer_fits b (tail_of (part 2 l)).finalizer t.2),
+    )

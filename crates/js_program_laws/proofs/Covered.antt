@@ -103,9 +103,11 @@ module _ (assigns : Bool) (refined : Expr → Pattern) (good : (n : ℕ) (e : Ex
   fields_layer : (n : ℕ) (l : PropertyLayer) → Fit n (walk.property_at l) → All (λ f. Fit (suc n) (walk.field assigns f)) (fields_at refined l)
   fields_layer n (Property-F.Valued k e) h =
       (field_by (suc n) assigns k (element refined e) (down n (walk.key k) (front (Sits n) (walk.key k) (walk.operand e) h)) (element_good n e (back (Sits n) (walk.key k) (walk.operand e) h).0), tt)
-  fields_layer n (Property-F.Initialized i e) h =
-      (field_by (suc n) assigns (key.Named i) (with_default (pattern.Bound i) e) (key_by (suc n) _ (PropertyKey-F.Named i) (key.outs-Named i) tt)
-      (element_by (suc n) assigns (pattern.Bound i) (Some e) (bound_good n assigns i) (down n (ExpressionPart e ∷ []) h)), tt)
+  fields_layer n (Property-F.Initialized i e) h = (
+    field_by (suc n) assigns (key.Named i) (with_default (pattern.Bound i) e) (key_by (suc n) _ (PropertyKey-F.Named i) (key.outs-Named i) tt)
+        (element_by (suc n) assigns (pattern.Bound i) (Some e) (bound_good n assigns i) (down n (ExpressionPart e ∷ []) h)),
+    tt,
+  )
   fields_layer n _ h = tt
 
   rest_property_layer : (n : ℕ) (o : Option Pattern) (l : PropertyLayer) → Fit n (walk.property_at l) → Fit (suc n) (from_option (walk.pattern assigns) o) → Fit (suc n) (from_option (walk.pattern assigns) (with_rest_property_at o l))

@@ -207,12 +207,13 @@ class_sits : (n : ℕ) (l : List Phrase) → AllGood n l → Sits (suc n) (Class
 class_sits n l h =
     let all : All (MemberGood n) (members_of (behind 3 l)) = made (Good n) (MemberGood n) member_of (behind 3 l) (listed_member n) (behind_good n 3 l h) in
     subst (λ r. (member_kinds r.members ≡ true) × Fit n (from_option walk.operand r.heritage ++ flat (walk.member (is_some r.heritage)) r.members))
-    (sym (out-roll-Class (record { place = (token_at 0 l).start; name = optional_name_of (part 1 l); heritage = optional_expression_of (part 2 l); members = members_of (behind 3 l) })))
-    (kinds n (members_of (behind 3 l)) all,
-     join n (from_option walk.operand (optional_expression_of (part 2 l))) (flat (walk.member (is_some (optional_expression_of (part 2 l)))) (members_of (behind 3 l)))
-     (optional_good n (part 2 l) (part_good n 2 l h))
-     (spread n (walk.member (is_some (optional_expression_of (part 2 l)))) (members_of (behind 3 l))
-     (each (MemberGood n) (λ m. Fit n (walk.member (is_some (optional_expression_of (part 2 l))) m)) (members_of (behind 3 l)) (member_fits n (is_some (optional_expression_of (part 2 l)))) all)))
+    (sym (out-roll-Class (record { place = (token_at 0 l).start; name = optional_name_of (part 1 l); heritage = optional_expression_of (part 2 l); members = members_of (behind 3 l) }))) (
+      kinds n (members_of (behind 3 l)) all,
+      join n (from_option walk.operand (optional_expression_of (part 2 l))) (flat (walk.member (is_some (optional_expression_of (part 2 l)))) (members_of (behind 3 l)))
+          (optional_good n (part 2 l) (part_good n 2 l h))
+          (spread n (walk.member (is_some (optional_expression_of (part 2 l)))) (members_of (behind 3 l))
+          (each (MemberGood n) (λ m. Fit n (walk.member (is_some (optional_expression_of (part 2 l))) m)) (members_of (behind 3 l)) (member_fits n (is_some (optional_expression_of (part 2 l)))) all)),
+    )
 
 pub class_expression_good : (b : ℕ) (l : List Phrase) → AllGood (suc b) l → Good (more b) (class_expression l)
 class_expression_good b l h = deep2 b _ _ (expr.outs-Class (class_definition l)) refl (class_sits (suc b) l h, tt)

@@ -1,9 +1,12 @@
 -- The template of a module whose source is JSON is a valid one.
 use Rattle.std.proofs.Common.{◌≡◌, ◌&&◌, ℕ, true, false, nat_le, List, [], ◌∷◌, codes, refl, sym, subst}
 use Rattle.js_text.specs.CommonPaths.{common_paths}
-use Rattle.js_term.specs.Layers.{TemplateLayer}
+use Rattle.js_term.specs.declared.term.Arguments.{Arguments}
+use Rattle.js_term.specs.declared.term.Arguments.TheOpen.{Template-F}
 use Rattle.js_term.specs.declared.term.Arguments.TheVariants as args
+use Rattle.js_term.specs.declared.term.Jump.{Jump}
 use Rattle.js_term.specs.declared.term.Literal.TheVariants as literal
+use Rattle.js_term.specs.declared.term.Part.{Part}
 use Rattle.js_term.specs.declared.term.Template.{Template, out-Template, out-roll-Template}
 use Rattle.js_term.specs.declared.term.TemplateKind.TheVariants as kind
 use Rattle.js_term.specs.declared.term.Term.{Term}
@@ -34,7 +37,7 @@ pub json_valid : (b : Below) (t : List ℕ) → IsValid (json_template b t)
 json_valid b t =
     let set : Term = term.Put (term.Local 0 2) (text (codes "exports")) (call_common JSON_PARSE (text t ∷ [])) in
     let r : Template = record { kind = kind.Module; name = []; length = 0; params = 0; rest = false; slots = 3; undefined = []; body = set } in
-    let layer : TemplateLayer = record { kind = kind.Module; name = []; length = 0; params = 0; rest = false; slots = 3; undefined = []; body = set } in
+    let layer : Template-F Arguments Jump Part Term Template = record { kind = kind.Module; name = []; length = 0; params = 0; rest = false; slots = 3; undefined = []; body = set } in
     let is : out-Template r ≡ layer = out-roll-Template layer in
     let q : Place = InTemplate kind.Module 3 ∷ [] in
     here [] (inner.template r) []
