@@ -1,0 +1,14 @@
+pub mod Fits
+pub mod Phrases
+pub mod Expressions
+pub mod Properties
+pub mod Members
+pub mod Covered
+pub mod Blocks
+pub mod Functions
+pub mod Bindings
+pub mod Forms
+pub mod Early
+pub mod Levels
+pub mod Programs
+pub mod Json
