@@ -1,10 +1,10 @@
 -- Numbers are given once: what is named keeps its number, numbers are below the count, and no two of a party have one.
-use Rattle.std.proofs.Common.{◌≡◌, ℕ, ◌+◌, ◌<◌, ◌≤◌, ◌==◌, Bool, true, false, ◌&&◌, cond, if◌then◌else◌, is_some, nat_lt, List, [], ◌∷◌, ◌++◌, Option, Some, None, refl, ap, ◌∙◌, sym, subst, ◌⊎◌, inl, inr, ⊎_elim, true≢false, arith, ltb-true, eqb-true, eq-eqb}
-use Rattle.std.proofs.lemmas.Bool.{and_parts, cond-true}
+use Rattle.std.proofs.Common.{◌≡◌, ℕ, ◌+◌, ◌<◌, ◌==◌, Bool, true, false, ◌&&◌, cond, if◌then◌else◌, nat_lt, List, [], ◌∷◌, ◌++◌, Option, Some, None, refl, ap, ◌∙◌, sym, subst, ◌⊎◌, inl, inr, ⊎_elim, arith, ltb-true, eqb-true}
+use Rattle.std.proofs.lemmas.Bool.{and_parts}
 use Rattle.std.proofs.lemmas.List.Sums.{fold_push}
 use Rattle.std.specs.List.{count_by}
 use Rattle.std.specs.Map.{lookup}
-use Rattle.std.specs.Option.{option_or, unwrap_or}
+use Rattle.std.specs.Option.{option_or}
 use Rattle.lava_base.specs.Ids.{same_made_symbol, same_ref}
 use Rattle.lava_base.specs.SameRefs.{same_ref_decides}
 use Rattle.lava_base.specs.SameSymbols.{same_made_symbol_decides}
@@ -12,12 +12,9 @@ use Rattle.lava_base.specs.declared.ids.MadeSymbol.{MadeSymbol}
 use Rattle.lava_base.specs.declared.ids.ObjId.{ObjId}
 use Rattle.lava_base.specs.declared.ids.PartyId.{PartyId}
 use Rattle.lava_base.specs.declared.ids.Ref.{Ref}
-use Rattle.lava_base.specs.declared.ids.Ref.TheVariants.{Common, Own}
-use Rattle.lava_journal.specs.Bodies.{Pieces}
-use Rattle.lava_journal.specs.Sheets.{An_object, A_symbol, Piece, Plain, TraceNames, count_at_start, count_of, is_shown, known_object, known_symbol, no_names, number_at_start, number_of, object_is_of, symbol_is_of, with_object, with_symbol}
+use Rattle.lava_base.specs.declared.ids.Ref.TheVariants.{Own}
+use Rattle.lava_journal.specs.Sheets.{TraceNames, count_at_start, count_of, known_object, known_symbol, number_at_start, object_is_of, symbol_is_of, with_object, with_symbol}
 use Rattle.lava_journal.specs.declared.numbers.TheConstants.{HOST_OBJECTS}
-use Rattle.lava_trace_laws.specs.Spelled.{named_then, piece_names, shown_then}
-use Rattle.lava_trace_laws.proofs.Line_laws.{names_behind}
 
 -- ONE MORE
 

@@ -1,6 +1,6 @@
 -- The marks that stand in a line do for those that were listed.
-use Rattle.std.proofs.Common.{◌≡◌, ℕ, Bool, true, false, ◌||◌, cond, List, [], ◌∷◌, ◌++◌, map, Option, Some, None, refl, ap, ◌∙◌, sym, subst, true≢false}
-use Rattle.std.proofs.lemmas.Bool.{false_from_ne_true, or_from, or_left, or_parts, or_right}
+use Rattle.std.proofs.Common.{◌≡◌, ℕ, Bool, true, false, ◌||◌, cond, List, [], ◌∷◌, ◌++◌, map, Option, Some, None, refl, ap, ◌∙◌, sym, true≢false}
+use Rattle.std.proofs.lemmas.Bool.{false_from_ne_true, or_left, or_parts, or_right}
 use Rattle.std.proofs.lemmas.List.{append_assoc, append-nil, map-append}
 use Rattle.std.proofs.lemmas.List.Folds.{list_any-append}
 use Rattle.std.specs.List.{list_any}
@@ -17,10 +17,10 @@ use Rattle.lava_base.specs.declared.ids.Ref.TheVariants.{Common, Own}
 use Rattle.lava_base.specs.declared.marks.Marks.{Marks}
 use Rattle.lava_journal.specs.Bodies.{Pieces}
 use Rattle.lava_journal.specs.Sheets.{An_object, A_symbol, Piece, Plain, TraceNames, is_fixed, is_shown, known_object, known_symbol, with_object, with_symbol}
-use Rattle.lava_trace_laws.specs.Spelled.{Listed, Place, entry, marks_in, marks_shown, named_then, noted, passed, passed_piece, piece_names, shown_then, start_of}
+use Rattle.lava_trace_laws.specs.Spelled.{Listed, Place, entry, marks_in, marks_shown, named_then, passed, passed_piece, piece_names, shown_then, start_of}
 use Rattle.lava_trace_laws.proofs.Line_laws.{names_behind}
 use Rattle.lava_told.specs.Told.{renumbered, renumbered_marks}
-use Rattle.lava_told.proofs.Counted_laws.{Counted, Grows, behind_grows, grows_on, piece_grows}
+use Rattle.lava_told.proofs.Counted_laws.{Counted, Grows, behind_grows, grows_on}
 use Rattle.lava_told.proofs.Known_laws.{found_in, itself}
 use Rattle.lava_told.proofs.Naming_laws.{next_is_named}
 use Rattle.lava_told.proofs.Renaming_laws.{IsNamed, alike}

@@ -1,5 +1,5 @@
 -- What the told lines name: each object and made symbol under its number, in step with what the run's own lines name.
-use Rattle.std.proofs.Common.{◌≡◌, ℕ, ◌+◌, ◌<◌, ◌==◌, Bool, true, false, ◌||◌, nat_eq, List, [], ◌∷◌, ◌++◌, Option, Some, None, refl, ap, ◌∙◌, sym, subst, ⊎_elim, arith, eqb-true}
+use Rattle.std.proofs.Common.{◌≡◌, ℕ, Bool, true, false, ◌||◌, nat_eq, [], ◌∷◌, Option, Some, None, refl, ap, ◌∙◌, sym, subst, ⊎_elim, arith, eqb-true}
 use Rattle.std.proofs.lemmas.Bool.{and_parts}
 use Rattle.std.proofs.lemmas.List.Folds.{list_any-append}
 use Rattle.std.specs.List.{list_any}
@@ -12,7 +12,7 @@ use Rattle.lava_base.specs.declared.ids.PartyId.{PartyId}
 use Rattle.lava_base.specs.declared.ids.Ref.{Ref}
 use Rattle.lava_base.specs.declared.ids.Ref.TheVariants.{Common, Own}
 use Rattle.lava_journal.specs.Quotes.{pair_text}
-use Rattle.lava_journal.specs.Sheets.{An_object, A_symbol, TraceNames, count_of, is_fixed, is_shown, known_object, known_symbol, no_names, number_of, with_object, with_symbol}
+use Rattle.lava_journal.specs.Sheets.{An_object, A_symbol, TraceNames, count_of, is_shown, known_object, known_symbol, no_names, number_of, with_object, with_symbol}
 use Rattle.lava_trace_laws.specs.Spelled.{name_text, named_then, piece_names, shown_then}
 use Rattle.lava_told.specs.Told.{renumbered, renumbered_symbol}
 use Rattle.lava_told.proofs.Counted_laws.{Counted, Grows, at_start, object_after, same_id, symbol_after}

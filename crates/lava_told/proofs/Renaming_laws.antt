@@ -1,17 +1,16 @@
 -- What is named has one number each: other names are told apart as these are.
-use Rattle.std.proofs.Common.{◌≡◌, ℕ, ◌+◌, ◌<◌, ◌≤◌, ◌==◌, Bool, true, false, ◌&&◌, if◌then◌else◌, nat_eq, nat_lt, Option, Some, None, refl, ap, ◌∙◌, sym, subst, ⊎_elim, true≢false, arith, eqb-true, ltb-true}
+use Rattle.std.proofs.Common.{◌≡◌, ℕ, ◌==◌, Bool, true, false, ◌&&◌, if◌then◌else◌, nat_eq, nat_lt, Some, None, refl, ap, ◌∙◌, sym, subst, ⊎_elim, arith, eqb-true, ltb-true}
 use Rattle.std.specs.Prelude.{⊤}
-use Rattle.std.proofs.lemmas.Bool.{and_from, and_parts}
+use Rattle.std.proofs.lemmas.Bool.{and_parts}
 use Rattle.std.specs.Map.{lookup}
-use Rattle.lava_base.specs.Ids.{same_made_symbol, same_ref}
+use Rattle.lava_base.specs.Ids.{same_ref}
 use Rattle.lava_base.specs.SameRefs.{same_ref_decides}
-use Rattle.lava_base.specs.SameSymbols.{same_made_symbol_decides}
 use Rattle.lava_base.specs.declared.ids.MadeSymbol.{MadeSymbol}
 use Rattle.lava_base.specs.declared.ids.ObjId.{ObjId}
 use Rattle.lava_base.specs.declared.ids.PartyId.{PartyId}
 use Rattle.lava_base.specs.declared.ids.Ref.{Ref}
 use Rattle.lava_base.specs.declared.ids.Ref.TheVariants.{Common, Own}
-use Rattle.lava_journal.specs.Sheets.{TraceNames, count_at_start, count_of, is_fixed, known_object, known_symbol, number_at_start, number_of}
+use Rattle.lava_journal.specs.Sheets.{TraceNames, count_at_start, is_fixed, known_object, known_symbol, number_at_start, number_of}
 use Rattle.lava_journal.specs.declared.numbers.TheConstants.{HOST_OBJECTS}
 use Rattle.lava_told.specs.Told.{renumbered, renumbered_symbol}
 use Rattle.lava_told.proofs.Counted_laws.{Counted, Grows}

@@ -1,9 +1,9 @@
 -- What can be written can be under other names: texts, integers and keys stay as they are, and so does what an ask wants.
-use Rattle.std.proofs.Common.{◌≡◌, ℕ, ◌+◌, ◌<◌, ◌^◌, ◌==◌, Bool, true, ◌&&◌, not, if◌then◌else◌, is_some, nat_le, nat_lt, List, [], ◌∷◌, length, map, Option, Some, None, refl, ap, ◌∙◌, sym, subst}
+use Rattle.std.proofs.Common.{◌≡◌, ℕ, ◌<◌, ◌^◌, ◌==◌, ◌&&◌, not, if◌then◌else◌, is_some, nat_le, nat_lt, List, [], ◌∷◌, map, Option, Some, None, refl, ap, ◌∙◌, sym, subst}
 use Rattle.std.proofs.lemmas.List.{length-map}
 use Rattle.std.specs.List.{AllByRecursion}
 use Rattle.std.specs.Option.{option_map}
-use Rattle.std.specs.Prelude.{⊤, IfSome}
+use Rattle.std.specs.Prelude.{IfSome}
 use Rattle.lava_base.specs.declared.ids.MadeSymbol.{MadeSymbol}
 use Rattle.lava_base.specs.declared.ids.Ref.{Ref}
 use Rattle.js_text.specs.Maps.{map_key, map_symbol, map_value}
@@ -13,7 +13,6 @@ use Rattle.js_text.specs.declared.value.Symbol.{Symbol}
 use Rattle.js_text.specs.declared.value.Symbol.TheVariants as symbol
 use Rattle.js_text.specs.declared.value.Value.{Value}
 use Rattle.js_text.specs.declared.value.Value.TheVariants as value
-use Rattle.js_desc.specs.Descriptors.{fields_of}
 use Rattle.js_desc.specs.Maps.{map_ask, map_body, map_crossing, map_descriptor, map_global, map_module, map_partial, map_reply}
 use Rattle.js_desc.specs.declared.ask.Ask.{Ask}
 use Rattle.js_desc.specs.declared.ask.Ask.TheVariants as ask

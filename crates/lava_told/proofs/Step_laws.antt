@@ -1,5 +1,5 @@
 -- The pieces of a told line, beside those of the run's own line: one text, the same marks, and names in step.
-use Rattle.std.proofs.Common.{◌≡◌, ℕ, ◌+◌, ◌≤◌, Bool, true, false, ◌||◌, is_some, List, [], ◌∷◌, ◌++◌, length, map, Option, Some, None, refl, ap, ◌∙◌, sym, subst, arith}
+use Rattle.std.proofs.Common.{◌≡◌, ℕ, ◌+◌, ◌≤◌, Bool, true, false, ◌||◌, is_some, [], ◌∷◌, ◌++◌, map, Option, Some, None, refl, ap, ◌∙◌, sym, subst, arith}
 use Rattle.std.proofs.lemmas.List.{map-append}
 use Rattle.std.specs.List.{AllByRecursion}
 use Rattle.std.specs.Map.{lookup}
@@ -9,9 +9,9 @@ use Rattle.lava_base.specs.declared.ids.Ref.{Ref}
 use Rattle.lava_base.specs.declared.ids.Ref.TheVariants.{Common, Own}
 use Rattle.lava_base.specs.declared.marks.Marks.{Marks}
 use Rattle.lava_journal.specs.Bodies.{Pieces}
-use Rattle.lava_journal.specs.Sheets.{An_object, A_symbol, Piece, Plain, TraceNames, count_of, is_shown, known_object, known_symbol, number_of}
+use Rattle.lava_journal.specs.Sheets.{An_object, A_symbol, Piece, Plain, TraceNames, count_of, is_shown, known_symbol, number_of}
 use Rattle.lava_trace.specs.declared.left.TheConstants.{MAX_ID}
-use Rattle.lava_trace_laws.specs.Spelled.{HasMarks, HasName, HaveMarks, HaveNames, Listed, entry, mark_text, marks_shown, name_text, named_then, piece_names, piece_text, shown_then, spelled}
+use Rattle.lava_trace_laws.specs.Spelled.{HasMarks, HasName, HaveMarks, HaveNames, Listed, entry, mark_text, marks_shown, named_then, piece_names, piece_text, shown_then, spelled}
 use Rattle.lava_trace_laws.proofs.Line_laws.{names_behind}
 use Rattle.lava_view.proofs.Piece_laws.{renamed, renamed_pieces}
 use Rattle.lava_told.specs.Told.{HasOwner, renumbered, renumbered_marks, renumbered_symbol}

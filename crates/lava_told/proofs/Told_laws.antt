@@ -1,19 +1,17 @@
 -- The told lines, one after the other: they have the run's text, and may stand one behind the other.
-use Rattle.std.proofs.Common.{◌≡◌, ℕ, ◌+◌, ◌<◌, ◌≤◌, ◌^◌, Bool, if◌then◌else◌, List, [], ◌∷◌, ◌++◌, codes, decimal, length, map, refl, ap, ◌∙◌, sym, subst, arith}
+use Rattle.std.proofs.Common.{◌≡◌, ℕ, ◌+◌, if◌then◌else◌, List, [], ◌∷◌, ◌++◌, codes, decimal, length, map, refl, ap, ◌∙◌, sym, subst, arith}
 use Rattle.std.proofs.lemmas.List.{append_assoc, append-nil}
-use Rattle.std.specs.List.{AllByRecursion}
 use Rattle.lava_base.specs.declared.ids.MadeSymbol.{MadeSymbol}
 use Rattle.lava_base.specs.declared.ids.Ref.{Ref}
-use Rattle.js_text.specs.Maps.{map_symbol}
 use Rattle.js_desc.specs.declared.crossing.Crossing.{Crossing}
 use Rattle.lava_journal.specs.Bodies.{Pieces, body_pieces, plain}
 use Rattle.lava_journal.specs.Lines.{crossing_line, end_text, line_pieces, start_text}
 use Rattle.lava_journal.specs.Sheets.{TraceNames, blank, no_names}
-use Rattle.lava_trace.specs.Courses.{may_cross, opened, opens, wanted}
+use Rattle.lava_trace.specs.Courses.{opened, opens, wanted}
 use Rattle.lava_trace.specs.declared.answers.AnswerKind.{AnswerKind}
 use Rattle.lava_trace.specs.declared.line.Trace.{Trace}
 use Rattle.lava_trace.specs.declared.line.TraceLine.{TraceLine}
-use Rattle.lava_trace_laws.specs.Spelled.{HaveMarks, HaveNames, Listed, marks_in, piece_names, piece_text, spelled}
+use Rattle.lava_trace_laws.specs.Spelled.{HaveMarks, HaveNames, Listed, piece_names, piece_text, spelled}
 use Rattle.lava_trace_laws.specs.Written.{IsLawful, MayGoOn, MayStand, crossing_lines, line_of, parties_behind, parties_then, text_of}
 use Rattle.lava_trace_laws.proofs.Line_laws.{names_behind, sheet_is}
 use Rattle.lava_view.proofs.Piece_laws.{body_renamed}
@@ -47,7 +45,7 @@ line_is names number x listed =
     ap (λ s. s.text) (sheet_is (blank names listed) (line_pieces number x))
     ∙ ap (λ l. decimal number ++ (codes " " ++ (decimal x.from.0 ++ (codes ">" ++ (decimal x.to.0 ++ (codes " " ++ l)))))) (spelled_append names listed (body_pieces x.body) (plain (codes "\n")))
 
-names_are : (names : TraceNames) (number : ℕ) (x : Crossing Ref MadeSymbol) (listed : Listed) → (crossing_line names number x listed).names ≡ names_behind names (body_pieces x.body)
+pub names_are : (names : TraceNames) (number : ℕ) (x : Crossing Ref MadeSymbol) (listed : Listed) → (crossing_line names number x listed).names ≡ names_behind names (body_pieces x.body)
 names_are names number x listed =
     ap (λ s. s.names) (sheet_is (blank names listed) (line_pieces number x)) ∙ behind_append names (body_pieces x.body) (plain (codes "\n"))
 
@@ -176,21 +174,25 @@ told_is_lawful t h = record {
   ending = h.ending;
 }
 
--- one line more
+-- ONE LINE MORE
+
+first : (n : ℕ) → n ≡ 0 + n
+first n = omega arith
+
 text_more : (ls : List TraceLine) (l : TraceLine) (names : TraceNames) (number : ℕ)
     → crossing_lines names number (ls ++ l ∷ []) ≡ crossing_lines names number ls ++ (line_of (names_after names number ls) (length ls + number) l).text
-text_more [] l names number = append-nil (line_of names number l).text
+text_more [] l names number = append-nil (line_of names number l).text ∙ ap (λ (n : ℕ). (line_of names n l).text) (first number)
 text_more (x ∷ ls) l names number =
     let next = (line_of names number x).names in
-    let first = (line_of names number x).text in
+    let line = (line_of names number x).text in
     let count : length ls + (number + 1) ≡ length (x ∷ ls) + number = omega arith in
-    ap (λ t. first ++ t) (text_more ls l next (number + 1))
-    ∙ ap (λ (n : ℕ). first ++ (crossing_lines next (number + 1) ls ++ (line_of (names_after next (number + 1) ls) n l).text)) count
-    ∙ sym (append_assoc first (crossing_lines next (number + 1) ls) (line_of (names_after next (number + 1) ls) (length (x ∷ ls) + number) l).text)
+    ap (λ t. line ++ t) (text_more ls l next (number + 1))
+    ∙ ap (λ (n : ℕ). line ++ (crossing_lines next (number + 1) ls ++ (line_of (names_after next (number + 1) ls) n l).text)) count
+    ∙ sym (append_assoc line (crossing_lines next (number + 1) ls) (line_of (names_after next (number + 1) ls) (length (x ∷ ls) + number) l).text)
 
 names_more : (ls : List TraceLine) (l : TraceLine) (names : TraceNames) (number : ℕ)
     → names_after names number (ls ++ l ∷ []) ≡ (line_of (names_after names number ls) (length ls + number) l).names
-names_more [] l names number = refl
+names_more [] l names number = ap (λ (n : ℕ). (line_of names n l).names) (first number)
 names_more (x ∷ ls) l names number =
     let next = (line_of names number x).names in
     let count : length ls + (number + 1) ≡ length (x ∷ ls) + number = omega arith in

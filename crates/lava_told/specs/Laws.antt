@@ -28,3 +28,7 @@ Told_is_lawful = (t : Trace) → MayBeTold t → IsLawful (told t)
 -- own: a run's text tells its trace
 abbrev pub Told_is_read : Type 0
 Told_is_read = (t : Trace) → MayBeTold t → reading_of (text_of t) ≡ A_trace (told t)
+
+-- a trace that may be told tells itself: its ids are the numbers of its names already
+abbrev pub Lawful_tells_itself : Type 0
+Lawful_tells_itself = (t : Trace) → IsLawful t → told t ≡ t

@@ -4,7 +4,7 @@
 //! - `Laws` has the statements: what a run writes is the text of the trace that it tells, and is read as this trace.
 #![tactic(auto)]
 
-ghost use Rattle.lava_told.specs.Laws.{One_line_more, Told_has_the_text, Told_is_lawful, Told_is_read};
+ghost use Rattle.lava_told.specs.Laws.{Lawful_tells_itself, One_line_more, Told_has_the_text, Told_is_lawful, Told_is_read};
 
 /// What is written of a run's own ids is the text of the trace that it tells.
 #[tactic(none)]
@@ -28,4 +28,10 @@ pub fn told_is_lawful()
 #[tactic(none)]
 pub fn told_is_read()
     ensures { Told_is_read }
+{}
+
+/// A lawful trace tells itself.
+#[tactic(none)]
+pub fn lawful_tells_itself()
+    ensures { Lawful_tells_itself }
 {}
