@@ -113,12 +113,12 @@ start_by false false i k h = absurd cc
 pub start_is : (p i k : ℕ) → number_at_start p i ≡ Some k → (i ≡ k) × (k < count_at_start p)
 start_is p i k h = ⊎_elim
     (λ (e : ((p == 0 && nat_lt i HOST_OBJECTS) ≡ true) × (i ≡ k)).
-      let parts = and_parts (p == 0) (nat_lt i HOST_OBJECTS) e.0 in
-      (e.1, omega (arith, ltb-true i HOST_OBJECTS parts.1, e.1, ap (λ b. if b then HOST_OBJECTS else if p == 1 then 1 else 0) parts.0)))
+    let parts = and_parts (p == 0) (nat_lt i HOST_OBJECTS) e.0 in
+    (e.1, omega (arith, ltb-true i HOST_OBJECTS parts.1, e.1, ap (λ b. if b then HOST_OBJECTS else if p == 1 then 1 else 0) parts.0)))
     (λ (e : ((p == 0 && nat_lt i HOST_OBJECTS) ≡ false) × ((p == 1 && i == 0) ≡ true) × (0 ≡ k)).
-      let parts = and_parts (p == 1) (i == 0) e.1 in
-      let one = eqb-true p 1 parts.0 in
-      (omega (arith, eqb-true i 0 parts.1, e.2), subst (λ q. k < count_at_start q) (sym one) (omega (arith, e.2))))
+    let parts = and_parts (p == 1) (i == 0) e.1 in
+    let one = eqb-true p 1 parts.0 in
+    (omega (arith, eqb-true i 0 parts.1, e.2), subst (λ q. k < count_at_start q) (sym one) (omega (arith, e.2))))
     (start_by (p == 0 && nat_lt i HOST_OBJECTS) (p == 1 && i == 0) i k h)
 
 known_by : (o p : Option ℕ) (k : ℕ) → option_or o p ≡ Some k → (o ≡ Some k) ⊎ ((o ≡ None) × (p ≡ Some k))

@@ -204,8 +204,7 @@ module _ (named : TraceNames) (c : Counted named) (listed : Listed) where
       let behind = rest names (An_object r) ps in
       let now = piece_names names (An_object r) in
       let parted : all ≡ before ++ (told_marks marks ++ behind) = e ∙ ap (λ l. before ++ l) (map-append (renumbered_marks named) marks (marks_from now listed ps)) in
-      let later = shown_misses now ps r g (shows names r r ∙ or_right (is_shown names r) (same_ref r r) (itself r)) x in
-      (
+      let later = shown_misses now ps r g (shows names r r ∙ or_right (is_shown names r) (same_ref r r) (itself r)) x in (
         ap (λ l. marks_shown b l (renumbered named r)) parted ∙ found_by b names r before behind refl x n later,
         finds (before ++ told_marks marks) now ps (unshown_by b names r before refl x n) g all (parted ∙ sym (append_assoc before (told_marks marks) behind)),
       )

@@ -73,7 +73,6 @@ module _ (named names told : TraceNames) (c : Counted named) (d : Counted told) 
       let n = count_of names p.0 in
       none_if (known_object told p (id n)) (λ k e. omega (arith, t.own p (id n) k e, d.below p (id n) k e, t.count p.0))
 
-
   object_in_step : (p : PartyId) (i : ObjId) (o : Option ℕ) → known_object names p i ≡ o → Tells named (with_object names p i o) (with_object told p (id (number_of names p.0 o)) o)
   object_in_step p i (Some k) h = t
   object_in_step p i None h =
@@ -85,12 +84,12 @@ module _ (named names told : TraceNames) (c : Counted named) (d : Counted told) 
         object = λ q j k e. ⊎_elim
             (λ (old : known_object names q j ≡ Some k). object_still told p (id n) q (id k) k (t.object q j k old))
             (λ (new : (same_ref (Own q j) (Own p i) ≡ true) × (n ≡ k)).
-              let party = eqb-true q.0 p.0 (and_parts (nat_eq q.0 p.0) (nat_eq j.0 i.0) new.0).0 in
-              (λ x. known_object more (record { 0 = party x }) (id (sym new.1 x))) ∙ now ∙ ap (λ (m : ℕ). Some m) (t.count p.0 ∙ new.1))
+            let party = eqb-true q.0 p.0 (and_parts (nat_eq q.0 p.0) (nat_eq j.0 i.0) new.0).0 in
+            (λ x. known_object more (record { 0 = party x }) (id (sym new.1 x))) ∙ now ∙ ap (λ (m : ℕ). Some m) (t.count p.0 ∙ new.1))
             (object_new names p i q j k e);
         own = λ q j k e. ⊎_elim (t.own q j k)
             (λ (new : (same_ref (Own q j) (Own p (id n)) ≡ true) × (count_of told p.0 ≡ k)).
-              eqb-true j.0 n (and_parts (nat_eq q.0 p.0) (nat_eq j.0 n) new.0).1 ∙ sym (t.count p.0) ∙ new.1)
+            eqb-true j.0 n (and_parts (nat_eq q.0 p.0) (nat_eq j.0 n) new.0).1 ∙ sym (t.count p.0) ∙ new.1)
             (object_new told p (id n) q j k e);
         symbol = t.symbol;
         own_symbol = t.own_symbol;
@@ -147,12 +146,12 @@ module _ (named names told : TraceNames) (c : Counted named) (d : Counted told) 
         symbol = λ u k e. ⊎_elim
             (λ (old : known_symbol names u ≡ Some k). symbol_still told m (symbol_at u k) k (t.symbol u k old))
             (λ (new : (same_made_symbol u s ≡ true) × (n ≡ k)).
-              let same = (same_made_symbol_decides u s).0 new.0 in
-              (λ x. known_symbol more (symbol_at (same x) (sym new.1 x))) ∙ now ∙ ap (λ (a : ℕ). Some a) (t.count s.party.0 ∙ new.1))
+            let same = (same_made_symbol_decides u s).0 new.0 in
+            (λ x. known_symbol more (symbol_at (same x) (sym new.1 x))) ∙ now ∙ ap (λ (a : ℕ). Some a) (t.count s.party.0 ∙ new.1))
             (symbol_new names s u k e);
         own_symbol = λ u k e. ⊎_elim (t.own_symbol u k)
             (λ (new : (same_made_symbol u m ≡ true) × (count_of told s.party.0 ≡ k)).
-              ap (λ (a : MadeSymbol). a.id.0) ((same_made_symbol_decides u m).0 new.0) ∙ sym (t.count s.party.0) ∙ new.1)
+            ap (λ (a : MadeSymbol). a.id.0) ((same_made_symbol_decides u m).0 new.0) ∙ sym (t.count s.party.0) ∙ new.1)
             (symbol_new told m u k e);
         shown = t.shown;
       }

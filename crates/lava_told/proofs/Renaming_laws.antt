@@ -78,8 +78,8 @@ module _ (named : TraceNames) (c : Counted named) where
       ⊎_elim
       (λ (e : number_at_start p.0 i.0 ≡ Some k). subst (λ n. is_fixed (Own p (record { 0 = n })) ≡ true) (sym (start_is p.0 i.0 k e).0) f)
       (λ (e : (number_at_start p.0 i.0 ≡ None) × (lookup (same_ref (Own p i)) named.objects ≡ Some k)).
-        let start : count_at_start p.0 ≡ HOST_OBJECTS = ap (λ b. if b then HOST_OBJECTS else if p.0 == 1 then 1 else 0) parts.0 in
-        absurd (omega (arith, ltb-true k HOST_OBJECTS parts.1, c.above p i k e.1, start)))
+      let start : count_at_start p.0 ≡ HOST_OBJECTS = ap (λ b. if b then HOST_OBJECTS else if p.0 == 1 then 1 else 0) parts.0 in
+      absurd (omega (arith, ltb-true k HOST_OBJECTS parts.1, c.above p i k e.1, start)))
       (known_from named p i k h)
 
   fixed_to : (p : PartyId) (i : ObjId) (k : ℕ) → known_object named p i ≡ Some k → is_fixed (Own p i) ≡ true → is_fixed (Own p (record { 0 = k })) ≡ true

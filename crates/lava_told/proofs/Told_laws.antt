@@ -144,8 +144,7 @@ module _ (named : TraceNames) (c : Counted named) where
       let next = (line_of names number l).names in
       let now = (line_of told number (told_line named names l)).names in
       let one = line_told l names told number d t (grows_on next (names_after next (number + 1) ls) named (after_grows next (number + 1) ls) g) in
-      let rest = lines_may ls next now (number + 1) (parties_then parties l) (opened asks (opens l.crossing.body)) one.counted one.step g ids h.2 in
-      (
+      let rest = lines_may ls next now (number + 1) (parties_then parties l) (opened asks (opens l.crossing.body)) one.counted one.step g ids h.2 in (
         one.may ids parties asks h.0,
         h.1,
         coe 1 0 (k. MayGoOn (parties_same names parties l k) (opened asks (opens_same (renumbered named) (renumbered_symbol named) l.crossing.body k)) now (number + 1) (told_lines named next (number + 1) ls)) rest,
