@@ -1,6 +1,6 @@
 -- The told lines, one after the other: they have the run's text, and may stand one behind the other.
-use Rattle.std.proofs.Common.{◌≡◌, ℕ, ◌+◌, if◌then◌else◌, List, [], ◌∷◌, ◌++◌, codes, decimal, length, map, refl, ap, ◌∙◌, sym, subst, arith}
-use Rattle.std.proofs.lemmas.List.{append_assoc, append-nil}
+use Rattle.std.proofs.Common.{◌≡◌, ℕ, ◌+◌, if◌then◌else◌, List, [], ◌∷◌, ◌++◌, codes, decimal, length, map, refl, ap, ◌∙◌, sym, subst}
+use Rattle.std.proofs.lemmas.List.{append_assoc}
 use Rattle.lava_base.specs.declared.ids.MadeSymbol.{MadeSymbol}
 use Rattle.lava_base.specs.declared.ids.Ref.{Ref}
 use Rattle.js_desc.specs.declared.crossing.Crossing.{Crossing}
@@ -15,7 +15,6 @@ use Rattle.lava_trace_laws.specs.Spelled.{HaveMarks, HaveNames, Listed, piece_na
 use Rattle.lava_trace_laws.specs.Written.{IsLawful, MayGoOn, MayStand, crossing_lines, line_of, parties_behind, parties_then, text_of}
 use Rattle.lava_trace_laws.proofs.Line_laws.{names_behind, sheet_is}
 use Rattle.lava_view.proofs.Piece_laws.{body_renamed}
-use Rattle.lava_told.specs.Laws.{GoesLast}
 use Rattle.lava_told.specs.Told.{MayAllBeSaid, MayBeSaid, MayBeTold, names_after, renumbered, renumbered_crossing, renumbered_marks, renumbered_symbol, told, told_line, told_lines}
 use Rattle.lava_told.proofs.Counted_laws.{Counted, Grows, behind_counted, behind_grows, counted_first, grows_not, grows_on}
 use Rattle.lava_told.proofs.Mark_laws.{finds_in_line, marks_are, marks_from}
@@ -172,30 +171,3 @@ told_is_lawful t h = record {
   total = h.total;
   ending = h.ending;
 }
-
--- ONE LINE MORE
-
-first : (n : ℕ) → n ≡ 0 + n
-first n = omega arith
-
-text_more : (ls : List TraceLine) (l : TraceLine) (names : TraceNames) (number : ℕ)
-    → crossing_lines names number (ls ++ l ∷ []) ≡ crossing_lines names number ls ++ (line_of (names_after names number ls) (length ls + number) l).text
-text_more [] l names number = append-nil (line_of names number l).text ∙ ap (λ (n : ℕ). (line_of names n l).text) (first number)
-text_more (x ∷ ls) l names number =
-    let next = (line_of names number x).names in
-    let line = (line_of names number x).text in
-    let count : length ls + (number + 1) ≡ length (x ∷ ls) + number = omega arith in
-    ap (λ t. line ++ t) (text_more ls l next (number + 1))
-    ∙ ap (λ (n : ℕ). line ++ (crossing_lines next (number + 1) ls ++ (line_of (names_after next (number + 1) ls) n l).text)) count
-    ∙ sym (append_assoc line (crossing_lines next (number + 1) ls) (line_of (names_after next (number + 1) ls) (length (x ∷ ls) + number) l).text)
-
-names_more : (ls : List TraceLine) (l : TraceLine) (names : TraceNames) (number : ℕ)
-    → names_after names number (ls ++ l ∷ []) ≡ (line_of (names_after names number ls) (length ls + number) l).names
-names_more [] l names number = ap (λ (n : ℕ). (line_of names n l).names) (first number)
-names_more (x ∷ ls) l names number =
-    let next = (line_of names number x).names in
-    let count : length ls + (number + 1) ≡ length (x ∷ ls) + number = omega arith in
-    names_more ls l next (number + 1) ∙ ap (λ (n : ℕ). (line_of (names_after next (number + 1) ls) n l).names) count
-
-pub one_line_more : (ls : List TraceLine) (l : TraceLine) → GoesLast ls l
-one_line_more ls l = record { text = text_more ls l no_names 1; names = names_more ls l no_names 1 }

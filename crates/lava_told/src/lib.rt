@@ -4,7 +4,7 @@
 //! - `Laws` has the statements: what a run writes is the text of the trace that it tells, and is read as this trace.
 #![tactic(auto)]
 
-ghost use Rattle.lava_told.specs.Laws.{Lawful_tells_itself, One_line_more, Told_has_the_text, Told_is_lawful, Told_is_read};
+ghost use Rattle.lava_told.specs.Laws.{End_goes_last, Lawful_tells_itself, One_line_more, Told_has_the_text, Told_is_lawful, Told_is_read};
 
 /// What is written of a run's own ids is the text of the trace that it tells.
 #[tactic(none)]
@@ -12,10 +12,16 @@ pub fn told_has_the_text()
     ensures { Told_has_the_text }
 {}
 
-/// A line more stands behind the others.
+/// A text that is written so far goes on with the line of one crossing more.
 #[tactic(none)]
 pub fn one_line_more()
     ensures { One_line_more }
+{}
+
+/// With its last lines it is the text of all these crossings.
+#[tactic(none)]
+pub fn end_goes_last()
+    ensures { End_goes_last }
 {}
 
 /// The trace that is told may be told.
