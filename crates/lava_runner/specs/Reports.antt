@@ -49,13 +49,13 @@ IsUncaughtText v (ending.Budget p) text = text ≡ None
 IsUncaughtText v (ending.Fault p h) text = text ≡ None
 
 -- the report on a run of these parties that left the machine so
-pub record IsReportOf (v : WorldView) (names : List (List ℕ)) (ran : Ran) (r : Report) : Type 0 where
+pub record IsReportOf (v : WorldView) (parties : List (List ℕ)) (ran : Ran) (r : Report) : Type 0 where
   pub ending : r.ending ≡ ran.ending
   pub which : r.which ≡ ran.failed
   pub uncaught : IsUncaughtText v ran.ending r.uncaught
-  pub names : r.names ≡ names
+  pub names : r.names ≡ parties
   pub steps : r.steps ≡ v.steps
-  pub many : length v.steps ≡ length names
+  pub many : length v.steps ≡ length parties
   pub crossings : r.crossings ≡ ran.crossings
 
 pub record HasReport (emit : Bool) (dir : List ℕ) (names : List (List ℕ)) (first : WorldView) (before after : HostWorld) (r : Report) : Type 0 where
