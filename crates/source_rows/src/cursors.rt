@@ -1,5 +1,9 @@
 // Sources and the expressions that their tokens begin with, one after the other.
 
+ghost use Rattle.std.specs.Prelude.{◌≤◌, length};
+ghost use Rattle.js_lexer.specs.Sources.{IsTokens};
+ghost use Rattle.js_lexer.specs.declared.spot.TheConstants.{MAX_SOURCE};
+
 use crate::fault::Fault;
 use crate::refusals::push_refusal;
 use js_cursor::cursor::Cursor;
@@ -17,11 +21,18 @@ pub fn push_row(alloc: Global, out: &mut String, line: &str) -> Result<(), Fault
     if source.len() > MAX_SOURCE as usize {
         return Err(Fault::TooLong);
     }
-    match tokens(alloc, source.as_bytes()) {
-        Ok(tokens) => push_expressions(alloc, out, source.as_bytes(), tokens.as_slice())?,
-        Err(fault) => push_fault(out, &fault)?,
-    }
+    push_source(alloc, out, source.as_bytes())?;
     Ok(())
+}
+
+/// The same, of a source that is not too long.
+fn push_source(alloc: Global, out: &mut String, source: &[u8]) -> Result<(), AllocError>
+    requires { length source.now ≤ MAX_SOURCE }
+{
+    match tokens(alloc, source) {
+        Ok(tokens) => push_expressions(alloc, out, source, tokens.as_slice()),
+        Err(fault) => push_fault(out, &fault),
+    }
 }
 
 /// Reads expressions up to the end, or up to a refusal that was answered again.
@@ -30,7 +41,10 @@ fn push_expressions(
     out: &mut String,
     source: &[u8],
     tokens: &[Token],
-) -> Result<(), AllocError> {
+) -> Result<(), AllocError>
+    requires size { length source.now ≤ MAX_SOURCE }
+    requires tokens { IsTokens source.now tokens.now }
+{
     let mut cursor = Cursor::new(alloc, tokens, source);
     for _ in 0..tokens.len() {
         match expression(alloc, &mut cursor) {
