@@ -15,6 +15,7 @@ import os
 import re
 import sys
 
+CITED = re.compile(r"(?<![\w:.])(\w+)::|Rattle\.(\w+)\.|^pub use (\w+);", re.M)
 TOP = os.path.dirname(os.path.dirname(os.path.abspath(__file__)))
 
 
@@ -37,16 +38,15 @@ def main():
     kit = {it for rest in listed.values() for it in rest} - {*own}
     status = 0
     for name in own:
-        text = text_of(name)
-        is_cited = lambda it: re.search(rf"(?<![\w:.]){it}::|Rattle\.{it}\.|^pub use {it};", text, re.M)
-        cited = {it for it in [*own, *kit] if it != name and is_cited(it)}
+        begun = {it for found in CITED.findall(text_of(name)) for it in found}
+        cited = {it for it in [*own, *kit] if it != name and it in begun}
         # (a crate of the toolchain may be cited by way of another one)
         lacks, more = {it for it in cited if it in own} - {*listed[name]}, {*listed[name]} - cited
         if lacks or more:
             status = 1
             print(f"{name}: lacks {' '.join(sorted(lacks)) or 'none'}; cites no {' '.join(sorted(more)) or 'more'}")
-        first = [it for it in own if it in lacks or it in listed[name]]
-        listed[name] = first + [it for it in listed[name] if it not in own]
+        # (the order of a line is part of what `rt ci` keeps a proof by: what lacks goes in front, and nothing else moves)
+        listed[name] = [it for it in own if it in lacks] + listed[name]
     if "--paths" in sys.argv:
         paths = {}
         for name in own:

@@ -1,10 +1,18 @@
 -- Forms that give a value at once.
-use Rattle.std.proofs.Common.{◌≡◌, ℕ, suc, ◌+◌, Bool, true, false, not, List, ◌∷◌, Option, Some, None, ℤ, IfSome, int_lt, sym, ap, ◌∙◌, subst, arith, if◌then◌else◌}
+use Rattle.std.proofs.Common.{◌≡◌, ℕ, suc, ◌+◌, Bool, true, false, not, List, ◌∷◌, length, Option, Some, None, ℤ, IfSome, int_lt, refl, sym, ap, ◌∙◌, subst, arith, eq-eqb, lt-ltb, if◌then◌else◌}
+use Rattle.std.specs.Fmt.{signed_decimal}
 use Rattle.std.specs.Ordering.{int_eq}
 use Rattle.lava_base.specs.declared.ids.MadeSymbol.{MadeSymbol}
+use Rattle.lava_base.specs.declared.ids.ObjId.{ObjId}
+use Rattle.lava_base.specs.declared.ids.PartyId.{PartyId}
 use Rattle.lava_base.specs.declared.ids.Ref.{Ref}
-use Rattle.js_text.specs.Naming.{Naming, naming_of}
+use Rattle.lava_base.specs.declared.ids.Ref.TheVariants as reference
+use Rattle.js_text.specs.Indices.{key_of_text}
+use Rattle.js_text.specs.Naming.{Foreign, Naming, Own, naming_of, origin_of}
+use Rattle.js_text.specs.declared.value.Key.{Key}
 use Rattle.js_text.specs.declared.value.Value.TheVariants as value
+use Rattle.js_desc.specs.declared.ask.Ask.{Ask}
+use Rattle.js_desc.specs.declared.ask.Ask.TheVariants as ask
 use Rattle.js_desc.specs.declared.decision.EndKind.TheVariants as end
 use Rattle.js_desc.specs.declared.reply.Reply.TheVariants as reply
 use Rattle.js_tree.specs.declared.operator.BinaryOperator.{BinaryOperator}
@@ -12,29 +20,36 @@ use Rattle.js_tree.specs.declared.operator.BinaryOperator.TheVariants as op
 use Rattle.js_tree.specs.declared.operator.UnaryOperator.{UnaryOperator}
 use Rattle.js_tree.specs.declared.operator.UnaryOperator.TheVariants as unary_op
 use Rattle.js_term.specs.declared.term.Term.{out-Term}
-use Rattle.js_code.specs.Decoded.{layer_of, term_at}
-use Rattle.js_code.specs.Tables.{Tables}
+use Rattle.js_code.specs.Decoded.{layer_of, term_at, text_at}
 use Rattle.js_code.specs.declared.node.Node.{Node}
 use Rattle.js_code.specs.declared.node.Node.TheVariants as node
-use Rattle.js_state.specs.Scopes.{Scope, outwards, slot_of}
+use Rattle.js_store.specs.Objects.{Object, object_at}
+use Rattle.js_store.specs.declared.slot.Slot.{Slot}
+use Rattle.js_store.specs.declared.slot.Slot.TheVariants as kept
+use Rattle.js_state.specs.Scopes.{outwards, slot_of}
+use Rattle.js_ordinary.specs.OrdinaryGet.{get_own}
+use Rattle.js_ordinary.specs.Origins.{object_of, there}
 use Rattle.js_operation.specs.Computing.{number_or_end}
 use Rattle.js_operation.specs.Deeds.{MachineParty}
 use Rattle.js_operation.specs.Operating.{MachineValue}
 use Rattle.js_operation.specs.declared.operation.Computed.TheVariants.{Is, End}
+use Rattle.js_operation.specs.js_exotic.Decided.{decided, decided_there}
+use Rattle.js_operation.specs.js_exotic.Verdicts.{as_exotic}
 use Rattle.js_operation.specs.js_run.Acts as acts
-use Rattle.js_operation.specs.js_run.Acts.{Next, give, with_value}
+use Rattle.js_operation.specs.js_run.Acts.{Next, ask_there, asks_value, give, with_value}
 use Rattle.js_operation.specs.js_run.Completions as halt
 use Rattle.js_operation.specs.js_run.Completions.{Replied}
+use Rattle.js_operation.specs.js_run.Decisions.{decides, decides_by_slot, follows_with}
 use Rattle.js_operation.specs.js_run.Operators.{binary_value, given_number, is_safe, numeric, unary_value}
 use Rattle.js_operation.specs.js_run.Parties.{Shared, running}
 use Rattle.js_operation.specs.js_run.Properties.{read_slot}
-use Rattle.js_operation.specs.js_run.Rows.{binary_left, row_at}
-use Rattle.js_operation.specs.js_run.Runs.{Begins, Charged, Due, Env, Gives, answered, charge, run_for, settle}
-use Rattle.js_direct.specs.Direct.{GivesAtOnce, GivesNumber, IsBinary, IsDirect, IsUnary, Operates, compared, value_of}
+use Rattle.js_operation.specs.js_run.Rows.{binary_left, get_key, get_object, row_at}
+use Rattle.js_operation.specs.js_run.Runs.{Begins, Charged, Decides, Due, Env, Gives, answered, charge, run_for, settle}
+use Rattle.js_direct.specs.Direct.{GivesAtOnce, GivesNumber, HasData, IsDirect, IsDirectNamed, IsDirectRow, Operates, Sight, compared, is_proxy, key_named, own_object, value_of}
 use Rattle.js_direct.specs.declared.direct.Direct.{Direct}
-use Rattle.js_direct.specs.declared.direct.Plain.{Plain}
 use Rattle.js_direct.specs.declared.numbers.Counted.{Counted}
-use Rattle.js_direct.specs.declared.direct.Plain.TheVariants as plain
+use Rattle.js_direct.specs.declared.plain.Plain.{Plain}
+use Rattle.js_direct.specs.declared.plain.Plain.TheVariants as plain
 use Rattle.js_direct.proofs.Charges.{one, part}
 
 -- WHAT OPERATORS GIVE
@@ -100,99 +115,216 @@ compares names shared op.BitwiseAnd a b t p e = cc
 compares names shared op.BitwiseXor a b t p e = cc
 compares names shared op.BitwiseOr a b t p e = cc
 
+-- PROPERTIES
+
+-- the own data property of an object of the party decides a Get
+module _ (me : ℕ) (shared : Shared) where
+  -- every object but a proxy decides of a Get by its table
+  by_slot : (r : Ref) (t : Slot Ref MadeSymbol) (callable : Bool) (k : Key MadeSymbol) (receiver : MachineValue) (p : MachineParty) → is_proxy t ≡ false
+      → decides_by_slot (naming_of me) shared r t callable (ask.Get k receiver) p ≡ follows_with (naming_of me) shared r (decided (naming_of me) p.objects shared.objects r (ask.Get k receiver)) p
+  by_slot r kept.Plain callable k receiver p e = refl
+  by_slot r (kept.Closure body home lexical) callable k receiver p e = refl
+  by_slot r (kept.Held h) callable k receiver p e = refl
+  by_slot r (kept.Bound target this args) callable k receiver p e = refl
+  by_slot r (kept.Proxy o) callable k receiver p e = cc
+  by_slot r (kept.Table es) callable k receiver p e = refl
+  by_slot r (kept.Chamber g) callable k receiver p e = refl
+  by_slot r (kept.Promised x) callable k receiver p e = refl
+  by_slot r (kept.Namespace sc ex) callable k receiver p e = refl
+
+  own_origin : (id : ℕ) → origin_of me (reference.Own (record { 0 = me }) (record { 0 = id })) ≡ Own id
+  own_origin id = ap (λ b. if b then Own id else Foreign) (eq-eqb me me refl)
+
+  pub data_decided : (id : ℕ) (k : Key MadeSymbol) (v receiver : MachineValue) (p : MachineParty) → HasData p.objects id k v
+      → decides (naming_of me) shared (own_object me id) (ask.Get k receiver) p ≡ give v p
+  data_decided id k v receiver p d =
+      let names = naming_of me in
+      let r : Ref = reference.Own (record { 0 = me }) (record { 0 = id }) in
+      let from : origin_of me r ≡ Own id = own_origin id in
+      ap (λ (o : Object Ref MadeSymbol). decides_by_slot names shared r o.slot o.marks.callable (ask.Get k receiver) p) (ap (object_of names.common p.objects shared.objects) from)
+      ∙ by_slot r (object_at p.objects id).slot (object_at p.objects id).marks.callable k receiver p d.decides
+      ∙ ap (λ x. follows_with names shared r x p) (
+      ap (λ o. decided_there names p.objects shared.objects r (ask.Get k receiver) (there p.objects shared.objects o)) from
+      ∙ ap (λ b. decided_there names p.objects shared.objects r (ask.Get k receiver) (if b then Some (Own id) else None)) (lt-ltb id (length p.objects) d.there)
+      ∙ ap (λ x. (as_exotic (get_own k receiver (object_at p.objects id).prototype x), p.objects)) d.found)
+
+-- the ask of an own object is decided
+own_asked : (me id : ℕ) (x : Ask Ref MadeSymbol) (p : MachineParty) (next : Next Ref MadeSymbol) → asks_value (naming_of me) (own_object me id) x p next ≡ acts.Decide (own_object me id) x p next
+own_asked me id x p next = ap (λ b. ask_there (if b then Own id else Foreign) (reference.Own (record { 0 = me }) (record { 0 = id })) x p next) (eq-eqb me me refl)
+
+-- a number or a text is a key at once
+gets : (me id : ℕ) (shared : Shared) (w : MachineValue) (k : Key MadeSymbol) (p : MachineParty) → key_named w ≡ Some k
+    → get_key (naming_of me) shared (own_object me id) w p ≡ asks_value (naming_of me) (own_object me id) (ask.Get k (own_object me id)) p (with_value give)
+gets me id shared (value.Int n) k p e = let same : key_of_text (signed_decimal n) ≡ k = cc in ap (λ x. asks_value (naming_of me) (own_object me id) (ask.Get x (own_object me id)) p (with_value give)) same
+gets me id shared (value.Text t) k p e = let same : key_of_text t ≡ k = cc in ap (λ x. asks_value (naming_of me) (own_object me id) (ask.Get x (own_object me id)) p (with_value give)) same
+gets me id shared value.Undefined k p e = cc
+gets me id shared value.Null k p e = cc
+gets me id shared (value.Bool b) k p e = cc
+gets me id shared (value.Symbol s) k p e = cc
+gets me id shared (value.Ref r) k p e = cc
+
 -- FORMS
 
-module _ (code : Tables) (scopes : List (Scope Ref MadeSymbol)) (scope at : ℕ) where
+module _ (s : Sight) (at : ℕ) where
   abbrev pub IsRow : Node → Type 0
-  IsRow n = out-Term (term_at code at) ≡ layer_of code (term_at code) n
+  IsRow n = out-Term (term_at s.code at) ≡ layer_of s.code (term_at s.code) n
 
   -- what the row of a form leads to, once it is charged
-  begun : (me : ℕ) (shared : Shared) (env : Env Ref) (p : MachineParty) (ks : List (Next Ref MadeSymbol)) (charges limit steps : ℕ) (n : Node) → IsRow n → charge p.meter steps limit 1 ≡ Charged
-      → run_for (naming_of me) shared env (suc charges) limit steps (Due 0 (Begins (term_at code at)) p ks)
-      ≡ run_for (naming_of me) shared env charges limit (steps + 1) (settle (naming_of me) shared env ks (answered (naming_of me) env (row_at (naming_of me) shared (layer_of code (term_at code) n) p)))
-  begun me shared env p ks charges limit steps n e a =
-      one (naming_of me) shared env charges limit steps (Begins (term_at code at)) p ks a
-      ∙ ap (λ l. run_for (naming_of me) shared env charges limit (steps + 1) (settle (naming_of me) shared env ks (answered (naming_of me) env (row_at (naming_of me) shared l p)))) e
+  begun : (shared : Shared) (env : Env Ref) (p : MachineParty) (ks : List (Next Ref MadeSymbol)) (charges limit steps : ℕ) (n : Node) → IsRow n → charge p.meter steps limit 1 ≡ Charged
+      → run_for (naming_of s.me) shared env (suc charges) limit steps (Due 0 (Begins (term_at s.code at)) p ks)
+      ≡ run_for (naming_of s.me) shared env charges limit (steps + 1) (settle (naming_of s.me) shared env ks (answered (naming_of s.me) env (row_at (naming_of s.me) shared (layer_of s.code (term_at s.code) n) p)))
+  begun shared env p ks charges limit steps n e a =
+      one (naming_of s.me) shared env charges limit steps (Begins (term_at s.code at)) p ks a
+      ∙ ap (λ l. run_for (naming_of s.me) shared env charges limit (steps + 1) (settle (naming_of s.me) shared env ks (answered (naming_of s.me) env (row_at (naming_of s.me) shared l p)))) e
 
-  -- a number
-  pub literal : (n : ℤ) → IsRow (node.Int n) → GivesAtOnce code scopes scope at (value.Int n) 1
-  literal n e =
+  -- a form whose row gives a value
+  gives_row : (n : Node) (v : MachineValue) → IsRow n → ((shared : Shared) (p : MachineParty) → row_at (naming_of s.me) shared (layer_of s.code (term_at s.code) n) p ≡ give v p) → GivesAtOnce s at v 1
+  gives_row n v e does =
       record {
-        gives = λ me shared env p ks charges limit steps s t a.
+        gives = λ shared env p ks charges limit steps o t u a.
             (let count : 1 + charges ≡ suc charges = omega arith in
-            ap (λ m. run_for (naming_of me) shared env m limit steps (Due 0 (Begins (term_at code at)) p ks)) count ∙ begun me shared env p ks charges limit steps (node.Int n) e a);
+            ap (λ m. run_for (naming_of s.me) shared env m limit steps (Due 0 (Begins (term_at s.code at)) p ks)) count ∙ begun shared env p ks charges limit steps n e a
+            ∙ ap (λ x. run_for (naming_of s.me) shared env charges limit (steps + 1) (settle (naming_of s.me) shared env ks (answered (naming_of s.me) env x))) (does shared p));
       }
 
+  -- literals
+  pub literal : (n : ℤ) → IsRow (node.Int n) → GivesAtOnce s at (value.Int n) 1
+  literal n e = gives_row (node.Int n) (value.Int n) e (λ shared p. refl)
+
+  pub undefined : IsRow node.Undefined → GivesAtOnce s at value.Undefined 1
+  undefined e = gives_row node.Undefined value.Undefined e (λ shared p. refl)
+
+  pub null : IsRow node.Null → GivesAtOnce s at value.Null 1
+  null e = gives_row node.Null value.Null e (λ shared p. refl)
+
+  pub truth : (b : Bool) → IsRow (node.Bool b) → GivesAtOnce s at (value.Bool b) 1
+  truth b e = gives_row (node.Bool b) (value.Bool b) e (λ shared p. refl)
+
+  pub name : (t : ℕ) → IsRow (node.Text t) → GivesAtOnce s at (value.Text (text_at s.code t)) 1
+  name t e = gives_row (node.Text t) (value.Text (text_at s.code t)) e (λ shared p. refl)
+
   -- a slot that has a value
-  pub slot : (h i : ℕ) (v : MachineValue) → IsRow (node.Local h i) → slot_of scopes (outwards scopes h scope) i ≡ Some v → GivesAtOnce code scopes scope at v 1
+  pub slot : (h i : ℕ) (v : MachineValue) → IsRow (node.Local h i) → slot_of s.scopes (outwards s.scopes h s.scope) i ≡ Some v → GivesAtOnce s at v 1
   slot h i v e f =
       record {
-        gives = λ me shared env p ks charges limit steps s t a.
-            (let there : slot_of p.scopes (outwards p.scopes h (running p).scope) i ≡ Some v = (λ j. slot_of (s j) (outwards (s j) h (t j)) i) ∙ f in
+        gives = λ shared env p ks charges limit steps o t u a.
+            (let there : slot_of p.scopes (outwards p.scopes h (running p).scope) i ≡ Some v = (λ j. slot_of (t j) (outwards (t j) h (u j)) i) ∙ f in
             let count : 1 + charges ≡ suc charges = omega arith in
-            ap (λ m. run_for (naming_of me) shared env m limit steps (Due 0 (Begins (term_at code at)) p ks)) count
-            ∙ begun me shared env p ks charges limit steps (node.Local h i) e a
-            ∙ ap (λ o. run_for (naming_of me) shared env charges limit (steps + 1) (settle (naming_of me) shared env ks (answered (naming_of me) env (read_slot (naming_of me) o p)))) there);
+            ap (λ m. run_for (naming_of s.me) shared env m limit steps (Due 0 (Begins (term_at s.code at)) p ks)) count
+            ∙ begun shared env p ks charges limit steps (node.Local h i) e a
+            ∙ ap (λ o. run_for (naming_of s.me) shared env charges limit (steps + 1) (settle (naming_of s.me) shared env ks (answered (naming_of s.me) env (read_slot (naming_of s.me) o p)))) there);
       }
 
   -- `+` of a number
-  pub plus : (operand : ℕ) (n : ℤ) (k all : ℕ) → IsRow (node.Unary unary_op.Plus operand) → GivesAtOnce code scopes scope operand (value.Int n) k → all ≡ 1 + k → GivesAtOnce code scopes scope at (value.Int n) all
+  pub plus : (operand : ℕ) (n : ℤ) (k all : ℕ) → IsRow (node.Unary unary_op.Plus operand) → GivesAtOnce s operand (value.Int n) k → all ≡ 1 + k → GivesAtOnce s at (value.Int n) all
   plus operand n k all e first sum =
       record {
-        gives = λ me shared env p ks charges limit steps s t a.
-            (let names = naming_of me in
+        gives = λ shared env p ks charges limit steps o t u a.
+            (let names = naming_of s.me in
             let next : Next Ref MadeSymbol = with_value (unary_value names shared unary_op.Plus) in
             let one_left : charge p.meter steps limit 1 ≡ Charged = part p.meter steps steps limit 1 all (omega (arith, sum)) a in
             let all_left : charge p.meter (steps + 1) limit k ≡ Charged = part p.meter steps (steps + 1) limit k all (omega (arith, sum)) a in
             let count : all + charges ≡ suc (k + charges) = omega (arith, sum) in
             let paid : steps + 1 + k ≡ steps + all = omega (arith, sum) in
-            ap (λ m. run_for names shared env m limit steps (Due 0 (Begins (term_at code at)) p ks)) count
-            ∙ begun me shared env p ks (k + charges) limit steps (node.Unary unary_op.Plus operand) e one_left
-            ∙ first.gives me shared env p (next ∷ ks) charges limit (steps + 1) s t all_left
+            ap (λ m. run_for names shared env m limit steps (Due 0 (Begins (term_at s.code at)) p ks)) count
+            ∙ begun shared env p ks (k + charges) limit steps (node.Unary unary_op.Plus operand) e one_left
+            ∙ first.gives shared env p (next ∷ ks) charges limit (steps + 1) o t u all_left
             ∙ ap (λ m. run_for names shared env charges limit m (settle names shared env ks (Gives (Replied (reply.Value (value.Int n))) p))) paid);
       }
 
   -- an operator with two operands
   pub binary : (o : BinaryOperator) (left right : ℕ) (x y v : MachineValue) (i j all : ℕ) → IsRow (node.Binary o left right)
       → ((me : ℕ) (shared : Shared) (p : MachineParty) → binary_value (naming_of me) shared o x y p ≡ give v p)
-      → GivesAtOnce code scopes scope left x i → GivesAtOnce code scopes scope right y j → all ≡ 1 + i + j → GivesAtOnce code scopes scope at v all
+      → GivesAtOnce s left x i → GivesAtOnce s right y j → all ≡ 1 + i + j → GivesAtOnce s at v all
   binary o left right x y v i j all e does first second sum =
       record {
-        gives = λ me shared env p ks charges limit steps s t a.
-            (let names = naming_of me in
-            let has_none : Next Ref MadeSymbol = with_value (binary_left names shared o (term_at code right)) in
+        gives = λ shared env p ks charges limit steps h t u a.
+            (let names = naming_of s.me in
+            let has_none : Next Ref MadeSymbol = with_value (binary_left names shared o (term_at s.code right)) in
             let has_left : Next Ref MadeSymbol = with_value (binary_value names shared o x) in
             let one_left : charge p.meter steps limit 1 ≡ Charged = part p.meter steps steps limit 1 all (omega (arith, sum)) a in
             let some_left : charge p.meter (steps + 1) limit i ≡ Charged = part p.meter steps (steps + 1) limit i all (omega (arith, sum)) a in
             let all_left : charge p.meter (steps + 1 + i) limit j ≡ Charged = part p.meter steps (steps + 1 + i) limit j all (omega (arith, sum)) a in
             let count : all + charges ≡ suc (i + (j + charges)) = omega (arith, sum) in
             let paid : steps + 1 + i + j ≡ steps + all = omega (arith, sum) in
-            ap (λ m. run_for names shared env m limit steps (Due 0 (Begins (term_at code at)) p ks)) count
-            ∙ begun me shared env p ks (i + (j + charges)) limit steps (node.Binary o left right) e one_left
-            ∙ first.gives me shared env p (has_none ∷ ks) (j + charges) limit (steps + 1) s t some_left
-            ∙ second.gives me shared env p (has_left ∷ ks) charges limit (steps + 1 + i) s t all_left
-            ∙ ap (λ act. run_for names shared env charges limit (steps + 1 + i + j) (settle names shared env ks (answered names env act))) (does me shared p)
+            ap (λ m. run_for names shared env m limit steps (Due 0 (Begins (term_at s.code at)) p ks)) count
+            ∙ begun shared env p ks (i + (j + charges)) limit steps (node.Binary o left right) e one_left
+            ∙ first.gives shared env p (has_none ∷ ks) (j + charges) limit (steps + 1) h t u some_left
+            ∙ second.gives shared env p (has_left ∷ ks) charges limit (steps + 1 + i) h t u all_left
+            ∙ ap (λ act. run_for names shared env charges limit (steps + 1 + i + j) (settle names shared env ks (answered names env act))) (does s.me shared p)
             ∙ ap (λ m. run_for names shared env charges limit m (settle names shared env ks (Gives (Replied (reply.Value v)) p))) paid);
       }
 
-  -- WHAT THE CODE GIVES
+  -- an own data property of an object of the party
+  pub property : (object key id : ℕ) (w v : MachineValue) (k : Key MadeSymbol) (j all : ℕ) → IsRow (node.Get object key) → GivesAtOnce s object (own_object s.me id) 1 → GivesAtOnce s key w j → key_named w ≡ Some k → HasData s.objects id k v
+      → all ≡ 3 + j → GivesAtOnce s at v all
+  property object key id w v k j all e first second named has sum =
+      record {
+        gives = λ shared env p ks charges limit steps h t u a.
+            (let names = naming_of s.me in
+            let o = own_object s.me id in
+            let has_none : Next Ref MadeSymbol = with_value (get_object names shared (term_at s.code key)) in
+            let has_object : Next Ref MadeSymbol = with_value (get_key names shared o) in
+            let has_key : Next Ref MadeSymbol = with_value give in
+            let one_left : charge p.meter steps limit 1 ≡ Charged = part p.meter steps steps limit 1 all (omega (arith, sum)) a in
+            let some_left : charge p.meter (steps + 1) limit 1 ≡ Charged = part p.meter steps (steps + 1) limit 1 all (omega (arith, sum)) a in
+            let key_left : charge p.meter (steps + 1 + 1) limit j ≡ Charged = part p.meter steps (steps + 1 + 1) limit j all (omega (arith, sum)) a in
+            let all_left : charge p.meter (steps + 1 + 1 + j) limit 1 ≡ Charged = part p.meter steps (steps + 1 + 1 + j) limit 1 all (omega (arith, sum)) a in
+            let count : all + charges ≡ suc (1 + (j + suc charges)) = omega (arith, sum) in
+            let paid : steps + 1 + 1 + j + 1 ≡ steps + all = omega (arith, sum) in
+            ap (λ m. run_for names shared env m limit steps (Due 0 (Begins (term_at s.code at)) p ks)) count
+            ∙ begun shared env p ks (1 + (j + suc charges)) limit steps (node.Get object key) e one_left
+            ∙ first.gives shared env p (has_none ∷ ks) (j + suc charges) limit (steps + 1) h t u some_left
+            ∙ second.gives shared env p (has_object ∷ ks) (suc charges) limit (steps + 1 + 1) h t u key_left
+            ∙ ap (λ act. run_for names shared env (suc charges) limit (steps + 1 + 1 + j) (settle names shared env ks (answered names env act))) (gets s.me id shared w k p named)
+            ∙ ap (λ act. run_for names shared env (suc charges) limit (steps + 1 + 1 + j) (settle names shared env ks (answered names env act))) (own_asked s.me id (ask.Get k o) p has_key)
+            ∙ one names shared env charges limit (steps + 1 + 1 + j) (Decides o (ask.Get k o)) p (has_key ∷ ks) all_left
+            ∙ ap (λ act. run_for names shared env charges limit (steps + 1 + 1 + j + 1) (settle names shared env (has_key ∷ ks) (answered names env act))) (data_decided s.me shared id k v o p (subst (λ os. HasData os id k v) (sym h) has))
+            ∙ ap (λ m. run_for names shared env charges limit m (settle names shared env ks (Gives (Replied (reply.Value v)) p))) paid);
+      }
 
-  row_is : (n m : Node) → IsRow n → n ≡ m → IsRow m
-  row_is n m e f = e ∙ ap (layer_of code (term_at code)) f
+-- WHAT THE CODE GIVES
 
-  pub number_literal : (n : Node) (i : ℤ) → IsRow n → n ≡ node.Int i → GivesNumber code scopes scope at (record { number = i; steps = 1 })
-  number_literal n i e f = literal i (row_is n (node.Int i) e f)
+-- a slot that has an object of the party
+pub own_slot : (s : Sight) (at h i k : ℕ) (n : Node) (p : PartyId) (id : ObjId) → out-Term (term_at s.code at) ≡ layer_of s.code (term_at s.code) n → n ≡ node.Local h i → slot_of s.scopes k i ≡ Some (value.Ref (reference.Own p id)) → k ≡ outwards s.scopes h s.scope
+    → p.0 ≡ s.me → GivesAtOnce s at (own_object s.me id.0) 1
+own_slot s at h i k n p id e f there same mine =
+    subst (λ (q : ℕ). GivesAtOnce s at (value.Ref (reference.Own (record { 0 = q }) id)) 1) mine
+    (slot s at h i (value.Ref (reference.Own p id)) (e ∙ ap (layer_of s.code (term_at s.code)) f) (ap (λ j. slot_of s.scopes j i) (sym same) ∙ there))
 
-  pub number_slot : (n : Node) (h i : ℕ) (o : Option Counted) → IsRow n → n ≡ node.Local h i
-      → IfSome o (λ c. (slot_of scopes (outwards scopes h scope) i ≡ Some (value.Int c.number)) × (c.steps ≡ 1)) → IfSome o (GivesNumber code scopes scope at)
-  number_slot n h i (Some c) e f (v, k) = subst (λ s. GivesAtOnce code scopes scope at (value.Int c.number) s) (sym k) (slot h i (value.Int c.number) (row_is n (node.Local h i) e f) v)
+name_at : (s : Sight) (key t : ℕ) (n : Node) → out-Term (term_at s.code key) ≡ layer_of s.code (term_at s.code) n → n ≡ node.Text t → GivesAtOnce s key (value.Text (text_at s.code t)) 1
+name_at s key t n e f = name s key t (e ∙ ap (layer_of s.code (term_at s.code)) f)
+
+module _ (s : Sight) (at : ℕ) where
+  row_is : (n m : Node) → IsRow s at n → n ≡ m → IsRow s at m
+  row_is n m e f = e ∙ ap (layer_of s.code (term_at s.code)) f
+
+  pub number_literal : (n : Node) (i : ℤ) → IsRow s at n → n ≡ node.Int i → GivesNumber s at (record { number = i; steps = 1 })
+  number_literal n i e f = literal s at i (row_is n (node.Int i) e f)
+
+  pub number_slot : (n : Node) (h i : ℕ) (o : Option Counted) → IsRow s at n → n ≡ node.Local h i
+      → IfSome o (λ c. (slot_of s.scopes (outwards s.scopes h s.scope) i ≡ Some (value.Int c.number)) × (c.steps ≡ 1)) → IfSome o (GivesNumber s at)
+  number_slot n h i (Some c) e f (v, k) = subst (λ m. GivesAtOnce s at (value.Int c.number) m) (sym k) (slot s at h i (value.Int c.number) (row_is n (node.Local h i) e f) v)
   number_slot n h i None e f g = tt
 
-  pub number_binary : (n : Node) (op : BinaryOperator) (left right : ℕ) (o : Option Counted) (x y : Counted) → IsRow n → n ≡ node.Binary op left right → GivesNumber code scopes scope left x → GivesNumber code scopes scope right y
-      → IfSome o (λ c. number_or_end (numeric op x.number y.number) ≡ Is c.number) → IfSome o (λ c. c.steps ≡ 1 + x.steps + y.steps) → IfSome o (GivesNumber code scopes scope at)
+  pub number_binary : (n : Node) (op : BinaryOperator) (left right : ℕ) (o : Option Counted) (x y : Counted) → IsRow s at n → n ≡ node.Binary op left right → GivesNumber s left x → GivesNumber s right y
+      → IfSome o (λ c. number_or_end (numeric op x.number y.number) ≡ Is c.number) → IfSome o (λ c. c.steps ≡ 1 + x.steps + y.steps) → IfSome o (GivesNumber s at)
   number_binary n op left right (Some c) x y e f g h v k =
-      binary op left right (value.Int x.number) (value.Int y.number) (value.Int c.number) x.steps y.steps c.steps (row_is n (node.Binary op left right) e f) (λ me shared p. calculates (naming_of me) shared op x.number y.number c.number p v) g h k
+      binary s at op left right (value.Int x.number) (value.Int y.number) (value.Int c.number) x.steps y.steps c.steps (row_is n (node.Binary op left right) e f) (λ me shared p. calculates (naming_of me) shared op x.number y.number c.number p v) g h k
   number_binary n op left right None x y e f g h v k = tt
+
+  pub number_named : (n m : Node) (object key text id : ℕ) (o : Option Counted) → IsRow s at n → n ≡ node.Get object key → GivesAtOnce s object (own_object s.me id) 1
+      → out-Term (term_at s.code key) ≡ layer_of s.code (term_at s.code) m → m ≡ node.Text text
+      → IfSome o (λ c. HasData s.objects id (key_of_text (text_at s.code text)) (value.Int c.number) × (c.steps ≡ 4)) → IfSome o (GivesNumber s at)
+  number_named n m object key text id (Some c) e f g t y (d, k) =
+      property s at object key id (value.Text (text_at s.code text)) (value.Int c.number) (key_of_text (text_at s.code text)) 1 c.steps (row_is n (node.Get object key) e f) g
+      (name_at s key text m t y) refl d (omega (arith, k))
+  number_named n m object key text id None e f g t y d = tt
+
+  pub number_indexed : (n : Node) (object key id : ℕ) (o : Option Counted) (x : Counted) → IsRow s at n → n ≡ node.Get object key → GivesAtOnce s object (own_object s.me id) 1 → GivesNumber s key x
+      → IfSome o (λ c. HasData s.objects id (key_of_text (signed_decimal x.number)) (value.Int c.number) × (c.steps ≡ 3 + x.steps)) → IfSome o (GivesNumber s at)
+  number_indexed n object key id (Some c) x e f g h (d, k) = property s at object key id (value.Int x.number) (value.Int c.number) (key_of_text (signed_decimal x.number)) x.steps c.steps (row_is n (node.Get object key) e f) g h refl d k
+  number_indexed n object key id None x e f g h d = tt
 
 -- a number or a truth value of two numbers
 pub operates_truth : (o : BinaryOperator) (a b : ℤ) (r : Option Bool) (t : Bool) → r ≡ compared o a b → r ≡ Some t → Operates o a b (plain.Bool t)
@@ -201,21 +333,25 @@ operates_truth o a b r t e f = λ me shared p. compares (naming_of me) shared o 
 pub operates_number : (o : BinaryOperator) (a b n : ℤ) → number_or_end (numeric o a b) ≡ Is n → Operates o a b (plain.Int n)
 operates_number o a b n e = λ me shared p. calculates (naming_of me) shared o a b n p e
 
-module _ (code : Tables) (scopes : List (Scope Ref MadeSymbol)) (scope : ℕ) where
-  pub direct_binary : (o : BinaryOperator) (left right : ℕ) (x y : Counted) (v : Plain) (k : ℕ) → GivesNumber code scopes scope left x → GivesNumber code scopes scope right y → Operates o x.number y.number v → k ≡ 1 + x.steps + y.steps
-      → IsBinary code scopes scope o left right (record { value = v; steps = k })
-  direct_binary o left right x y v k g h does sum = λ at e. binary code scopes scope at o left right (value.Int x.number) (value.Int y.number) (value_of v) x.steps y.steps k e does g h sum
+module _ (s : Sight) where
+  pub direct_binary : (o : BinaryOperator) (left right : ℕ) (x y : Counted) (v : Plain) (k : ℕ) → GivesNumber s left x → GivesNumber s right y → Operates o x.number y.number v → k ≡ 1 + x.steps + y.steps
+      → IsDirectRow s (node.Binary o left right) (record { value = v; steps = k })
+  direct_binary o left right x y v k g h does sum = λ at e. binary s at o left right (value.Int x.number) (value.Int y.number) (value_of v) x.steps y.steps k e does g h sum
 
-  pub direct_plus : (operand : ℕ) (x : Counted) (k : ℕ) → GivesNumber code scopes scope operand x → k ≡ 1 + x.steps + 0 → IsUnary code scopes scope unary_op.Plus operand (record { value = plain.Int x.number; steps = k })
-  direct_plus operand x k g sum = λ at e. plus code scopes scope at operand x.number x.steps k e g (omega (arith, sum))
+  pub direct_plus : (operand : ℕ) (x : Counted) (k : ℕ) → GivesNumber s operand x → k ≡ 1 + x.steps + 0 → IsDirectRow s (node.Unary unary_op.Plus operand) (record { value = plain.Int x.number; steps = k })
+  direct_plus operand x k g sum = λ at e. plus s at operand x.number x.steps k e g (omega (arith, sum))
 
-  pub as_plus : (o : UnaryOperator) (operand : ℕ) (r : Option Direct) → o ≡ unary_op.Plus → IfSome r (IsUnary code scopes scope unary_op.Plus operand) → IfSome r (IsUnary code scopes scope o operand)
-  as_plus o operand r e h = subst (λ u. IfSome r (IsUnary code scopes scope u operand)) (sym e) h
+  pub as_plus : (o : UnaryOperator) (operand : ℕ) (r : Option Direct) → o ≡ unary_op.Plus → IfSome r (IsDirectRow s (node.Unary unary_op.Plus operand)) → IfSome r (IsDirectRow s (node.Unary o operand))
+  as_plus o operand r e h = subst (λ u. IfSome r (IsDirectRow s (node.Unary u operand))) (sym e) h
 
-  pub binary_row : (at : ℕ) (n : Node) (o : BinaryOperator) (left right : ℕ) (r : Option Direct) → out-Term (term_at code at) ≡ layer_of code (term_at code) n → n ≡ node.Binary o left right → IfSome r (IsBinary code scopes scope o left right) → IfSome r (IsDirect code scopes scope at)
-  binary_row at n o left right (Some d) e f h = h at (e ∙ ap (layer_of code (term_at code)) f)
-  binary_row at n o left right None e f h = tt
+  pub direct_named : (object key text id : ℕ) (v : Plain) → GivesAtOnce s object (own_object s.me id) 1 → HasData s.objects id (key_of_text (text_at s.code text)) (value_of v) → IsDirectNamed s object key text (record { value = v; steps = 4 })
+  direct_named object key text id v g d = λ t at e. property s at object key id (value.Text (text_at s.code text)) (value_of v) (key_of_text (text_at s.code text)) 1 4 e g (name s key text t) refl d refl
 
-  pub unary_row : (at : ℕ) (n : Node) (o : UnaryOperator) (operand : ℕ) (r : Option Direct) → out-Term (term_at code at) ≡ layer_of code (term_at code) n → n ≡ node.Unary o operand → IfSome r (IsUnary code scopes scope o operand) → IfSome r (IsDirect code scopes scope at)
-  unary_row at n o operand (Some d) e f h = h at (e ∙ ap (layer_of code (term_at code)) f)
-  unary_row at n o operand None e f h = tt
+  pub direct_indexed : (object key id : ℕ) (x : Counted) (v : Plain) (k : ℕ) → GivesAtOnce s object (own_object s.me id) 1 → GivesNumber s key x → HasData s.objects id (key_of_text (signed_decimal x.number)) (value_of v) → k ≡ 1 + 2 + x.steps
+      → IsDirectRow s (node.Get object key) (record { value = v; steps = k })
+  direct_indexed object key id x v k g h d sum = λ at e. property s at object key id (value.Int x.number) (value_of v) (key_of_text (signed_decimal x.number)) x.steps k e g h refl d sum
+
+  -- the row at a place is that one
+  pub at_row : (at : ℕ) (n m : Node) (r : Option Direct) → out-Term (term_at s.code at) ≡ layer_of s.code (term_at s.code) n → n ≡ m → IfSome r (IsDirectRow s m) → IfSome r (IsDirect s at)
+  at_row at n m (Some d) e f h = h at (e ∙ ap (layer_of s.code (term_at s.code)) f)
+  at_row at n m None e f h = tt

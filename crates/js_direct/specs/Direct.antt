@@ -1,18 +1,27 @@
 -- Forms that give a value at once: the charges of a run that evaluates one are known, and nothing changes meanwhile.
-use Rattle.std.specs.Prelude.{◌≡◌, ℕ, ◌+◌, Bool, not, List, Option, Some, None, ℤ, int_lt}
+use Rattle.std.specs.Prelude.{◌≡◌, ℕ, ◌+◌, ◌<◌, Bool, not, List, length, Option, Some, None, ℤ, int_lt}
+use Rattle.std.specs.Fmt.{signed_decimal}
 use Rattle.std.specs.Ordering.{int_eq}
+use Rattle.lava_base.specs.Ids.{same_made_symbol}
 use Rattle.lava_base.specs.declared.ids.MadeSymbol.{MadeSymbol}
 use Rattle.lava_base.specs.declared.ids.Ref.{Ref}
+use Rattle.lava_base.specs.declared.ids.Ref.TheVariants as reference
+use Rattle.js_text.specs.Indices.{key_of_text}
 use Rattle.js_text.specs.Naming.{naming_of}
+use Rattle.js_text.specs.declared.value.Key.{Key}
 use Rattle.js_text.specs.declared.value.Value.TheVariants as value
 use Rattle.js_tree.specs.declared.operator.BinaryOperator.{BinaryOperator}
 use Rattle.js_tree.specs.declared.operator.BinaryOperator.TheVariants as op
-use Rattle.js_tree.specs.declared.operator.UnaryOperator.{UnaryOperator}
 use Rattle.js_term.specs.declared.term.Term.{out-Term}
 use Rattle.js_code.specs.Decoded.{layer_of, term_at}
 use Rattle.js_code.specs.Tables.{Tables}
+use Rattle.js_code.specs.declared.node.Node.{Node}
 use Rattle.js_code.specs.declared.node.Node.TheVariants as node
+use Rattle.js_desc.specs.declared.descriptor.Descriptor.TheVariants.{Data}
 use Rattle.js_desc.specs.declared.reply.Reply.TheVariants as reply
+use Rattle.js_store.specs.Objects.{Object, Owned, object_at, ordinary_get_own_property}
+use Rattle.js_store.specs.declared.slot.Slot.{Slot}
+use Rattle.js_store.specs.declared.slot.Slot.TheVariants as slot
 use Rattle.js_state.specs.Scopes.{Scope}
 use Rattle.js_operation.specs.Deeds.{MachineParty}
 use Rattle.js_operation.specs.Operating.{MachineValue}
@@ -21,28 +30,70 @@ use Rattle.js_operation.specs.js_run.Completions.{Replied}
 use Rattle.js_operation.specs.js_run.Operators.{binary_value}
 use Rattle.js_operation.specs.js_run.Parties.{Shared, running}
 use Rattle.js_operation.specs.js_run.Runs.{Begins, Charged, Due, Env, Gives, charge, run_for, settle}
-use Rattle.js_direct.specs.declared.direct.Plain.{Plain}
-use Rattle.js_direct.specs.declared.direct.Plain.TheVariants as plain
 use Rattle.js_direct.specs.declared.direct.Direct.{Direct}
 use Rattle.js_direct.specs.declared.numbers.Counted.{Counted}
+use Rattle.js_direct.specs.declared.plain.Plain.{Plain}
+use Rattle.js_direct.specs.declared.plain.Plain.TheVariants as plain
 
--- the form at a place gives a value after so many steps, where these can be paid together, and changes nothing: of each party that has these scopes and stands in this one, whatever waits
-pub record GivesAtOnce (code : Tables) (scopes : List (Scope Ref MadeSymbol)) (scope at : ℕ) (v : MachineValue) (k : ℕ) : Type 0 where
-  pub gives : (me : ℕ) (shared : Shared) (env : Env Ref) (p : MachineParty) (ks : List (Next Ref MadeSymbol)) (charges limit steps : ℕ)
-      → p.scopes ≡ scopes → (running p).scope ≡ scope → charge p.meter steps limit k ≡ Charged
-      → run_for (naming_of me) shared env (k + charges) limit steps (Due 0 (Begins (term_at code at)) p ks)
-      ≡ run_for (naming_of me) shared env charges limit (steps + k) (settle (naming_of me) shared env ks (Gives (Replied (reply.Value v)) p))
+-- where a party stands: its number and objects, the code, its scopes, and the scope of the body that runs
+pub record Sight : Type 0 where
+  pub me : ℕ
+  pub code : Tables
+  pub objects : List (Object Ref MadeSymbol)
+  pub scopes : List (Scope Ref MadeSymbol)
+  pub scope : ℕ
 
-abbrev pub GivesNumber : Tables → List (Scope Ref MadeSymbol) → (scope at : ℕ) → Counted → Type 0
-GivesNumber code scopes scope at c = GivesAtOnce code scopes scope at (value.Int c.number) c.steps
+abbrev pub seen : Owned → Tables → List (Scope Ref MadeSymbol) → (scope : ℕ) → Sight
+seen store code scopes scope = record { me = store.party.0; code = code; objects = store.objects; scopes = scopes; scope = scope }
 
--- a number or a truth value
+-- the form at a place gives a value after so many steps, where these can be paid together, and changes nothing: of each party that has these objects and scopes and stands in this one, whatever waits
+pub record GivesAtOnce (s : Sight) (at : ℕ) (v : MachineValue) (k : ℕ) : Type 0 where
+  pub gives : (shared : Shared) (env : Env Ref) (p : MachineParty) (ks : List (Next Ref MadeSymbol)) (charges limit steps : ℕ)
+      → p.objects ≡ s.objects → p.scopes ≡ s.scopes → (running p).scope ≡ s.scope → charge p.meter steps limit k ≡ Charged
+      → run_for (naming_of s.me) shared env (k + charges) limit steps (Due 0 (Begins (term_at s.code at)) p ks)
+      ≡ run_for (naming_of s.me) shared env charges limit (steps + k) (settle (naming_of s.me) shared env ks (Gives (Replied (reply.Value v)) p))
+
+abbrev pub GivesNumber : Sight → (at : ℕ) → Counted → Type 0
+GivesNumber s at c = GivesAtOnce s at (value.Int c.number) c.steps
+
+-- the value of a plain one
 abbrev pub value_of : Plain → MachineValue
-value_of (plain.Int n) = value.Int n
+value_of plain.Undefined = value.Undefined
+value_of plain.Null = value.Null
 value_of (plain.Bool b) = value.Bool b
+value_of (plain.Int n) = value.Int n
+value_of (plain.Ref r) = value.Ref r
 
-abbrev pub IsDirect : Tables → List (Scope Ref MadeSymbol) → (scope at : ℕ) → Direct → Type 0
-IsDirect code scopes scope at d = GivesAtOnce code scopes scope at (value_of d.value) d.steps
+abbrev pub IsDirect : Sight → (at : ℕ) → Direct → Type 0
+IsDirect s at d = GivesAtOnce s at (value_of d.value) d.steps
+
+-- PROPERTIES
+
+-- the key that a number or a text is
+-- ECMA-262 ToPropertyKey, of a number or a text
+abbrev pub key_named : MachineValue → Option (Key MadeSymbol)
+key_named (value.Int n) = Some (key_of_text (signed_decimal n))
+key_named (value.Text t) = Some (key_of_text t)
+key_named v = None
+
+abbrev pub is_proxy : Slot Ref MadeSymbol → Bool
+is_proxy (slot.Proxy p) = Bool.true
+is_proxy s = Bool.false
+
+-- an object of the party, which is no proxy, has a data property of its own, with this value
+pub record HasData (objects : List (Object Ref MadeSymbol)) (id : ℕ) (key : Key MadeSymbol) (v : MachineValue) : Type 0 where
+  pub there : id < length objects
+  pub decides : is_proxy (object_at objects id).slot ≡ Bool.false
+  pub writable : Bool
+  pub enumerable : Bool
+  pub configurable : Bool
+  pub found : ordinary_get_own_property same_made_symbol key (object_at objects id).properties ≡ Some (Data v writable enumerable configurable)
+
+-- an own object
+abbrev pub own_object : (me id : ℕ) → MachineValue
+own_object me id = value.Ref (reference.Own (record { 0 = me }) (record { 0 = id }))
+
+-- OPERATORS
 
 -- how an operator compares two numbers, if it does
 -- ECMA-262 IsLessThan
@@ -62,9 +113,12 @@ compared o a b = None
 abbrev pub Operates : BinaryOperator → ℤ → ℤ → Plain → Type 0
 Operates o a b v = (me : ℕ) (shared : Shared) (p : MachineParty) → binary_value (naming_of me) shared o (value.Int a) (value.Int b) p ≡ give (value_of v) p
 
--- the form at a place is an operator with these operands
-abbrev pub IsBinary : Tables → List (Scope Ref MadeSymbol) → (scope : ℕ) → BinaryOperator → (left right : ℕ) → Direct → Type 0
-IsBinary code scopes scope o left right d = (at : ℕ) → out-Term (term_at code at) ≡ layer_of code (term_at code) (node.Binary o left right) → IsDirect code scopes scope at d
+-- WHAT ROWS GIVE
 
-abbrev pub IsUnary : Tables → List (Scope Ref MadeSymbol) → (scope : ℕ) → UnaryOperator → (operand : ℕ) → Direct → Type 0
-IsUnary code scopes scope o operand d = (at : ℕ) → out-Term (term_at code at) ≡ layer_of code (term_at code) (node.Unary o operand) → IsDirect code scopes scope at d
+-- the form at each place with this row gives that
+abbrev pub IsDirectRow : Sight → Node → Direct → Type 0
+IsDirectRow s n d = (at : ℕ) → out-Term (term_at s.code at) ≡ layer_of s.code (term_at s.code) n → IsDirect s at d
+
+-- so does the one that reads a property whose key, at its place, is a name
+abbrev pub IsDirectNamed : Sight → (object key name : ℕ) → Direct → Type 0
+IsDirectNamed s object key name d = out-Term (term_at s.code key) ≡ layer_of s.code (term_at s.code) (node.Text name) → IsDirectRow s (node.Get object key) d

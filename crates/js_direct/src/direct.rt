@@ -1,22 +1,25 @@
-// Forms that give a number or a truth value at once.
+// Forms that give a plain value at once.
 
-ghost use Rattle.std.specs.Prelude.{◌≡◌, IfSome};
+ghost use Rattle.std.specs.Prelude.{◌≡◌, ◌+◌, IfSome, Some};
+ghost use Rattle.std.specs.Fmt.{signed_decimal};
+ghost use Rattle.js_text.specs.Indices.{key_of_text};
+ghost use Rattle.js_state.specs.Scopes.{outwards, slot_of};
 ghost use Rattle.js_tree.specs.declared.operator.UnaryOperator.TheVariants.{Plus};
-ghost use Rattle.js_direct.specs.Direct.{IsBinary, IsDirect, IsUnary, Operates, compared};
+ghost use Rattle.js_code.specs.declared.node.Node.TheVariants as node;
+ghost use Rattle.js_direct.specs.Direct.{HasData, IsDirect, IsDirectNamed, IsDirectRow, Operates, compared, seen, value_of};
 
 use crate::numbers::{DEPTH, number_at, steps_of};
+use crate::plain::{Plain, plain_of};
+use crate::properties::{indexed_data, named_data, object_at};
 use js_code::code::Code;
 use js_code::node::Node;
 use js_operators::numbers::number_by;
 use js_state::scopes::Scopes;
+use js_store::flat::FlatStore;
+use js_text::text::Text;
+use js_text::value::Value;
 use js_tree::operator::{BinaryOperator, UnaryOperator};
-
-/// A number or a truth value.
-#[derive(Clone, Copy)]
-pub enum Plain {
-    Int(i64),
-    Bool(bool),
-}
+use lava_base::ids::ObjId;
 
 /// What a form gives, and how many steps that takes.
 #[derive(Clone, Copy)]
@@ -61,18 +64,20 @@ fn operated(operator: BinaryOperator, left: i64, right: i64) -> Option<Plain>
 #[tactic(auto, using(crate::proofs::Given::direct_binary))]
 fn binary_at(
     code: &Code,
+    store: &FlatStore,
     scopes: &Scopes,
     scope: u32,
     operator: BinaryOperator,
     left: u32,
     right: u32,
 ) -> Option<Direct>
-    ensures { IfSome result (IsBinary code.now scopes.now scope operator left right) }
+    ensures { let sight = seen store.now code.now scopes.now scope in
+        IfSome result (IsDirectRow sight (node.Binary operator left right)) }
 {
-    let Some(left) = number_at(code, scopes, scope, left, DEPTH) else {
+    let Some(left) = number_at(code, store, scopes, scope, left, DEPTH) else {
         return None;
     };
-    let Some(right) = number_at(code, scopes, scope, right, DEPTH) else {
+    let Some(right) = number_at(code, store, scopes, scope, right, DEPTH) else {
         return None;
     };
     let Some(steps) = steps_of(left.steps, right.steps) else {
@@ -87,10 +92,17 @@ fn binary_at(
 /// What `+` gives, where its operand gives a number at once.
 #[inline]
 #[tactic(auto, using(crate::proofs::Given::direct_plus))]
-fn plus_at(code: &Code, scopes: &Scopes, scope: u32, operand: u32) -> Option<Direct>
-    ensures { IfSome result (IsUnary code.now scopes.now scope Plus operand) }
+fn plus_at(
+    code: &Code,
+    store: &FlatStore,
+    scopes: &Scopes,
+    scope: u32,
+    operand: u32,
+) -> Option<Direct>
+    ensures { let sight = seen store.now code.now scopes.now scope in
+        IfSome result (IsDirectRow sight (node.Unary Plus operand)) }
 {
-    let Some(operand) = number_at(code, scopes, scope, operand, DEPTH) else {
+    let Some(operand) = number_at(code, store, scopes, scope, operand, DEPTH) else {
         return None;
     };
     let Some(steps) = steps_of(operand.steps, 0) else {
@@ -107,32 +119,170 @@ fn plus_at(code: &Code, scopes: &Scopes, scope: u32, operand: u32) -> Option<Dir
 #[tactic(auto, using(crate::proofs::Given::as_plus))]
 fn unary_at(
     code: &Code,
+    store: &FlatStore,
     scopes: &Scopes,
     scope: u32,
     operator: UnaryOperator,
     operand: u32,
 ) -> Option<Direct>
-    ensures { IfSome result (IsUnary code.now scopes.now scope operator operand) }
+    ensures { let sight = seen store.now code.now scopes.now scope in
+        IfSome result (IsDirectRow sight (node.Unary operator operand)) }
 {
     match operator {
-        UnaryOperator::Plus => plus_at(code, scopes, scope, operand),
+        UnaryOperator::Plus => plus_at(code, store, scopes, scope, operand),
         _ => None,
     }
 }
 
-/// What an operator gives at once, if it does.
+/// A slot that has a plain value.
 #[inline]
-#[tactic(auto, using(crate::proofs::Given::binary_row, crate::proofs::Given::unary_row))]
-pub fn value_at(code: &Code, scopes: &Scopes, scope: u32, at: u32) -> Option<Direct>
-    ensures { IfSome result (IsDirect code.now scopes.now scope at) }
+fn slot_at(scopes: &Scopes, scope: u32, hops: u32, slot: u32) -> Option<Plain>
+    ensures { let value = slot_of scopes.now (outwards scopes.now hops scope) slot in
+        IfSome result (λ p. value ≡ Some (value_of p)) }
+{
+    match scopes.value(scopes.outward(scope, hops), slot) {
+        Some(value) => plain_of(value),
+        None => None,
+    }
+}
+
+/// A named property that has a plain value.
+#[inline]
+fn named_plain(store: &FlatStore, id: ObjId, name: &Text) -> Option<Plain>
+    ensures { let key = key_of_text name.now in
+        IfSome result (λ p. HasData store.now.objects id.0 key (value_of p)) }
+{
+    match named_data(store, id, name) {
+        Some(value) => plain_of(value),
+        None => None,
+    }
+}
+
+/// An indexed property that has a plain value.
+#[inline]
+fn indexed_plain(store: &FlatStore, id: ObjId, number: i64) -> Option<Plain>
+    ensures { let key = key_of_text (signed_decimal number) in
+        IfSome result (λ p. HasData store.now.objects id.0 key (value_of p)) }
+{
+    match indexed_data(store, id, number) {
+        Some(value) => plain_of(value),
+        None => None,
+    }
+}
+
+/// What the property of an object with a name gives, where it has a plain value.
+#[inline]
+#[tactic(auto, using(crate::proofs::Given::direct_named))]
+fn named_at(
+    code: &Code,
+    store: &FlatStore,
+    scopes: &Scopes,
+    scope: u32,
+    object: u32,
+    key: u32,
+    name: u32,
+) -> Option<Direct>
+    ensures { let sight = seen store.now code.now scopes.now scope in
+        IfSome result (IsDirectNamed sight object key name) }
+{
+    let Some(id) = object_at(code, store, scopes, scope, object) else {
+        return None;
+    };
+    match named_plain(store, id, code.text(name)) {
+        Some(value) => Some(Direct { value, steps: 4 }),
+        None => None,
+    }
+}
+
+/// What the property of an object gives whose key gives a number at once.
+#[inline]
+#[tactic(auto, using(crate::proofs::Given::direct_indexed))]
+fn indexed_at(
+    code: &Code,
+    store: &FlatStore,
+    scopes: &Scopes,
+    scope: u32,
+    object: u32,
+    key: u32,
+) -> Option<Direct>
+    ensures { let sight = seen store.now code.now scopes.now scope in
+        IfSome result (IsDirectRow sight (node.Get object key)) }
+{
+    let Some(id) = object_at(code, store, scopes, scope, object) else {
+        return None;
+    };
+    let Some(index) = number_at(code, store, scopes, scope, key, DEPTH) else {
+        return None;
+    };
+    let Some(steps) = steps_of(2, index.steps) else {
+        return None;
+    };
+    match indexed_plain(store, id, index.number) {
+        Some(value) => Some(Direct { value, steps }),
+        None => None,
+    }
+}
+
+/// What a property gives at once, if it does.
+#[inline]
+fn property_at(
+    code: &Code,
+    store: &FlatStore,
+    scopes: &Scopes,
+    scope: u32,
+    object: u32,
+    key: u32,
+) -> Option<Direct>
+    ensures { let sight = seen store.now code.now scopes.now scope in
+        IfSome result (IsDirectRow sight (node.Get object key)) }
+{
+    match code.node(key) {
+        Node::Text(name) => named_at(code, store, scopes, scope, object, key, name),
+        _ => indexed_at(code, store, scopes, scope, object, key),
+    }
+}
+
+/// What a form gives at once, if it does.
+#[tactic(auto, using(crate::proofs::Given::at_row))]
+pub fn value_at(
+    code: &Code,
+    store: &FlatStore,
+    scopes: &Scopes,
+    scope: u32,
+    at: u32,
+) -> Option<Direct>
+    ensures { IfSome result (IsDirect (seen store.now code.now scopes.now scope) at) }
 {
     match code.node(at) {
+        Node::Undefined => Some(Direct {
+            value: Plain::Undefined,
+            steps: 1,
+        }),
+        Node::Null => Some(Direct {
+            value: Plain::Null,
+            steps: 1,
+        }),
+        Node::Bool(truth) => Some(Direct {
+            value: Plain::Bool(truth),
+            steps: 1,
+        }),
+        Node::Int(number) => Some(Direct {
+            value: Plain::Int(number),
+            steps: 1,
+        }),
+        Node::Local { hops, slot } => match slot_at(scopes, scope, hops, slot) {
+            Some(value) => Some(Direct { value, steps: 1 }),
+            None => None,
+        },
         Node::Binary {
             operator,
             left,
             right,
-        } => binary_at(code, scopes, scope, operator, left, right),
-        Node::Unary { operator, operand } => unary_at(code, scopes, scope, operator, operand),
+        } => binary_at(code, store, scopes, scope, operator, left, right),
+        Node::Unary { operator, operand } => unary_at(
+            code, store, scopes, scope, operator, operand,
+        ),
+        Node::Get { object, key } => property_at(code, store, scopes, scope, object, key),
         _ => None,
     }
 }

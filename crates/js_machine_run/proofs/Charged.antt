@@ -13,7 +13,6 @@ use Rattle.js_machine.specs.js_run.Completions.{Completion}
 use Rattle.js_machine.specs.js_run.Parties.{Party, Shared}
 use Rattle.js_machine.specs.js_run.Runs as runs
 use Rattle.js_machine.specs.js_run.Runs.{Begins, Charge, Charged, Decides, Due, Env, Gives, Job, Lacks, Nothing, Point, Short, Stopped, Stops, answered, at_steps, charge, run, run_for, settle, work}
-use Rattle.js_machine.specs.Bodies.{scope_of}
 use Rattle.js_machine.specs.Looks.{foreign_in}
 use Rattle.js_machine.specs.Steps.{Keeps, asked_at, point_of, settles}
 use Rattle.js_machine.specs.Stops.{IsRun, IsWorked, RunsFor, RunsOn, Stays, ask_cost, ask_stop, charge_of, cost_of, stop_at, stop_of, told_as, told_stop, with_steps, worked}
@@ -26,6 +25,7 @@ use Rattle.js_machine.specs.declared.stop.Charge.TheVariants as charge_kind
 use Rattle.js_machine.specs.declared.stop.Pause.{Pause}
 use Rattle.js_machine.specs.declared.stop.Stop.{Stop}
 use Rattle.js_machine.specs.declared.stop.Stop.TheVariants as stop
+use Rattle.js_machine_run.specs.Sights.{sight_of}
 use Rattle.js_machine_run.proofs.Handed.{fits, keeps_on, me_kept}
 use Rattle.js_machine.proofs.Looked.{decided_here, sent_away}
 
@@ -191,15 +191,15 @@ module _ (meter : Option ℕ) (charges limit steps : ℕ) (start : Mode) (first 
       }
 
   -- the charges of a form that gives a value at once
-  leaps_to : (at rest k spent : ℕ) (v : Value Ref MadeSymbol) (w : View) → Keeps first w → GivesAtOnce w.code w.scopes (scope_of w.bodies) at v k → charge meter spent limit k ≡ Charged → (a : Around) → a.rest.meter ≡ meter
+  leaps_to : (at rest k spent : ℕ) (v : Value Ref MadeSymbol) (w : View) → Keeps first w → GivesAtOnce (sight_of w) at v k → charge meter spent limit k ≡ Charged → (a : Around) → a.rest.meter ≡ meter
       → (let b = fitting first a in run_for (naming_of first.me) b.shared b.env (k + rest) limit spent (point_of b w (mode.Eval at)) ≡ run_for (naming_of first.me) b.shared b.env rest limit (spent + k) (point_of b (with_given v w) mode.Value))
   leaps_to at rest k spent v w keeps direct paid a h =
       let b = fitting first a in
       subst (λ me. run_for (naming_of me) b.shared b.env (k + rest) limit spent (point_of b w (mode.Eval at)) ≡ run_for (naming_of me) b.shared b.env rest limit (spent + k) (point_of b (with_given v w) mode.Value)) (me_kept first w keeps)
-      (direct.gives w.me b.shared b.env (party_of b w) (nexts_of (naming_of w.me) b.shared w.code w.frames w.values w.waits) rest limit spent refl refl (ap (λ x. charge x spent limit k) h ∙ paid))
+      (direct.gives b.shared b.env (party_of b w) (nexts_of (naming_of w.me) b.shared w.code w.frames w.values w.waits) rest limit spent refl refl refl (ap (λ x. charge x spent limit k) h ∙ paid))
 
   pub leaps_on : (left rest spent now at k : ℕ) (v : Value Ref MadeSymbol) (m n : Mode) (w new : View) → IsOn meter charges limit steps start first left spent m w → m ≡ mode.Eval at
-      → GivesAtOnce w.code w.scopes (scope_of w.bodies) at v k → charge meter spent limit k ≡ Charged → left ≡ k + rest → now ≡ spent + k → new ≡ with_given v w → n ≡ mode.Value
+      → GivesAtOnce (sight_of w) at v k → charge meter spent limit k ≡ Charged → left ≡ k + rest → now ≡ spent + k → new ≡ with_given v w → n ≡ mode.Value
       → IsOn meter charges limit steps start first rest now n new
   leaps_on left rest spent now at k v m n w new on e direct paid q s f g =
       record {

@@ -3,33 +3,30 @@
 ghost use Rattle.std.specs.Prelude.{◌≡◌, ◌+◌, ◌<◌, ◌≤◌, ◌∷◌, IfOk, IfSome, None, OnOk};
 ghost use Rattle.js_direct.specs.Direct.{IsDirect, value_of};
 ghost use Rattle.js_machine.specs.js_run.Runs.{Charged, charge};
-ghost use Rattle.js_machine.specs.Bodies.{scope_of};
 ghost use Rattle.js_machine.specs.Stops.{IsRun, RunsFor, RunsOn};
 ghost use Rattle.js_machine.specs.declared.frame.Mode.TheVariants as mode_kind;
+ghost use Rattle.js_machine_run.specs.Sights.{sight_of};
 
 use crate::steps::{settle, work};
 use crate::stop::{charge_steps, cost, stop_at};
-use js_direct::direct::{Direct, Plain, value_at};
+use js_direct::direct::{Direct, value_at};
+use js_direct::plain::{Plain, as_value};
 use js_machine::frame::{Halt, Mode};
 use js_machine::machine::Machine;
 use js_machine::stop::{Charge, Pause, Stop};
-use js_text::value::Value;
 use lava_base::memory::OutOfMemory;
 
 /// How many charges a run may make that is free of charge.
 pub const FREE_CHARGES: u64 = 1000;
 
-/// A number or a truth value is given.
+/// A plain value is given.
 #[inline]
-fn give_plain(machine: &mut Machine, value: Plain) -> Result<Mode, OutOfMemory>
+fn give_plain(machine: &mut Machine, plain: Plain) -> Result<Mode, OutOfMemory>
     ensures mode { IfOk result (λ m. m ≡ mode_kind.Value) }
-    ensures value { let values = value_of value ∷ machine.old.values in
+    ensures value { let values = value_of plain ∷ machine.old.values in
         OnOk result (machine.new ≡ record machine.old { values = values }) }
 {
-    match value {
-        Plain::Int(number) => machine.give(Value::Int(number)),
-        Plain::Bool(truth) => machine.give(Value::Bool(truth)),
-    }
+    machine.give(as_value(plain))
 }
 
 /// What the form at a place gives at once, where all its steps can be paid.
@@ -42,14 +39,19 @@ fn direct_within(
     limit: u64,
     left: u64,
 ) -> Option<Direct>
-    ensures direct { let w = machine.now in
-        IfSome result (IsDirect w.code w.scopes (scope_of w.bodies) at) }
+    ensures direct { IfSome result (IsDirect (sight_of machine.now) at) }
     ensures paid { IfSome result (λ d. charge meter spent limit d.steps ≡ Charged) }
     ensures fits { IfSome result (λ d. spent + d.steps ≤ limit) }
     ensures some { IfSome result (λ d. 0 < d.steps) }
     ensures within { IfSome result (λ d. d.steps ≤ left) }
 {
-    let Some(direct) = value_at(&machine.code, &machine.scopes, machine.standing(), at) else {
+    let Some(direct) = value_at(
+        &machine.code,
+        &machine.store,
+        &machine.scopes,
+        machine.standing(),
+        at,
+    ) else {
         return None;
     };
     let price = u64::from(direct.steps);
@@ -75,7 +77,7 @@ fn paused(charges: u64, limit: u64, steps: u64) -> Pause
     }
 }
 
-/// At most so many charges, and steps up to the limit. A form that gives a number or a truth value at once is paid whole.
+/// At most so many charges, and steps up to the limit. A form that gives a plain value at once is paid whole.
 fn run_for(
     machine: &mut Machine,
     charges: u64,

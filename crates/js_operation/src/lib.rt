@@ -2,10 +2,11 @@
 //
 // - `operation` has `Operation`, which says what an operator does, and `Computed`, what is computed of values that are no objects.
 //
-// js_operators has the operators. Definitions are in specs/: `Computing` and `Operating` mirror its code, and `Deeds` says what of js_run's definitions each
+// `array_index_keys` has the keys of numbers that are array indices, since operators and forms that read properties at once want them. js_operators has the operators. Definitions are in specs/: `Computing` and `Operating` mirror its code, and `Deeds` says what of js_run's definitions each
 // `Operation` stands for.
 #![tactic(auto)]
 
+pub mod array_index_keys;
 pub mod operation;
 
 pub use js_run;

@@ -1,7 +1,6 @@
 -- What covers, assignments and bindings become.
-use Rattle.std.proofs.Common.{◌≡◌, ℕ, zero, suc, Bool, true, false, List, [], ◌∷◌, ◌++◌, Option, Some, None, refl, sym, subst}
+use Rattle.std.proofs.Common.{◌≡◌, ℕ, suc, false, List, [], ◌∷◌, Option, Some, None, refl, sym, subst}
 use Rattle.lava_base.specs.declared.place.Place.{Place}
-use Rattle.js_tree.specs.declared.tree.Argument.TheOpen.{Expr-F, Pattern-F, PropertyKey-F, Stmt-F}
 use Rattle.js_tree.specs.declared.tree.Declaration.{out-roll-Declaration}
 use Rattle.js_tree.specs.declared.tree.Expr.{Expr}
 use Rattle.js_tree.specs.declared.tree.Expr.TheVariants as expr
@@ -10,7 +9,6 @@ use Rattle.js_tree.specs.declared.tree.Pattern.{Pattern, out-Pattern}
 use Rattle.js_tree.specs.Layers.{PatternLayer}
 use Rattle.js_tree.specs.declared.tree.Pattern.TheVariants as pattern
 use Rattle.js_tree.specs.declared.tree.PatternElement.{PatternElement}
-use Rattle.js_tree.specs.declared.tree.PatternField.{PatternField}
 use Rattle.js_tree.specs.declared.tree.PropertyKey.TheVariants as key
 use Rattle.js_tree.specs.declared.tree.Stmt.TheVariants as stmt
 use Rattle.js_names.specs.Lists.{flat, from_option}
@@ -31,13 +29,13 @@ use Rattle.js_expr.specs.Assignments.{assignment}
 use Rattle.js_expr.specs.Covers.{at_place, cover_comma, cover_parenthesized, cover_rest, extended}
 use Rattle.js_expr.specs.Names.{identifier}
 use Rattle.js_expr.specs.Parts.{behind, expression_at, part, token_at}
-use Rattle.js_stmt.specs.Bindings.{array_binding_pattern, binding, binding_element, binding_field, binding_identifier, binding_rest, bound_field, comma_binding_element, element_or_hole, initializer, keyed_binding_property, named_binding_property, named_field, object_binding_pattern, second_part}
+use Rattle.js_stmt.specs.Bindings.{array_binding_pattern, binding, binding_element, binding_rest, bound_field, comma_binding_element, element_or_hole, initializer, keyed_binding_property, named_binding_property, named_field, object_binding_pattern, second_part}
 use Rattle.js_stmt.specs.Declarations.{declaration, declaration_kind, declaration_statement, for_declaration}
 use Rattle.js_walk.specs.Parts as walk
 use Rattle.js_walk.specs.Parts.{ExpressionPart, PatternPart}
 use Rattle.js_lower_laws.specs.Sound.{whole_pattern_at}
 use Rattle.js_program_laws.specs.Formed.{All, Sits}
-use Rattle.js_program_laws.proofs.Fits.{Fit, append, deeper, down, down3, expression_by, join, made, pattern_by, spread}
+use Rattle.js_program_laws.proofs.Fits.{Fit, append, deeper, down3, expression_by, join, made, pattern_by, spread}
 use Rattle.js_program_laws.proofs.Phrases.{AllGood, ExprGood, Good, OperandsGood, RestGood, behind_good, bound_good, default_good, element_by, element_good, key_good, part_good, pattern_good, rest_good, this_good}
 use Rattle.js_program_laws.proofs.Expressions.{at, deep2, more, operands_fit}
 use Rattle.js_program_laws.proofs.Properties.{Of, front_all, last_all, named_key}

@@ -1,5 +1,5 @@
 -- What statements become of their statements and expressions.
-use Rattle.std.proofs.Common.{◌≡◌, ℕ, zero, suc, Bool, true, false, List, [], ◌∷◌, ◌++◌, Option, Some, None, refl, sym, subst}
+use Rattle.std.proofs.Common.{◌≡◌, ℕ, suc, true, false, List, [], ◌∷◌, ◌++◌, Option, Some, None, refl, sym, subst}
 use Rattle.lava_base.specs.declared.place.Place.{Place}
 use Rattle.js_lexer.specs.declared.keywords.Keyword.TheVariants as keyword
 use Rattle.js_lexer.specs.declared.token.TokenKind.{TokenKind}
@@ -7,8 +7,8 @@ use Rattle.js_lexer.specs.declared.token.TokenKind.TheVariants as token
 use Rattle.js_tree.specs.Layers.{ForInitLayer, ForTargetLayer, StmtLayer}
 use Rattle.js_tree.specs.declared.tree.Argument.TheOpen.{ForInit-F, ForTarget-F, Stmt-F}
 use Rattle.js_tree.specs.declared.tree.Catch.{roll-Catch, out-roll-Catch}
-use Rattle.js_tree.specs.declared.tree.Clause.{Clause, out-Clause, out-roll-Clause}
-use Rattle.js_tree.specs.declared.tree.Declaration.{Declaration, out-Declaration, out-roll-Declaration}
+use Rattle.js_tree.specs.declared.tree.Clause.{Clause, out-roll-Clause}
+use Rattle.js_tree.specs.declared.tree.Declaration.{Declaration, out-Declaration}
 use Rattle.js_tree.specs.declared.tree.Expr.{Expr}
 use Rattle.js_tree.specs.declared.tree.ForInit.{ForInit, out-ForInit}
 use Rattle.js_tree.specs.declared.tree.ForInit.TheVariants as init
@@ -16,7 +16,7 @@ use Rattle.js_tree.specs.declared.tree.ForTarget.{ForTarget, out-ForTarget}
 use Rattle.js_tree.specs.declared.tree.ForTarget.TheVariants as for_target
 use Rattle.js_tree.specs.declared.tree.Identifier.{Identifier}
 use Rattle.js_tree.specs.declared.tree.Pattern.{Pattern}
-use Rattle.js_tree.specs.declared.tree.PatternElement.{PatternElement, out-PatternElement}
+use Rattle.js_tree.specs.declared.tree.PatternElement.{PatternElement}
 use Rattle.js_tree.specs.declared.tree.Stmt.{Stmt, out-Stmt}
 use Rattle.js_tree.specs.declared.tree.Stmt.TheVariants as stmt
 use Rattle.js_names.specs.Lists.{flat, from_option}
@@ -26,8 +26,7 @@ use Rattle.js_phrase.specs.declared.phrase.ForHead.{ForHead}
 use Rattle.js_phrase.specs.declared.phrase.ForHead.TheVariants as head
 use Rattle.js_phrase.specs.declared.phrase.Phrase.{Phrase}
 use Rattle.js_phrase.specs.declared.phrase.Phrase.TheVariants as phrase
-use Rattle.js_phrase.specs.declared.phrase.TryTail.{TryTail}
-use Rattle.js_cover.specs.Targets.{declared_target, first_bound, for_target_of, target_of}
+use Rattle.js_cover.specs.Targets.{first_bound, for_target_of, target_of}
 use Rattle.js_expr.specs.Parts.{behind, expression_at, part, token_at}
 use Rattle.js_stmt.specs.Branches.{if_else_statement, if_statement, with_alternate_at}
 use Rattle.js_stmt.specs.ForHeads.{for_in, for_of, for_with_init, for_without_init}
@@ -38,9 +37,9 @@ use Rattle.js_stmt.specs.Statements.{block, debugger_statement, empty_statement,
 use Rattle.js_stmt.specs.Switches.{case_clause, clause, default_clause, switch_statement}
 use Rattle.js_stmt.specs.Tries.{catch_clause, finally_clause, handler_with, try_statement}
 use Rattle.js_walk.specs.Parts as walk
-use Rattle.js_walk.specs.Parts.{TreePart, BlockPart, CasesPart, CatchPart, EachPart, ExpressionPart, HeadPart, LoopPart, PatternPart, StatementPart}
+use Rattle.js_walk.specs.Parts.{BlockPart, CatchPart, ExpressionPart, LoopPart, PatternPart, StatementPart}
 use Rattle.js_program_laws.specs.Formed.{All, Sits, statement_formed}
-use Rattle.js_program_laws.proofs.Fits.{Fit, back, deeper, down, down2, down3, front, gathered, join, made, spread, statement_by}
+use Rattle.js_program_laws.proofs.Fits.{Fit, deeper, down, down2, down3, gathered, join, made, spread, statement_by}
 use Rattle.js_program_laws.proofs.Phrases.{AllGood, ExprGood, Good, HeadGood, RestGood, TailGood, TargetAt, TargetGood, behind_good, block_good, bound_good, optional_good, optional_pattern_good, part_good, statement_good, tail_good}
 use Rattle.js_program_laws.proofs.Expressions.{at, more}
 use Rattle.js_program_laws.proofs.Covered.{target_of_good}

@@ -1,5 +1,5 @@
 -- What covers become: patterns, one part deeper than the expressions that cover them, and the parameters of arrows.
-use Rattle.std.proofs.Common.{◌≡◌, ℕ, zero, suc, Bool, true, false, cond, List, [], ◌∷◌, ◌++◌, Option, Some, None, refl, sym, subst}
+use Rattle.std.proofs.Common.{ℕ, zero, suc, Bool, true, false, cond, List, [], ◌∷◌, ◌++◌, Option, Some, None, refl, sym, subst}
 use Rattle.lava_base.specs.declared.place.Place.{Place}
 use Rattle.js_tree.specs.Layers.{ArrayElementLayer, ExprLayer, PatternLayer, PropertyLayer}
 use Rattle.js_tree.specs.declared.tree.Argument.TheOpen.{ArrayElement-F, Expr-F, Pattern-F, Property-F, PropertyKey-F}
@@ -14,7 +14,7 @@ use Rattle.js_tree.specs.declared.tree.PropertyKey.{PropertyKey}
 use Rattle.js_tree.specs.declared.tree.PropertyKey.TheVariants as key
 use Rattle.js_names.specs.Lists.{flat, from_option}
 use Rattle.js_phrase.specs.Lists as lists
-use Rattle.js_phrase.specs.Phrases.{no_pattern, parenthesized}
+use Rattle.js_phrase.specs.Phrases.{parenthesized}
 use Rattle.js_phrase.specs.declared.phrase.Operands.{Operands}
 use Rattle.js_phrase.specs.declared.phrase.Operands.TheVariants as operands
 use Rattle.js_phrase.specs.declared.phrase.Phrase.{Phrase}
@@ -26,8 +26,8 @@ use Rattle.js_walk.specs.Parts as walk
 use Rattle.js_walk.specs.Parts.{TreePart, ExpressionPart, PatternPart}
 use Rattle.js_lower_laws.specs.Sound.{whole_parts_at, whole_pattern_at}
 use Rattle.js_program_laws.specs.Formed.{All, Sits}
-use Rattle.js_program_laws.proofs.Fits.{Fit, back, deeper, down, down2, each, front, gathered, join, made, pattern_by, spread}
-use Rattle.js_program_laws.proofs.Phrases.{ExprGood, Good, OperandsGood, ParametersGood, RestGood, bound_good, element_by, key_by}
+use Rattle.js_program_laws.proofs.Fits.{Fit, back, down, down2, each, front, gathered, join, made, pattern_by, spread}
+use Rattle.js_program_laws.proofs.Phrases.{ExprGood, Good, OperandsGood, ParametersGood, bound_good, element_by, key_by}
 
 -- WHAT IS BOUND AND WHAT IS ASSIGNED ARE EQUALLY DEEP
 

@@ -1,16 +1,15 @@
 -- A tree that is formed and has no early error is sound.
-use Rattle.std.proofs.Common.{◌≡◌, ◌≤◌, ◌||◌, ◌&&◌, ℕ, zero, suc, Bool, true, false, not, List, [], ◌∷◌, ◌++◌, Option, Some, None, if◌then◌else◌, refl, sym, ap, subst, arith}
+use Rattle.std.proofs.Common.{◌≡◌, ◌≤◌, ◌||◌, ◌&&◌, ℕ, zero, suc, Bool, true, false, List, [], ◌∷◌, ◌++◌, Some, None, if◌then◌else◌, refl, sym, subst, arith}
 use Rattle.lava_base.specs.declared.place.Place.{Place}
 use Rattle.js_tree.specs.Layers.{ExprLayer, PatternLayer, StmtLayer}
 use Rattle.js_tree.specs.declared.tree.Argument.TheOpen.{Expr-F, LinkStep-F, Pattern-F, Stmt-F}
 use Rattle.js_tree.specs.declared.tree.Expr.{Expr, out-Expr}
-use Rattle.js_tree.specs.declared.tree.Identifier.{Identifier}
 use Rattle.js_tree.specs.declared.tree.Link.{Link, out-Link}
 use Rattle.js_tree.specs.declared.tree.LinkStep.{out-LinkStep}
 use Rattle.js_tree.specs.Layers.{LinkStepLayer}
 use Rattle.js_tree.specs.declared.tree.Module.{Module}
-use Rattle.js_tree.specs.declared.tree.Pattern.{Pattern, out-Pattern}
-use Rattle.js_tree.specs.declared.tree.Stmt.{Stmt, out-Stmt}
+use Rattle.js_tree.specs.declared.tree.Pattern.{out-Pattern}
+use Rattle.js_tree.specs.declared.tree.Stmt.{out-Stmt}
 use Rattle.js_names.specs.Lists.{flat}
 use Rattle.js_names.specs.declared.bound.TheConstants.{TREE_DEPTH}
 use Rattle.js_names.specs.declared.declared.DeclaredName.{DeclaredName}
@@ -29,8 +28,8 @@ use Rattle.js_early.specs.declared.fault.EarlyFault.{EarlyFault}
 use Rattle.js_early.specs.declared.fault.EarlyRule.{EarlyRule}
 use Rattle.js_early.specs.declared.fault.EarlyRule.TheVariants as rule
 use Rattle.js_lower_laws.specs.Sound.{AreSound, IsSound, expression_sound, labels_below, no_parts, part_sound, sound, statement_sound, whole_parts, whole_parts_at, whole_pattern_at}
-use Rattle.js_program_laws.specs.Formed.{All, IsFormed, IsFormed_to, Sits, expression_formed, part_formed, statement_formed}
-use Rattle.js_program_laws.proofs.Fits.{Fit, back, front}
+use Rattle.js_program_laws.specs.Formed.{IsFormed, IsFormed_to, Sits, expression_formed, statement_formed}
+use Rattle.js_program_laws.proofs.Fits.{Fit}
 
 -- NOTHING IS WRONG
 

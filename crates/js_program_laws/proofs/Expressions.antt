@@ -1,5 +1,5 @@
 -- Expressions that the forms of names, literals, operators and templates make.
-use Rattle.std.proofs.Common.{◌≡◌, ℕ, zero, suc, Bool, true, false, List, [], ◌∷◌, ◌++◌, if◌then◌else◌, refl}
+use Rattle.std.proofs.Common.{◌≡◌, ℕ, suc, Bool, true, false, List, [], ◌∷◌, ◌++◌, if◌then◌else◌, refl}
 use Rattle.lava_base.specs.declared.place.Place.{Place}
 use Rattle.js_lexer.specs.declared.keywords.Keyword.TheVariants as keyword
 use Rattle.js_lexer.specs.declared.token.TokenKind.{TokenKind}
@@ -25,7 +25,7 @@ use Rattle.js_walk.specs.Parts as walk
 use Rattle.js_walk.specs.Parts.{TreePart, ExpressionPart, UpdatePart}
 use Rattle.js_lower_laws.specs.Sound.{whole_parts_at}
 use Rattle.js_program_laws.specs.Formed.{All, Sits, expression_formed}
-use Rattle.js_program_laws.proofs.Fits.{Fit, append, deeper, down, down2, down3, expression_by, join, made}
+use Rattle.js_program_laws.proofs.Fits.{Fit, append, deeper, down, down2, down3, expression_by, made}
 use Rattle.js_program_laws.proofs.Phrases.{AllGood, ExprGood, Good, behind_good, expression_good, part_good}
 
 -- one level more is four parts more

@@ -1,5 +1,5 @@
 -- Parts that are formed and end within a depth: lists of them, and each form of the tree over what stands below it.
-use Rattle.std.proofs.Common.{◌≡◌, ℕ, zero, suc, Bool, true, List, [], ◌∷◌, ◌++◌, Option, Some, None, refl, sym, subst}
+use Rattle.std.proofs.Common.{◌≡◌, ℕ, zero, suc, Bool, true, List, [], ◌∷◌, ◌++◌, refl, sym, subst}
 use Rattle.js_tree.specs.Layers.{ExprLayer, PatternLayer, StmtLayer}
 use Rattle.js_tree.specs.declared.tree.Expr.{Expr, out-Expr}
 use Rattle.js_tree.specs.declared.tree.Pattern.{Pattern, out-Pattern}

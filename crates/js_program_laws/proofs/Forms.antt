@@ -1,5 +1,5 @@
 -- What each production makes of good parts is good: as deep as its parts, and four parts more for each level that it counts.
-use Rattle.std.proofs.Common.{◌≡◌, ℕ, zero, suc, List, refl}
+use Rattle.std.proofs.Common.{ℕ, zero, suc, List}
 use Rattle.js_grammar.specs.Table.{levels_of}
 use Rattle.js_grammar.specs.declared.symbols.Production.{Production}
 use Rattle.js_grammar.specs.declared.symbols.Production.TheVariants as production

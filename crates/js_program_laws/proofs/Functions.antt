@@ -1,12 +1,11 @@
 -- What parameters, functions, methods and classes become.
-use Rattle.std.proofs.Common.{◌≡◌, ◌&&◌, ℕ, zero, suc, Bool, true, false, List, [], ◌∷◌, ◌++◌, Option, Some, None, is_some, refl, sym, subst}
+use Rattle.std.proofs.Common.{◌≡◌, ◌&&◌, ℕ, suc, Bool, true, false, List, [], ◌∷◌, ◌++◌, Option, None, is_some, refl, sym, subst}
 use Rattle.lava_base.specs.declared.place.Place.{Place}
 use Rattle.js_tree.specs.Layers.{BodyLayer}
-use Rattle.js_tree.specs.declared.tree.Argument.TheOpen.{Body-F, Expr-F, Stmt-F}
 use Rattle.js_tree.specs.declared.tree.Body.{Body, out-Body}
 use Rattle.js_tree.specs.declared.tree.Body.TheVariants as body
-use Rattle.js_tree.specs.declared.tree.Class.{Class, out-Class, out-roll-Class}
-use Rattle.js_tree.specs.declared.tree.ClassMember.{ClassMember, out-ClassMember, roll-ClassMember, out-roll-ClassMember}
+use Rattle.js_tree.specs.declared.tree.Class.{out-roll-Class}
+use Rattle.js_tree.specs.declared.tree.ClassMember.{ClassMember, out-ClassMember, out-roll-ClassMember}
 use Rattle.js_tree.specs.declared.tree.Expr.TheVariants as expr
 use Rattle.js_tree.specs.declared.tree.Function.{Function, out-Function, roll-Function, out-roll-Function}
 use Rattle.js_tree.specs.declared.tree.FunctionKind.{FunctionKind}
@@ -19,8 +18,8 @@ use Rattle.js_tree.specs.declared.tree.PropertyKey.TheVariants as key
 use Rattle.js_tree.specs.declared.tree.Stmt.{Stmt}
 use Rattle.js_tree.specs.declared.tree.Stmt.TheVariants as stmt
 use Rattle.js_names.specs.Lists.{flat, from_option}
-use Rattle.js_phrase.specs.Lists.{elements_of, listed_element, listed_statement, member_of, members_of, parameter_list, rest_in, statement_list, with_rest}
-use Rattle.js_phrase.specs.Phrases.{body_of, element_of, function_of, key_of, no_function, optional_expression_of, optional_name_of, parameters_of, parenthesized, statements_of}
+use Rattle.js_phrase.specs.Lists.{elements_of, listed_element, member_of, members_of, rest_in, with_rest}
+use Rattle.js_phrase.specs.Phrases.{body_of, element_of, function_of, key_of, optional_expression_of, optional_name_of, parameters_of, parenthesized, statements_of}
 use Rattle.js_phrase.specs.declared.places.TheConstants.{NO_PLACE}
 use Rattle.js_phrase.specs.declared.phrase.Parameters.{Parameters}
 use Rattle.js_phrase.specs.declared.phrase.Phrase.{Phrase}
@@ -32,13 +31,13 @@ use Rattle.js_expr.specs.Objects.{key_place, moved_function}
 use Rattle.js_expr.specs.Parts.{behind, part, token_at}
 use Rattle.js_stmt.specs.Classes.{class_declaration, class_definition, class_expression, class_heritage}
 use Rattle.js_stmt.specs.Functions.{formal_parameters, function, function_body, function_declaration, function_expression, plain_function}
-use Rattle.js_stmt.specs.Methods.{accessor, getter, member, method, method_member, method_tail, setter, static_element, static_member, static_named_method, static_phrase}
+use Rattle.js_stmt.specs.Methods.{accessor, getter, member, method, method_member, method_tail, setter, static_element, static_named_method, static_phrase}
 use Rattle.js_walk.specs.Parts as walk
 use Rattle.js_walk.specs.Parts.{TreePart, ClassPart, FunctionPart}
 use Rattle.js_lower_laws.specs.Sound.{is_declared_kind, is_member_kind, member_kinds}
 use Rattle.js_program_laws.specs.Formed.{All, Sits}
-use Rattle.js_program_laws.proofs.Fits.{Fit, deeper, down, down2, down3, each, join, made, spread, statement_by}
-use Rattle.js_program_laws.proofs.Phrases.{AllGood, FunctionFit, FunctionGood, Good, MemberGood, ParametersGood, RestGood, behind_good, element_good, key_by, key_good, optional_good, parameters_good, part_good, statements_good}
+use Rattle.js_program_laws.proofs.Fits.{Fit, deeper, down, down3, each, join, made, spread}
+use Rattle.js_program_laws.proofs.Phrases.{AllGood, FunctionFit, FunctionGood, Good, MemberGood, ParametersGood, RestGood, behind_good, element_good, key_good, optional_good, parameters_good, part_good, statements_good}
 use Rattle.js_program_laws.proofs.Expressions.{at, deep2, deep3, more}
 use Rattle.js_program_laws.proofs.Properties.{moved_good, named_key}
 use Rattle.js_program_laws.proofs.Covered.{arrow_parameters_good, folded_good}

@@ -16,9 +16,8 @@ use Rattle.js_tree.specs.declared.tree.Module.{Module}
 use Rattle.js_tree.specs.declared.tree.SourceKind.{SourceKind}
 use Rattle.js_tree.specs.declared.tree.Stmt.{Stmt, out-Stmt}
 use Rattle.js_tree.specs.declared.tree.Stmt.TheVariants as stmt
-use Rattle.js_names.specs.Lists.{flat}
 use Rattle.js_phrase.specs.Lists.{arguments_of}
-use Rattle.js_phrase.specs.Phrases.{expression_of, no_expression, statement_of, statements_of}
+use Rattle.js_phrase.specs.Phrases.{no_expression, statement_of}
 use Rattle.js_phrase.specs.declared.phrase.Phrase.{Phrase}
 use Rattle.js_phrase.specs.declared.phrase.Phrase.TheVariants as phrase
 use Rattle.js_phrase.specs.declared.places.TheConstants.{NO_PLACE}
@@ -27,11 +26,10 @@ use Rattle.js_parser.specs.Trees.{module_of, phrase_of, phrases_of}
 use Rattle.js_expr.specs.News.{new_with_arguments, with_arguments_at}
 use Rattle.js_expr.specs.Parts.{behind, part}
 use Rattle.js_stmt.specs.Branches.{if_else_statement, with_alternate_at}
-use Rattle.js_walk.specs.Parts as walk
-use Rattle.js_walk.specs.Parts.{TreePart, ExpressionPart, ModulePart, StatementPart}
+use Rattle.js_walk.specs.Parts.{TreePart, ModulePart, StatementPart}
 use Rattle.js_early.specs.declared.early.TheConstants.{WALK_DEPTH}
-use Rattle.js_program_laws.specs.Formed.{All, IsFormed, IsFormed_to, Sits}
-use Rattle.js_program_laws.proofs.Fits.{Fit, deeper}
+use Rattle.js_program_laws.specs.Formed.{IsFormed, IsFormed_to, Sits}
+use Rattle.js_program_laws.proofs.Fits.{deeper}
 use Rattle.js_program_laws.proofs.Phrases.{AllGood, ExprGood, Good, behind_good, expression_good, part_good, statement_good, statements_good, this_good}
 use Rattle.js_program_laws.proofs.Expressions.{more}
 use Rattle.js_program_laws.proofs.Blocks.{if_else_good}

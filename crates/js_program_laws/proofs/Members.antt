@@ -1,9 +1,9 @@
 -- What members, calls, optional chains, `new` with arguments and `super` become.
-use Rattle.std.proofs.Common.{◌≡◌, ◌||◌, ℕ, zero, suc, Bool, true, false, List, [], ◌∷◌, ◌++◌, refl, sym, subst}
+use Rattle.std.proofs.Common.{◌≡◌, ◌||◌, ℕ, suc, Bool, true, false, List, [], ◌∷◌, ◌++◌, refl, sym, subst}
 use Rattle.lava_base.specs.declared.place.Place.{Place}
 use Rattle.js_tree.specs.Layers.{ArgumentLayer, ExprLayer, LinkStepLayer}
 use Rattle.js_tree.specs.declared.tree.Argument.{Argument, out-Argument}
-use Rattle.js_tree.specs.declared.tree.Argument.TheOpen.{Argument-F, Expr-F, LinkStep-F}
+use Rattle.js_tree.specs.declared.tree.Argument.TheOpen.{Expr-F, LinkStep-F}
 use Rattle.js_tree.specs.declared.tree.Argument.TheVariants as argument
 use Rattle.js_tree.specs.declared.tree.Expr.{Expr, out-Expr}
 use Rattle.js_tree.specs.declared.tree.Expr.TheVariants as expr

@@ -1,29 +1,26 @@
 -- What is known of the phrases that are made, and of what a form takes of one.
-use Rattle.std.proofs.Common.{◌≡◌, ℕ, zero, suc, Bool, true, false, List, [], ◌∷◌, ◌++◌, Option, Some, None, refl, sym, subst}
-use Rattle.js_tree.specs.Layers.{ForTargetLayer, LinkStepLayer, PropertyKeyLayer, StmtLayer}
-use Rattle.js_tree.specs.declared.tree.Argument.TheOpen.{ArrayElement-F, Body-F, Expr-F, ForInit-F, ForTarget-F, LinkStep-F, Pattern-F, PropertyKey-F, Stmt-F}
-use Rattle.js_tree.specs.declared.tree.ArrayElement.{ArrayElement, out-ArrayElement}
-use Rattle.js_tree.specs.declared.tree.ArrayElement.TheVariants.{outs-Element, outs-Hole, outs-SpreadElement}
+use Rattle.std.proofs.Common.{◌≡◌, ℕ, zero, suc, Bool, true, false, List, [], ◌∷◌, Option, None, refl, sym, subst}
+use Rattle.js_tree.specs.Layers.{ForTargetLayer, PropertyKeyLayer, StmtLayer}
+use Rattle.js_tree.specs.declared.tree.Argument.TheOpen.{Expr-F, ForTarget-F, Pattern-F, PropertyKey-F, Stmt-F}
 use Rattle.js_tree.specs.declared.tree.ClassMember.{ClassMember, out-ClassMember}
-use Rattle.js_tree.specs.declared.tree.Expr.{Expr, out-Expr}
-use Rattle.js_tree.specs.declared.tree.Expr.TheVariants.{outs-Comma, outs-This}
+use Rattle.js_tree.specs.declared.tree.Expr.{Expr}
+use Rattle.js_tree.specs.declared.tree.Expr.TheVariants.{outs-This}
 use Rattle.js_tree.specs.declared.tree.ForTarget.{ForTarget, out-ForTarget}
 use Rattle.js_tree.specs.declared.tree.Function.{Function, out-Function}
 use Rattle.js_tree.specs.declared.tree.Identifier.{Identifier}
-use Rattle.js_tree.specs.declared.tree.LinkStep.{LinkStep, out-LinkStep}
+use Rattle.js_tree.specs.declared.tree.LinkStep.{out-LinkStep}
 use Rattle.js_tree.specs.declared.tree.LinkStep.TheVariants.{outs-MemberLink}
-use Rattle.js_tree.specs.declared.tree.Pattern.{Pattern, out-Pattern}
+use Rattle.js_tree.specs.declared.tree.Pattern.{Pattern}
 use Rattle.js_tree.specs.declared.tree.Pattern.TheVariants as pattern
-use Rattle.js_tree.specs.declared.tree.PatternElement.{PatternElement, out-PatternElement, roll-PatternElement, out-roll-PatternElement}
+use Rattle.js_tree.specs.declared.tree.PatternElement.{roll-PatternElement, out-roll-PatternElement}
 use Rattle.js_tree.specs.declared.tree.Property.{Property, out-Property}
 use Rattle.js_tree.specs.declared.tree.PropertyKey.{PropertyKey, out-PropertyKey}
 use Rattle.js_tree.specs.declared.tree.PropertyKey.TheVariants.{outs-Numbered}
-use Rattle.js_tree.specs.declared.tree.Stmt.{Stmt, out-Stmt}
+use Rattle.js_tree.specs.declared.tree.Stmt.{out-Stmt}
 use Rattle.js_tree.specs.declared.tree.Stmt.TheVariants.{outs-Empty}
 use Rattle.js_names.specs.Lists.{flat, from_option}
-use Rattle.js_phrase.specs.Phrases.{block_of, default_of, element_of, expression_of, key_of, no_expression, no_name, no_pattern, optional_expression_of, optional_pattern_of, parenthesized, parameters_of, pattern_of, slot_of, statement_of, statements_in, statements_of, step_of, tail_of}
+use Rattle.js_phrase.specs.Phrases.{block_of, default_of, element_of, expression_of, key_of, no_expression, no_name, no_pattern, optional_expression_of, optional_pattern_of, parenthesized, parameters_of, pattern_of, statement_of, statements_in, statements_of, step_of, tail_of}
 use Rattle.js_phrase.specs.Queues.{rest_of}
-use Rattle.js_phrase.specs.declared.phrase.Cover.{Cover}
 use Rattle.js_phrase.specs.declared.phrase.ForHead.{ForHead}
 use Rattle.js_phrase.specs.declared.phrase.ForHead.TheVariants as head
 use Rattle.js_phrase.specs.declared.phrase.Operands.{Operands}

@@ -1,7 +1,7 @@
 -- The tree of each source is formed, and that of each program is sound.
-use Rattle.std.proofs.Common.{◌≡◌, ◌≤◌, ◌+◌, ℕ, List, [], Option, Some, None, refl, sym, subst}
+use Rattle.std.proofs.Common.{◌≡◌, ◌≤◌, ◌+◌, ℕ, List, Some, None, refl, sym, subst}
 use Rattle.js_early.specs.Walks.{early_error}
-use Rattle.js_grammar.specs.Grammar.{Tree, Node, Row, Nil}
+use Rattle.js_grammar.specs.Grammar.{Node, Row}
 use Rattle.js_grammar.specs.Inserted.{Choice}
 use Rattle.js_grammar.specs.Laws as laws
 use Rattle.js_grammar.specs.Laws.{HasLow, Inserted_read, IsShallow, Is_right, Reads, Same_read, Steps, from, whole_state, with_semicolons}
@@ -10,7 +10,7 @@ use Rattle.js_grammar.specs.Table.{lead_levels_of, levels_of}
 use Rattle.js_grammar.specs.declared.nesting.TheConstants.{MAX_LEVELS}
 use Rattle.js_grammar.specs.declared.symbols.Production.TheVariants as production
 use Rattle.js_lexer.specs.declared.token.Token.{Token}
-use Rattle.js_parser.specs.Trees.{IsModuleOf, module_of}
+use Rattle.js_parser.specs.Trees.{IsModuleOf}
 use Rattle.js_reader.specs.Reading.{IsTree, IsWithin, whole}
 use Rattle.js_tree.specs.declared.tree.Module.{Module}
 use Rattle.js_tree.specs.declared.tree.SourceKind.{SourceKind}

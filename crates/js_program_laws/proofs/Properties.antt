@@ -5,7 +5,6 @@ use Rattle.js_tree.specs.Layers.{ArrayElementLayer, PropertyLayer}
 use Rattle.js_tree.specs.declared.tree.Argument.TheOpen.{ArrayElement-F, Expr-F, Property-F, PropertyKey-F}
 use Rattle.js_tree.specs.declared.tree.ArrayElement.{ArrayElement, out-ArrayElement}
 use Rattle.js_tree.specs.declared.tree.ArrayElement.TheVariants as array_element
-use Rattle.js_tree.specs.declared.tree.ClassMember.{out-ClassMember}
 use Rattle.js_tree.specs.declared.tree.Expr.{Expr}
 use Rattle.js_tree.specs.declared.tree.Expr.TheVariants as expr
 use Rattle.js_tree.specs.declared.tree.Function.{Function, out-Function, out-roll-Function}
@@ -16,8 +15,7 @@ use Rattle.js_tree.specs.declared.tree.PropertyKey.{PropertyKey}
 use Rattle.js_tree.specs.declared.tree.PropertyKey.TheVariants as key
 use Rattle.js_names.specs.Lists.{flat, from_option}
 use Rattle.js_phrase.specs.Lasts.{front_of, last_of}
-use Rattle.js_phrase.specs.Lists as lists
-use Rattle.js_phrase.specs.Literals.{array_at, array_before_comma, array_of, array_with, ends_with_spread, later_slot, properties_of, property_of, sealed, slots_of}
+use Rattle.js_phrase.specs.Literals.{array_at, array_before_comma, array_with, ends_with_spread, later_slot, properties_of, property_of, sealed, slots_of}
 use Rattle.js_phrase.specs.Phrases.{expression_of, key_of, next_of, parenthesized, slot_of}
 use Rattle.js_phrase.specs.Queues.{rest_of}
 use Rattle.js_phrase.specs.declared.phrase.Phrase.{Phrase}
@@ -25,14 +23,14 @@ use Rattle.js_phrase.specs.declared.phrase.Phrase.TheVariants as phrase
 use Rattle.js_expr.specs.Arrays.{array_literal, comma_element}
 use Rattle.js_expr.specs.Arrays as arrays
 use Rattle.js_expr.specs.Names.{identifier}
-use Rattle.js_expr.specs.Objects.{cover_initialized_name, defined, key_place, keyed, keyed_property, moved_function, named, named_property, object_literal, property_value, shorthand, valued}
-use Rattle.js_expr.specs.Parts.{behind, expression_at, part, token_at}
+use Rattle.js_expr.specs.Objects.{cover_initialized_name, key_place, keyed, keyed_property, moved_function, named, named_property, object_literal, property_value, shorthand}
+use Rattle.js_expr.specs.Parts.{behind, part, token_at}
 use Rattle.js_expr.specs.PropertyNames.{computed_property_name, numeric_name, string_name, word_name}
 use Rattle.js_walk.specs.Parts as walk
 use Rattle.js_walk.specs.Parts.{ExpressionPart, FunctionPart}
 use Rattle.js_lower_laws.specs.Sound.{is_member_kind, property_kind_at, property_kinds}
-use Rattle.js_program_laws.specs.Formed.{All, Sits}
-use Rattle.js_program_laws.proofs.Fits.{Fit, append, deeper, down, down2, each, expression_by, join, made, spread}
+use Rattle.js_program_laws.specs.Formed.{All}
+use Rattle.js_program_laws.proofs.Fits.{Fit, append, deeper, down2, each, expression_by, join, made, spread}
 use Rattle.js_program_laws.proofs.Phrases.{AllGood, ExprGood, FunctionFit, FunctionGood, Good, PropertyGood, behind_good, expression_good, key_by, key_good, part_good, rest_good}
 use Rattle.js_program_laws.proofs.Expressions.{at, more}
 

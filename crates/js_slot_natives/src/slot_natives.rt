@@ -1,12 +1,10 @@
-// The natives 36 to 43: what is asked of a keyed collection, and what its table answers.
+// The natives 36 to 43: what is asked of a keyed collection.
 
-ghost use Rattle.std.specs.Prelude.{◌≡◌, ◌∷◌, IfOk, OnErr};
-ghost use Rattle.lava_base.specs.Ids.{same_ref, same_made_symbol};
+ghost use Rattle.std.specs.Prelude.{◌≡◌, ◌∷◌, IfOk};
 ghost use Rattle.js_text.specs.Naming.{naming_of};
-ghost use Rattle.js_text.specs.Values.{same_value};
 ghost use Rattle.js_text.specs.declared.value.Value.TheVariants as value;
 ghost use Rattle.js_operations.specs.Looks.{marks_seen};
-ghost use Rattle.js_slot_natives.specs.SlotNatives.{ask_collection, decided_by_table, slot_native, slot_native_resumed, table_given, takes};
+ghost use Rattle.js_slot_natives.specs.SlotNatives.{ask_collection, slot_native, slot_native_resumed, takes};
 
 use crate::collections::{collection_class, is_of_class};
 use crate::next::Next;
@@ -15,8 +13,6 @@ use js_desc::decision::Decision;
 use js_desc::fault::FaultText;
 use js_desc::reply::Reply;
 use js_operations::looks::marks_seen;
-use js_slots::table::Table;
-use js_slots::table_answers::answer_from_table;
 use js_store::foreign::Foreign;
 use js_store::frozen::FrozenStore;
 use js_store::store::Store;
@@ -115,29 +111,4 @@ pub fn resume_slot_native(reply: Reply) -> Decision<Next>
         Reply::Throw(thrown) => Decision::Done(Reply::Throw(thrown)),
         _ => Decision::Fault(FaultText::WrongKind),
     }
-}
-
-/// What a table gives.
-fn table_given(given: Option<Value>) -> Decision<Next>
-    ensures { result ≡ table_given given }
-{
-    match given {
-        None => Decision::Fault(FaultText::WrongKind),
-        Some(value) => Decision::Done(Reply::Value(value)),
-    }
-}
-
-/// What a collection decides that is asked, by its table, which is handed in. After want of memory the table is as before.
-pub fn decide_by_table(
-    table: &mut Table,
-    which: Native,
-    args: &List<Value>,
-) -> Result<Decision<Next>, OutOfMemory>
-    ensures ok { let same = same_value same_ref same_made_symbol in
-        let decision = decided_by_table same which args.now table.old in
-        IfOk result (λ d. (d, table.new) ≡ decision) }
-    ensures err { OnErr result (table.new ≡ table.old) }
-{
-    let given = answer_from_table(table, which, args)?;
-    Ok(table_given(given))
 }

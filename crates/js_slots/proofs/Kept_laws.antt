@@ -13,7 +13,7 @@ use Rattle.js_text.specs.SameKeys.{same_value_decides}
 use Rattle.js_text.specs.Values.{same_value}
 use Rattle.js_text.specs.declared.value.Value.{Value}
 use Rattle.js_slots.proofs.Places_laws.{kept_by, missing_by}
-use Rattle.js_slots.proofs.Walks_laws.{length-map_clear}
+use Rattle.js_slots.proofs.Cleared_laws.{length-map_clear}
 use Rattle.js_slots.specs.Tables.{dead_entry, has_key, IsKept, IsOnlyOne, IsTable, live_entry, map_clear, map_delete, map_set, map_size, place_of, with_value}
 use Rattle.js_slots.specs.declared.entry.TableEntry.{TableEntry}
 

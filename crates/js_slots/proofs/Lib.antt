@@ -1,4 +1,4 @@
+pub mod Cleared_laws
 pub mod Finite_maps
 pub mod Kept_laws
 pub mod Places_laws
-pub mod Walks_laws

@@ -28,7 +28,7 @@ pub struct CommonPart {
 /// Why there is no run.
 #[derive(Drop)]
 pub enum RunFault {
-    /// The prelude is no program of the language, or lacks the function of a common object: what is wrong, and at which place. It does not come.
+    /// The prelude is no program of the language, lacks the function of a common object, or has a template that is not valid: what is wrong, and at which place. It does not come.
     Prelude(Place, SyntaxWhat),
     /// There was no memory.
     OutOfMemory,

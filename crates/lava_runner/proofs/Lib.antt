@@ -4,3 +4,4 @@ pub mod Repaired
 pub mod Counted
 pub mod Ended_laws
 pub mod Told
+mod Isolation

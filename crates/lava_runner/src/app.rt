@@ -3,9 +3,11 @@
 ghost use Rattle.std.specs.Prelude.{◌≡◌, [], IfOk, MatchResult};
 ghost use Rattle.lava_host.specs.Hosts.{host_world};
 ghost use Rattle.lava_packages.specs.Commons.{HasRunCause, IsCommonPart};
+ghost use Rattle.lava_runner.specs.Isolated.{IsIsolatedRun};
 ghost use Rattle.lava_runner.specs.Reports.{HasReport, HasRunFrom, HasTraceReport, HasTracedFrom, IsEmittedRun, IsReportOf, IsRunOf, IsTracedRun, IsUncaughtText};
 ghost use Rattle.pkg_graph.specs.declared.graph.Package.{Package};
 
+use crate::laws::each_run_isolates;
 use js_host_laws::{gone_at_the_newest, host_calls_are_crossings};
 use js_world_end::discard;
 use lava_base::list::List;
@@ -311,6 +313,40 @@ fn run_over<F: Folder, I: Source, O: Sink, E: Sink, C: Clock>(
     }
 }
 
+/// Runs an application over a common part in a mode, and each party of that run is its own.
+fn run_apart<F: Folder, I: Source, O: Sink, E: Sink, C: Clock>(
+    alloc: Global,
+    app: &Application<ModuleCode>,
+    policy: &Policy,
+    common: CommonPart,
+    budget: u64,
+    mode: Mode,
+    dir: &str,
+    folder: &mut F,
+    input: &mut I,
+    out: &mut O,
+    err: &mut E,
+    clock: &mut C,
+) -> Result<Report, OutOfMemory>
+    requires { IsCommonPart common }
+    ensures runs { let before = host_world (F.Folder.stand folder.old) (I.Source.stand input.old)
+        (O.Sink.stand out.old) (E.Sink.stand err.old) (C.Clock.stand clock.old) in
+        let after = host_world (F.Folder.stand folder.new) (I.Source.stand input.new)
+        (O.Sink.stand out.new) (E.Sink.stand err.new) (C.Clock.stand clock.new) in
+        IfOk result (IsRunOf mode dir.now app.now policy.now budget before after) }
+    ensures isolates { let before = host_world (F.Folder.stand folder.old)
+        (I.Source.stand input.old) (O.Sink.stand out.old) (E.Sink.stand err.old)
+        (C.Clock.stand clock.old) in
+        let after = host_world (F.Folder.stand folder.new) (I.Source.stand input.new)
+        (O.Sink.stand out.new) (E.Sink.stand err.new) (C.Clock.stand clock.new) in
+        IfOk result (IsIsolatedRun mode dir.now app.now policy.now budget before after) }
+{
+    each_run_isolates();
+    run_over(
+        alloc, app, policy, common, budget, mode, dir, folder, input, out, err, clock,
+    )
+}
+
 /// Runs an application: the common part is locked, each package stands with what the merged policy grants it, the main module of the application's own is imported, and what it asks of the host is done to the outside. By the mode the output gets what `console` prints, or the trace of the run at its end.
 /// The budget is the number of steps that all parties may take together.
 pub fn run_app<F: Folder, I: Source, O: Sink, E: Sink, C: Clock>(
@@ -331,11 +367,18 @@ pub fn run_app<F: Folder, I: Source, O: Sink, E: Sink, C: Clock>(
         let after = host_world (F.Folder.stand folder.new) (I.Source.stand input.new)
         (O.Sink.stand out.new) (E.Sink.stand err.new) (C.Clock.stand clock.new) in
         IfOk result (IsRunOf mode dir.now app.now policy.now budget before after) }
+    // Each package of the run is its own.
+    ensures isolates { let before = host_world (F.Folder.stand folder.old)
+        (I.Source.stand input.old) (O.Sink.stand out.old) (E.Sink.stand err.old)
+        (C.Clock.stand clock.old) in
+        let after = host_world (F.Folder.stand folder.new) (I.Source.stand input.new)
+        (O.Sink.stand out.new) (E.Sink.stand err.new) (C.Clock.stand clock.new) in
+        IfOk result (IsIsolatedRun mode dir.now app.now policy.now budget before after) }
     ensures cause { MatchResult result (λ r. Unit {0}) HasRunCause }
 {
     match common_part(alloc) {
         Ok(common) => {
-            let report = run_over(
+            let report = run_apart(
                 alloc, app, policy, common, budget, mode, dir, folder, input, out, err, clock,
             )?;
             Ok(report)

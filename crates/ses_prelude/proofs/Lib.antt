@@ -4,3 +4,4 @@ pub mod Bodies_laws
 pub mod Prelude_laws
 mod Marks_laws
 mod Property_laws
+mod Validity_laws

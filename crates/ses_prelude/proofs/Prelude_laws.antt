@@ -1,5 +1,5 @@
 -- What reading a prelude answers, from what js_program answers and what a program makes.
-use Rattle.std.proofs.Common.{◌≡◌, ℕ, List, refl, sym, ap, ◌∙◌, subst, ◌⊎◌, inl, inr, Some, None, Result, Ok, Err, IfOk, IfErr, MatchResult, codes}
+use Rattle.std.proofs.Common.{◌≡◌, ℕ, List, refl, sym, ap, ◌∙◌, subst, ◌⊎◌, inl, inr, Option, Some, None, Result, Ok, Err, IfOk, IfErr, MatchResult, codes}
 use Rattle.lava_base.specs.declared.place.Place.{Place}
 use Rattle.js_fault.specs.declared.fault.SyntaxFault.{SyntaxFault}
 use Rattle.js_fault.specs.declared.fault.SyntaxFault.TheVariants as fault
@@ -13,21 +13,24 @@ use Rattle.js_tree.specs.declared.tree.SourceKind.TheVariants.{Module as AsModul
 use Rattle.ses_lockdown.specs.declared.intrinsics.Intrinsics.{Intrinsics}
 use Rattle.ses_prelude.specs.Functions.{intrinsics_of}
 use Rattle.ses_prelude.specs.Helpers.{IsMadeOf}
-use Rattle.ses_prelude.specs.Preludes.{IsPrelude, HasIntrinsics, first_place, IsPreludeFault, HasPreludeCause}
+use Rattle.ses_prelude.specs.Preludes.{AreValid, MakesNone, IsPrelude, HasIntrinsics, first_place, IsPreludeFault, HasPreludeCause}
 
 abbrev told : SyntaxFault
 told = fault.At first_place (what.Early (codes "prelude"))
 
--- what makes intrinsics does not make none
-no_none : (i : Intrinsics) → Some i ≡ None → ⊥
-no_none i e = cc
+-- what makes valid intrinsics does not make none
+no_none : (o : Option Intrinsics) (i : Intrinsics) → o ≡ Some i → AreValid i.templates → MakesNone o → ⊥
+no_none None i e valid none = cc
+no_none (Some j) i e valid none =
+    let same : j ≡ i = cc in
+    none (subst (λ (k : Intrinsics). AreValid k.templates) (sym same) valid)
 
 module _ (source : List ℕ) where
   -- OF A PROGRAM
 
   module _ (tree : Tree) (is : IsProgram AsModule source tree) where
     pub good_made : (r : Result Intrinsics SyntaxFault) → IsMadeOf (intrinsics_of tree.body) r → IfOk r (IsPrelude source)
-    good_made (Ok i) made = (tree, is, made)
+    good_made (Ok i) made = (tree, is, made.0, made.1)
     good_made (Err f) made = tt
 
     pub good_cause : (r : Result Intrinsics SyntaxFault) → IsMadeOf (intrinsics_of tree.body) r → IfErr r (HasPreludeCause source)
@@ -42,7 +45,7 @@ module _ (source : List ℕ) where
 
       pub good_only : (r : Result Intrinsics SyntaxFault) → IsMadeOf (intrinsics_of tree.body) r → HasIntrinsics source → MatchResult r (λ i. Unit {0}) (λ f. f ≡ fault.OutOfMemory)
       good_only (Ok i) made h = tt
-      good_only (Err f) (inl (none, is_told)) h = absurd (no_none h.0 (sym h.1.2 ∙ same_made h.1.0 h.1.1 ∙ none))
+      good_only (Err f) (inl (none, is_told)) h = absurd (no_none (intrinsics_of tree.body) h.0 (sym (same_made h.1.0 h.1.1) ∙ h.1.2) h.1.3 none)
       good_only (Err f) (inr none_left) h = none_left
 
       refused_as : (p : Place) (w : SyntaxWhat) → p ≡ first_place → w ≡ what.Early (codes "prelude") → (f : SyntaxFault) → (f ≡ told) ⊎ (f ≡ fault.OutOfMemory) → IsRefusal p w f
@@ -51,7 +54,7 @@ module _ (source : List ℕ) where
       pub good_refused : (p : Place) (w : SyntaxWhat) → (IsProgramFault AsModule source p w → ⊥) → (r : Result Intrinsics SyntaxFault) → IsMadeOf (intrinsics_of tree.body) r
           → IsPreludeFault source p w → MatchResult r (λ i. ⊥) (IsRefusal p w)
       good_refused p w fine r made (inl bad) = absurd (fine bad)
-      good_refused p w fine (Ok i) made (inr (m, q, none, at, named)) = no_none i (sym made ∙ sym (same_made m q) ∙ none)
+      good_refused p w fine (Ok i) made (inr (m, q, none, at, named)) = no_none (intrinsics_of m.body) i (same_made m q ∙ made.0) made.1 none
       good_refused p w fine (Err f) (inl (none, is_told)) (inr (m, q, _, at, named)) = refused_as p w at named f (inl is_told)
       good_refused p w fine (Err f) (inr none_left) (inr (m, q, _, at, named)) = refused_as p w at named f (inr none_left)
 

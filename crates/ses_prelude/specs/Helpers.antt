@@ -1,12 +1,12 @@
 -- How the code's values stand for those of the definitions.
-use Rattle.std.specs.Prelude.{◌≡◌, ℕ, List, Option, Some, None, Result, Ok, Err, codes, ◌⊎◌}
+use Rattle.std.specs.Prelude.{◌≡◌, ℕ, List, Option, Some, Result, Ok, Err, codes, ◌⊎◌}
 use Rattle.js_fault.specs.declared.fault.SyntaxFault.{SyntaxFault}
 use Rattle.js_fault.specs.declared.fault.SyntaxFault.TheVariants as fault
 use Rattle.js_fault.specs.declared.fault.SyntaxWhat.TheVariants as what
 use Rattle.js_frames.specs.Frames.{Frame}
 use Rattle.ses_lockdown.specs.declared.intrinsics.Intrinsics.{Intrinsics}
 use Rattle.ses_prelude.specs.Functions.{PreludeFunction, places_of, frame_of, added_all}
-use Rattle.ses_prelude.specs.Preludes.{first_place}
+use Rattle.ses_prelude.specs.Preludes.{AreValid, MakesNone, first_place}
 use Rattle.ses_prelude.specs.declared.functions.FoundFunction.{FoundFunction}
 
 abbrev pub seen : FoundFunction → PreludeFunction
@@ -26,5 +26,5 @@ IsNoPreludeFault f = (f ≡ fault.At first_place (what.Early (codes "prelude")))
 
 -- what is answered to a program that makes these intrinsics, or none
 abbrev pub IsMadeOf : Option Intrinsics → Result Intrinsics SyntaxFault → Type 0
-IsMadeOf o (Ok i) = o ≡ Some i
-IsMadeOf o (Err f) = ((o ≡ None) × (f ≡ fault.At first_place (what.Early (codes "prelude")))) ⊎ (f ≡ fault.OutOfMemory)
+IsMadeOf o (Ok i) = (o ≡ Some i) × AreValid i.templates
+IsMadeOf o (Err f) = (MakesNone o × (f ≡ fault.At first_place (what.Early (codes "prelude")))) ⊎ (f ≡ fault.OutOfMemory)

@@ -4,6 +4,7 @@
 //! - `paths` has the paths of its functions, by their names.
 //! - `operations` is what the names of the machine stand for, `functions` what a text declares.
 //! - `templates` lowers each function and gives it to its common object.
+//! - `validity` tests the templates.
 //! - `prelude` reads a text: `read_intrinsics` any, `read_prelude` the product's.
 //! - `laws`: a text makes one list of intrinsics at most, in which each common object has its body.
 //!
@@ -17,6 +18,7 @@ pub mod paths;
 pub mod prelude;
 mod templates;
 pub mod text;
+mod validity;
 
 pub use js_lower;
 pub use js_program;

@@ -1,7 +1,7 @@
 use Rattle.std.proofs.Common.{rules, ℤ, sym, subst, w64}
 use Rattle.std.proofs.lemmas.Int.{to_z-of_z}
 use Rattle.js_direct.specs.Direct.{Operates}
-use Rattle.js_direct.specs.declared.direct.Plain.TheVariants as plain
+use Rattle.js_direct.specs.declared.plain.Plain.TheVariants as plain
 use Rattle.js_direct.proofs.Given.{operates_number}
 use Rattle.js_direct.proofs.direct.operated.Goals as goal
 

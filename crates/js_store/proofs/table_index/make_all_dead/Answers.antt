@@ -1,5 +1,5 @@
 use Rattle.std.proofs.Common.{◌<◌, ◌≤◌, ap, ◌∙◌, length, map, arith}
-use Rattle.js_slots.proofs.Walks_laws.{cleared_all, cleared_more, length-cleared}
+use Rattle.js_slots.proofs.Cleared_laws.{cleared_all, cleared_more, length-cleared}
 use Rattle.js_store.proofs.Index_laws.{length_places, set_dead}
 use Rattle.js_store.proofs.table_index.make_all_dead.Goals as goal
 use Rattle.js_store.specs.Tables.{table_entry}
