@@ -19,6 +19,7 @@ use Rattle.lava_runner.specs.lava_loading.declared.loading.LoadingFault.TheVaria
 use Rattle.lava_cli.specs.Causes.{outcome_of}
 use Rattle.lava_runner.specs.Counts.{AreCounted, AreFaultless, count_of}
 use Rattle.lava_runner.specs.Endings.{ending_status}
+use Rattle.lava_runner.specs.Isolated.{Each_run_isolates}
 use Rattle.lava_cli.specs.Finishes.{FinishesOf, HasFinished, HasNoCause, IsLack}
 use Rattle.lava_cli.specs.RunAnswers.{AnswersTo, HasRunIn, IsRefusedBy, RunComes, WordsLack}
 use Rattle.lava_runner.proofs.Told.{ending_told}
@@ -39,7 +40,7 @@ line_counted line own w v status t (inr p) = put_counted texts.MEMORY_LINE.now t
 
 -- A RUN
 
-module _ (mode : Mode) (directory : List ℕ) (budget : ℕ) (before mid after : HostWorld) (status : ℕ) (faultless : AreFaultless before after) (rest : after ≡ record mid { errors = after.errors }) where
+module _ (law : Each_run_isolates) (mode : Mode) (directory : List ℕ) (budget : ℕ) (before mid after : HostWorld) (status : ℕ) (faultless : AreFaultless before after) (rest : after ≡ record mid { errors = after.errors }) where
   abbrev Answer : Type 0
   Answer = HasFinished mode directory budget before after status ⊎ IsLack after status
 
@@ -63,6 +64,7 @@ module _ (mode : Mode) (directory : List ℕ) (budget : ℕ) (before mid after :
             end = mid;
             report = e.report;
             ran = h.ran.0;
+            isolated = law mode directory h.app.app h.app.policy budget h.mid mid e.report h.ran.0;
             ends = is;
             told = subst (λ n. TellsEnding n e.report.ending e.report.uncaught mid.errors after.errors status) h.ran.1 t;
             rest = rest;
@@ -91,9 +93,9 @@ module _ (mode : Mode) (directory : List ℕ) (budget : ℕ) (before mid after :
   answered files told none (outcome.Policies f) c t = refused files told none (loading.Policies f) c t
   answered files told none (outcome.Load f) c t = refused files told none (loading.Load f) c t
 
-pub finishes : (asked : Option Asked) (before after : HostWorld) (status : ℕ) → AnswersTo asked before after status ⊎ WordsLack before after status → FinishesOf asked before after status
-finishes None before after status a = tt
-finishes (Some (Trees file)) before after status a = tt
-finishes (Some (Runs mode directory budget)) before after status (inl a) =
-    λ files told none faultless. answered mode directory budget before a.mid after status faultless a.rest files told none a.outcome a.comes a.told
-finishes (Some (Runs mode directory budget)) before after status (inr l) = λ files told none faultless. inr (before.errors, l.told)
+pub finishes : Each_run_isolates → (asked : Option Asked) (before after : HostWorld) (status : ℕ) → AnswersTo asked before after status ⊎ WordsLack before after status → FinishesOf asked before after status
+finishes law None before after status a = tt
+finishes law (Some (Trees file)) before after status a = tt
+finishes law (Some (Runs mode directory budget)) before after status (inl a) =
+    λ files told none faultless. answered law mode directory budget before a.mid after status faultless a.rest files told none a.outcome a.comes a.told
+finishes law (Some (Runs mode directory budget)) before after status (inr l) = λ files told none faultless. inr (before.errors, l.told)

@@ -1,3 +1,4 @@
 mod Comes
 mod Decided
 mod Finished
+mod Isolation

@@ -9,6 +9,7 @@ use Rattle.lava_streams.specs.Outside.{Stand}
 use Rattle.lava_words.specs.Words.{Asked, Runs, Trees, command_of}
 use Rattle.lava_runner.specs.Counts.{AreFaultless}
 use Rattle.lava_runner.specs.Endings.{ending_status}
+use Rattle.lava_runner.specs.Isolated.{Isolates}
 use Rattle.lava_runner.specs.Reports.{IsRunOf}
 use Rattle.lava_runner.specs.lava_report.Tells.{TellsEnding, ended_in}
 use Rattle.lava_runner.specs.lava_report.declared.report.Mode.{Mode}
@@ -34,6 +35,7 @@ pub record HasFinished (mode : Mode) (directory : List ℕ) (budget : ℕ) (befo
   pub end : HostWorld
   pub report : Report
   pub ran : IsRunOf mode directory app.app app.policy budget mid end report
+  pub isolated : Isolates mode directory app.app app.policy budget mid end report ran
   pub ends : status ≡ ending_status report.ending
   pub told : TellsEnding (ended_in app.app.packages report.ending) report.ending report.uncaught end.errors after.errors status
   pub rest : after ≡ record end { errors = after.errors }

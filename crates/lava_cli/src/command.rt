@@ -9,6 +9,7 @@ ghost use Rattle.lava_lines.specs.declared.status.TheConstants as texts;
 ghost use Rattle.lava_words.specs.Words.{told_command};
 ghost use Rattle.lava_cli.specs.Causes.{CommandDecides};
 ghost use Rattle.lava_cli.specs.Finishes.{CommandFinishes};
+ghost use Rattle.lava_cli.specs.Isolates.{CommandIsolates};
 ghost use Rattle.lava_cli.specs.RunAnswers.{AnswersTo, CommandAnswers, RunAnswers};
 
 use crate::run_command::run_directory;
@@ -17,6 +18,7 @@ use lava_lines::status::{MEMORY_LINE, MEMORY_STATUS, USAGE_LINE, USAGE_STATUS};
 use lava_runner::lava_loading::laws::one_loading;
 use lava_runner::lava_report::report::Mode;
 use lava_runner::lava_report::run_report::report_run;
+use lava_runner::laws::each_run_isolates;
 use lava_streams::clock::Clock;
 use lava_streams::folder::Folder;
 use lava_streams::sink::Sink;
@@ -141,8 +143,16 @@ pub fn lava<F: Folder, I: Source, O: Sink, E: Sink, C: Clock>(
         let after = host_world (F.Folder.stand folder.new) (I.Source.stand input.new)
         (O.Sink.stand out.new) (E.Sink.stand err.new) (C.Clock.stand clock.new) in
         CommandFinishes (map string_bytes words.now) before after result }
+    // Each package of a run is its own: isolation holds of the journal of each run.
+    ensures isolates { let before = host_world (F.Folder.stand folder.old)
+        (I.Source.stand input.old) (O.Sink.stand out.old) (E.Sink.stand err.old)
+        (C.Clock.stand clock.old) in
+        let after = host_world (F.Folder.stand folder.new) (I.Source.stand input.new)
+        (O.Sink.stand out.new) (E.Sink.stand err.new) (C.Clock.stand clock.new) in
+        CommandIsolates (map string_bytes words.now) before after result }
 {
     one_loading();
+    each_run_isolates();
     answer(alloc, words, folder, input, out, err, clock)
 }
 

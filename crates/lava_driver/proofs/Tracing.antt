@@ -1,5 +1,5 @@
 -- How the trace of a run goes on with each crossing.
-use Rattle.std.proofs.Common.{◌≡◌, ℕ, suc, false, List, [], ◌∷◌, Option, None, refl, sym, ap, ◌∙◌, subst}
+use Rattle.std.proofs.Common.{◌≡◌, ℕ, suc, false, List, [], ◌∷◌, Option, Some, None, IfSome, refl, sym, ap, ◌∙◌, subst}
 use Rattle.js_world.specs.js_run.Heap.{World, begins, cross, heap}
 use Rattle.js_world.specs.js_run.Journal.{Application, Crossing, first_import}
 use Rattle.js_world.specs.js_machine.declared.frame.Mode.{Mode}
@@ -17,7 +17,7 @@ use Rattle.lava_host.specs.Hosts.{HostWorld}
 use Rattle.lava_host.specs.declared.fault.Which.{Which}
 use Rattle.lava_driver.specs.Ran.{made_at}
 use Rattle.lava_driver.specs.Talks.{Agrees, IsTalk, Talk, talk_of}
-use Rattle.lava_driver.specs.Traces.{HasNoted, HasTracedTo, HasWritten, IsTraceOf, IsTracing, TraceText, trace_of, trace_start, with_newest}
+use Rattle.lava_driver.specs.Traces.{AllCanBeRead, CanBeRead, HasNoted, HasTracedTo, HasWritten, IsTraceOf, IsTracing, TraceText, trace_of, trace_start, with_newest}
 use Rattle.lava_driver.proofs.Growing.{Grown, advance, journal_at, runs_grown, stands_so, stopped_grown}
 use Rattle.lava_driver.proofs.Underway.{asked_here}
 
@@ -28,19 +28,28 @@ wrote : (parties : List (List ℕ)) (app : Application) (after : World) (js : Li
     → IsTraceOf parties app after.journal new
 wrote parties app after js v old new g h w t =
     let x : Crossing = g.0 in
-    w.written
-    ∙ ap (with_newest old) (sym w.is ∙ h w.traces ∙ ap (newest_crossing app) g.1)
-    ∙ ap (λ o. with_newest o (newest_crossing app (x ∷ js))) t
-    ∙ ap (trace_of parties app) (sym g.1)
+    let newest : Some w.newest ≡ newest_crossing app (x ∷ js) = sym w.is ∙ h w.traces ∙ ap (newest_crossing app) g.1 in
+    record {
+      is =
+          w.written
+          ∙ ap (with_newest old) newest
+          ∙ ap (λ o. with_newest o (newest_crossing app (x ∷ js))) t.is
+          ∙ ap (trace_of parties app) (sym g.1);
+      ranges = subst (AllCanBeRead app) (sym g.1) (subst (λ o. IfSome o CanBeRead) newest w.reads, t.ranges);
+    }
+
+-- nothing crossed
+same_lines : (parties : List (List ℕ)) (app : Application) (js ks : List Crossing) (old new : TraceText) → ks ≡ js → new ≡ old → IsTraceOf parties app js old → IsTraceOf parties app ks new
+same_lines parties app js ks old new g n t = record { is = n ∙ t.is ∙ ap (trace_of parties app) (sym g); ranges = subst (AllCanBeRead app) (sym g) t.ranges }
 
 noted : (parties : List (List ℕ)) (app : Application) (w after : World) (v : WorldView) (t : Turn) (old new : TraceText) → Grown after.control w.journal after.journal → After app w after v t → HasNoted v t old new → IsTraceOf parties app w.journal old
     → IsTraceOf parties app (journal_at t w after) new
 noted parties app w after v (turn.Runs m) old new g a n t = wrote parties app after w.journal v old new (subst (λ c. Grown c w.journal after.journal) a.control g) a.newest n t
 noted parties app w after v (turn.Over ending.Done) old new g a n t = wrote parties app after w.journal v old new (subst (λ c. Grown c w.journal after.journal) a.control g) a.newest n t
 noted parties app w after v (turn.Over ending.Uncaught) old new g a n t = wrote parties app after w.journal v old new (subst (λ c. Grown c w.journal after.journal) a.control g) a.newest n t
-noted parties app w after v (turn.Over (ending.Budget p)) old new g a n t = n ∙ t ∙ ap (trace_of parties app) (sym (subst (λ c. Grown c w.journal after.journal) a.control g))
-noted parties app w after v (turn.Over (ending.Fault p h)) old new g a n t = n ∙ t ∙ ap (trace_of parties app) (sym (subst (λ c. Grown c w.journal after.journal) a.control g))
-noted parties app w after v (turn.Asks p) old new g a n t = n ∙ t
+noted parties app w after v (turn.Over (ending.Budget p)) old new g a n t = same_lines parties app w.journal after.journal old new (subst (λ c. Grown c w.journal after.journal) a.control g) n t
+noted parties app w after v (turn.Over (ending.Fault p h)) old new g a n t = same_lines parties app w.journal after.journal old new (subst (λ c. Grown c w.journal after.journal) a.control g) n t
+noted parties app w after v (turn.Asks p) old new g a n t = same_lines parties app w.journal w.journal old new refl n t
 
 -- WHERE THE RUN STANDS
 
@@ -55,7 +64,7 @@ pub first_traced : (parties : List (List ℕ)) (first mid new : WorldView) (m : 
 first_traced parties first mid new m old now rests e b t w = record {
   crossings = 0;
   stands = λ app r g. b.begins app (rests app (begins app) r);
-  lines = λ app r g. wrote parties app (begins app) [] new old now (first_import, refl) (b.begins app (rests app (begins app) r)).newest w t;
+  lines = λ app r g. wrote parties app (begins app) [] new old now (first_import, refl) (b.begins app (rests app (begins app) r)).newest w (record { is = t; ranges = tt });
   budget = b.budget ∙ e;
 }
 

@@ -1,5 +1,5 @@
 -- The text of a trace: the lines of a journal, with the first ones before them and the last ones behind them.
-use Rattle.std.specs.Prelude.{◌≡◌, ℕ, zero, suc, ◌+◌, true, false, List, [], ◌∷◌, ◌++◌, ◌⊎◌, length, Option, Some, None}
+use Rattle.std.specs.Prelude.{◌≡◌, ℕ, zero, suc, ◌+◌, ◌<◌, ◌≤◌, ◌^◌, true, false, List, [], ◌∷◌, ◌++◌, ◌⊎◌, length, sum, Option, Some, None, IfSome, ⊤}
 use Rattle.js_desc.specs.declared.ending.Ending as desc
 use Rattle.js_desc.specs.declared.ending.Ending.TheVariants as told
 use Rattle.js_world.specs.js_run.Completions as halt
@@ -13,8 +13,10 @@ use Rattle.js_world.specs.js_crossing.declared.ending.Ending.TheVariants as endi
 use Rattle.js_world.specs.js_crossing.declared.ending.Turn.{Turn}
 use Rattle.js_world.specs.js_crossing.declared.ending.Turn.TheVariants as turn
 use Rattle.js_world.specs.js_crossing.declared.newest.TracedCrossing.{TracedCrossing}
-use Rattle.lava_journal.specs.Lines.{crossing_line, end_text, start_text}
+use Rattle.lava_journal.specs.Lines.{HasSteps, crossing_line, end_text, start_text}
 use Rattle.lava_journal.specs.Sheets.{TraceNames, no_names}
+use Rattle.lava_ranges.specs.Ranges.{HavePaths, IsInRange}
+use Rattle.lava_ranges.specs.Starts.{MayBeginTrace}
 use Rattle.lava_host.specs.Hosts.{HostWorld}
 use Rattle.lava_host.specs.declared.fault.Which.{Which}
 use Rattle.lava_host.specs.declared.fault.Which.TheVariants as which
@@ -22,6 +24,7 @@ use Rattle.lava_streams.specs.Outside.{Fails, Grows, Stand}
 use Rattle.lava_driver.specs.Ran.{AreAskedIn, BeginsSo, HasRun, StandsAt, made_at}
 use Rattle.lava_driver.specs.Talks.{Agrees, AreTalks, Talk, newest_failed}
 use Rattle.lava_driver.specs.declared.run.Ran.{Ran}
+use Rattle.lava_driver.specs.declared.trace.TheConstants.{MAX_TEXT}
 use Rattle.lava_driver.specs.declared.trace_run.Traced.{Traced}
 
 -- THE TEXT
@@ -81,16 +84,28 @@ trace_text parties app w e = (trace_of parties app w.journal).text ++ end_text (
 
 -- ON THE WAY
 
--- what is written is the trace of a journal so far
-abbrev pub IsTraceOf : (parties : List (List ℕ)) → Application → List Crossing → TraceText → Type 0
-IsTraceOf parties app journal t = t ≡ trace_of parties app journal
+-- a line keeps to what can be read back
+-- own: what a line of a run keeps to
+abbrev pub CanBeRead : TracedCrossing → Type 0
+CanBeRead x = IsInRange x.crossing × HavePaths x.marks
 
--- the line of the newest crossing is written, where crossings are traced
+-- so does the line of each crossing of a journal
+abbrev pub AllCanBeRead : Application → List Crossing → Type 0
+AllCanBeRead app [] = ⊤
+AllCanBeRead app (x ∷ older) = IfSome (newest_crossing app (x ∷ older)) CanBeRead × AllCanBeRead app older
+
+-- what is written is the trace of a journal so far, and each line of it keeps to what can be read back
+pub record IsTraceOf (parties : List (List ℕ)) (app : Application) (journal : List Crossing) (t : TraceText) : Type 0 where
+  pub is : t ≡ trace_of parties app journal
+  pub ranges : AllCanBeRead app journal
+
+-- the line of the newest crossing is written, where crossings are traced, and keeps to what can be read back
 pub record HasWritten (v : WorldView) (old new : TraceText) : Type 0 where
   pub traces : v.tracing ≡ true
   pub newest : TracedCrossing
   pub is : v.newest ≡ Some newest
   pub written : new ≡ with_crossing old newest
+  pub reads : CanBeRead newest
 
 -- a turn that comes by a crossing has its line, and another one has none
 abbrev pub HasNoted : WorldView → Turn → (old new : TraceText) → Type 0
@@ -125,6 +140,20 @@ first_failed (Some w) = Some w
 abbrev pub PutsText : List ℕ → (failed which : Option Which) → (before after : Stand (List ℕ)) → Type 0
 PutsText text failed which before after = ((which ≡ failed) × Grows before after text) ⊎ ((which ≡ first_failed failed) × Fails before after text)
 
+-- the end of a trace can be read back: 64 bits hold the sum of all steps and the number of each crossing, the party that the ending names has steps, and the text has no place for more names than an id can number
+pub record IsInBounds (text : List ℕ) (steps : List ℕ) (told : desc.Ending) (crossings : ℕ) : Type 0 where
+  pub total : sum steps < 2 ^ 64
+  pub party : HasSteps steps told
+  pub counted : crossings < 2 ^ 64
+  pub short : length text ≤ MAX_TEXT
+
+-- the text of a run that is over keeps to what can be read back, from the names of its parties to its end
+-- own: what the trace of a run keeps to
+pub record IsReadable (parties : List (List ℕ)) (app : Application) (w : World) (told : desc.Ending) (text : List ℕ) : Type 0 where
+  pub begins_so : MayBeginTrace parties
+  pub ranges : AllCanBeRead app w.journal
+  pub bounds : IsInBounds text (steps_from 0 (length parties) w.steps) told (length w.journal)
+
 -- the last lines of a trace were written, and the whole was put to the output
 pub record IsFinished (v : WorldView) (ran : Ran) (trace : TraceText) (before after : Stand (List ℕ)) (r : Traced) : Type 0 where
   pub ending : r.ending ≡ ran.ending
@@ -132,6 +161,7 @@ pub record IsFinished (v : WorldView) (ran : Ran) (trace : TraceText) (before af
   pub tells : ending_told (ending_of ran.ending) ≡ Some told
   pub puts : PutsText (trace.text ++ end_text v.steps told) ran.failed r.failed before after
   pub crossings : r.crossings ≡ trace.count
+  pub bounds : IsInBounds (trace.text ++ end_text v.steps told) v.steps told trace.count
 
 -- the run is over, and its trace is put to the output: it is a run whose printed lines go nowhere, and in each application that begins as the first world rests and whose outside answers so the trace is that of the run's journal
 pub record HasTraced (parties : List (List ℕ)) (dir : List ℕ) (first : WorldView) (before : HostWorld) (now : WorldView) (r : Traced) (after : HostWorld) : Type 0 where
@@ -148,3 +178,6 @@ pub record HasTraced (parties : List (List ℕ)) (dir : List ℕ) (first : World
       → text ≡ trace_text parties app (heap app first.budget (suc runs.come.underway.crossings)) told
   pub count : (app : Application) → Rests app (begins app) first → Agrees app runs.come.talks
       → r.crossings ≡ length (heap app first.budget (suc runs.come.underway.crossings)).journal
+  -- it keeps to what can be read back
+  pub reads : (app : Application) → Rests app (begins app) first → Agrees app runs.come.talks
+      → IsReadable parties app (heap app first.budget (suc runs.come.underway.crossings)) told text

@@ -1,8 +1,8 @@
 // The text of a trace, line by line as crossings happen.
 
-ghost use Rattle.std.specs.Prelude.{◌≡◌, ◌++◌, sum, true, IfOk, IfSome, OnOk};
+ghost use Rattle.std.specs.Prelude.{◌≡◌, ◌++◌, ◌<◌, ◌≤◌, ◌^◌, length, sum, true, IfOk, IfSome, OnOk};
 ghost use Rattle.lava_journal.specs.Lines.{HasSteps, end_text};
-ghost use Rattle.lava_driver.specs.Traces.{HasNoted, HasWritten, trace_start, with_crossing};
+ghost use Rattle.lava_driver.specs.Traces.{CanBeRead, HasNoted, HasWritten, trace_start, with_crossing};
 
 use js_desc::ending::Ending as ToldEnding;
 use js_world::js_crossing::ending::{Ending, Turn};
@@ -13,8 +13,12 @@ use lava_base::memory::OutOfMemory;
 use lava_base::name::Name;
 use lava_journal::frame::{write_end, write_start};
 use lava_journal::names::Names;
+use lava_ranges::crossing::{have_paths, is_in_range};
 use std::alloc::Global;
 use std::marker::Model;
+
+/// How many bytes a trace may have: twice as many as a party may have names behind those of the start, since each name takes two bytes at least.
+pub const MAX_TEXT: usize = 8_589_934_568;
 
 /// A trace that is being written.
 #[derive(Drop)]
@@ -77,7 +81,9 @@ fn push_end(
     ending: ToldEnding,
     text: &mut List<u8>,
 ) -> Result<(), OutOfMemory>
-    ensures { OnOk result (text.new ≡ text.old ++ end_text steps.now ending) }
+    ensures written { OnOk result (text.new ≡ text.old ++ end_text steps.now ending) }
+    ensures total { OnOk result (sum steps.now < 2 ^ 64) }
+    ensures party { OnOk result (HasSteps steps.now ending) }
 {
     let listed = list_of(alloc, steps)?;
     if !has_steps(steps, ending) {
@@ -87,6 +93,13 @@ fn push_end(
         Some(_) => write_end(alloc, &listed, &ending, text),
         None => Err(OutOfMemory),
     }
+}
+
+/// Whether the line of a crossing keeps to what can be read back.
+fn can_be_read(newest: &TracedCrossing) -> bool
+    ensures { result ≡ true → CanBeRead newest.now }
+{
+    is_in_range(&newest.crossing) && have_paths(&newest.marks)
 }
 
 impl Tracer {
@@ -112,15 +125,20 @@ impl Tracer {
 
     /// How many crossings have their lines.
     pub fn count(&self) -> u64
-        ensures { result ≡ self.now.count }
+        ensures count { result ≡ self.now.count }
+        ensures counted { self.now.count < 2 ^ 64 }
     {
         self.count
     }
 
-    /// The line of a crossing is written.
+    /// The line of a crossing is written, where it keeps to what can be read back.
     fn write_line(&mut self, newest: &TracedCrossing) -> Result<(), OutOfMemory>
-        ensures { OnOk result (self.new ≡ with_crossing self.old newest.now) }
+        ensures { let written = self.new ≡ with_crossing self.old newest.now in
+            OnOk result (written × CanBeRead newest.now) }
     {
+        if !can_be_read(newest) {
+            return Err(OutOfMemory);
+        }
         match self.count.checked_add(1) {
             Some(number) => {
                 self.names
@@ -143,7 +161,7 @@ impl Tracer {
         }
     }
 
-    /// The line of the newest crossing is written. Want of memory is answered too where crossings are not traced, and after 18,446,744,073,709,551,615 of them.
+    /// The line of the newest crossing is written. Want of memory is answered too where crossings are not traced, where the line could not be read back (`can_be_read`), and after 18,446,744,073,709,551,615 of them.
     pub fn write(&mut self, world: &World) -> Result<(), OutOfMemory>
         ensures { OnOk result (HasWritten world.now self.old self.new) }
     {
@@ -167,16 +185,23 @@ impl Tracer {
         }
     }
 
-    /// The lines of the steps and the last line are written. Want of memory is answered too where `push_end` says so.
+    /// The lines of the steps and the last line are written. Want of memory is answered too where `push_end` says so, and where the text has more than `MAX_TEXT` bytes then.
     pub fn end(
         &mut self,
         alloc: Global,
         steps: &[u64],
         ending: ToldEnding,
     ) -> Result<(), OutOfMemory>
-        ensures { let end = end_text steps.now ending in
+        ensures written { let end = end_text steps.now ending in
             OnOk result (self.new ≡ record self.old { text = self.old.text ++ end }) }
+        ensures total { OnOk result (sum steps.now < 2 ^ 64) }
+        ensures party { OnOk result (HasSteps steps.now ending) }
+        ensures short { OnOk result (length self.new.text ≤ MAX_TEXT) }
     {
-        push_end(alloc, steps, ending, &mut self.text)
+        push_end(alloc, steps, ending, &mut self.text)?;
+        if self.text.len() > MAX_TEXT {
+            return Err(OutOfMemory);
+        }
+        Ok(())
     }
 }

@@ -3,6 +3,7 @@
 ghost use Rattle.std.specs.Prelude.{◌≡◌, ℕ, [], List, Option, length, IfOk, OnOk, Some};
 ghost use Rattle.lava_host.specs.Hosts.{host_world, HostWorld};
 ghost use Rattle.lava_host.specs.declared.fault.Which.{Which};
+ghost use Rattle.lava_ranges.specs.Starts.{MayBeginTrace};
 ghost use Rattle.js_world.specs.Worlds.{WorldView, ending_of};
 ghost use Rattle.js_world.specs.js_crossing.declared.ending.Turn.TheVariants as turn;
 ghost use Rattle.lava_driver.specs.Talks.{Talk};
@@ -21,6 +22,7 @@ use lava_base::memory::OutOfMemory;
 use lava_base::name::Name;
 use lava_host::fault::Which;
 use lava_host::host::Host;
+use lava_ranges::start::may_begin;
 use lava_streams::clock::Clock;
 use lava_streams::folder::Folder;
 use lava_streams::sink::Sink;
@@ -235,6 +237,16 @@ pub fn as_many(world: &World, count: usize) -> Result<(), OutOfMemory>
     Ok(())
 }
 
+/// The names of the parties begin a trace. Want of memory is answered where they do not.
+fn begin_a_trace(alloc: Global, parties: &List<Name>) -> Result<(), OutOfMemory>
+    ensures { OnOk result (MayBeginTrace parties.now) }
+{
+    if may_begin(alloc, parties)? {
+        return Ok(());
+    }
+    Err(OutOfMemory)
+}
+
 /// Runs all parties from the host's first import to the end, and puts the trace of that to the output, in one piece at the end. What `console` prints goes nowhere.
 pub fn trace_run<F: Folder, I: Source, O: Sink, E: Sink, C: Clock>(
     world: &mut World,
@@ -254,6 +266,7 @@ pub fn trace_run<F: Folder, I: Source, O: Sink, E: Sink, C: Clock>(
         (O.Sink.stand out.new) (E.Sink.stand err.new) (C.Clock.stand clock.new) in
         IfOk result (λ r. HasTraced parties.now dir.now world.old before world.new r after) }
 {
+    begin_a_trace(alloc, parties)?;
     let mut tracer = Tracer::new(alloc, parties)?;
     let ran = run_traced(
         world,

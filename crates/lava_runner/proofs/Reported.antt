@@ -42,7 +42,7 @@ use Rattle.lava_packages.specs.Packages.{IsFirstOf, party_names, run_parts}
 use Rattle.lava_driver.specs.Ran.{AreAskedIn, BeginsSo}
 use Rattle.lava_runner.specs.Reports.{EndsSo, HasReport, HasRunFrom, HasTraceReport, HasTracedFrom, IsApplicationOf, IsEmittedRun, IsReportOf, IsTracedRun, IsUncaughtText, traced_as, uncaught_text}
 use Rattle.lava_driver.specs.Talks.{Talk, newest_failed}
-use Rattle.lava_driver.specs.Traces.{HasTraced, PutsText, ending_told, steps_from, trace_text}
+use Rattle.lava_driver.specs.Traces.{HasTraced, IsReadable, PutsText, ending_told, steps_from, trace_text}
 use Rattle.lava_packages.specs.Uncaught.{IsUncaughtIn, Thrown, host_marks, marks_there, shown, thrown_in, uncaught_of}
 use Rattle.lava_report.specs.declared.report.Report.{Report}
 use Rattle.lava_packages.specs.declared.common.CommonPart.{CommonPart}
@@ -216,5 +216,6 @@ is_traced law calls gone made calling (Ok r) dir loaded policy budget before aft
                 (subst (λ b. IsOver app (heap.heap app b n) h.last t.ran.ending) f.limit (come.underway.stands app (begins_so parts budget first f app a) g))
                 (t.count app (begins_so parts budget first f app a) g ∙ ap (λ b. length (heap.heap app b n).journal) f.limit);
             trace = t.is app (begins_so parts budget first f app a) g ∙ ap (λ b. trace_text names app (heap.heap app b n) t.told) f.limit;
+            reads = subst (λ b. IsReadable names app (heap.heap app b n) t.told t.text) f.limit (t.reads app (begins_so parts budget first f app a) g);
           };
     }

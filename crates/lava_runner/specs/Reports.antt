@@ -21,7 +21,7 @@ use Rattle.lava_driver.specs.Ran.{AreAskedIn, HasRun}
 use Rattle.lava_driver.specs.Talks.{Agrees, AreTalks, Talk, newest_failed}
 use Rattle.lava_runner.specs.Called.{AreCalledIn}
 use Rattle.lava_packages.specs.Uncaught.{IsUncaughtIn, uncaught_of}
-use Rattle.lava_driver.specs.Traces.{HasTraced, PutsText, ending_told, steps_from, trace_text}
+use Rattle.lava_driver.specs.Traces.{HasTraced, IsReadable, PutsText, ending_told, steps_from, trace_text}
 use Rattle.lava_report.specs.declared.report.Mode.{Mode}
 use Rattle.lava_report.specs.declared.report.Mode.TheVariants as mode
 use Rattle.lava_report.specs.declared.report.Report.{Report}
@@ -108,10 +108,11 @@ pub record HasTracedFrom (dir : List ℕ) (packages : List Package) (ms : List (
   pub is : IsFirstOf packages ms policy c budget first
   pub report : HasTraceReport (party_names packages) dir first before after r
 
--- a run ends with this report, and this is its trace
+-- a run ends with this report, and this is its trace, which keeps to what can be read back
 pub record TracesSo (parties : List (List ℕ)) (app : Application) (budget crossings : ℕ) (told : desc.Ending) (text : List ℕ) (r : Report) : Type 0 where
   pub ends : EndsSo app budget crossings r
   pub trace : text ≡ trace_text parties app (heap app budget crossings) told
+  pub reads : IsReadable parties app (heap app budget crossings) told text
 
 -- the run of an application whose trace is put to the output at its end: what it asks of the host was done to the outside, but that its printed lines went nowhere, and in each application whose outside answers so it ends with this report, and this is the trace of its journal
 pub record IsTracedRun (dir : List ℕ) (app : loads.Application ModuleCode) (policy : Rows) (budget : ℕ) (before after : HostWorld) (r : Report) : Type 0 where

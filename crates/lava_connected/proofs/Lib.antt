@@ -1,0 +1,2 @@
+pub mod Connected_laws
+pub mod Graph_laws
