@@ -1,98 +1,40 @@
 -- The lines of a journal may be told: line by line, with the kinds of the answers that are open.
-use Rattle.std.proofs.Common.{◌≡◌, ℕ, ◌+◌, ◌-◌, ◌<◌, ◌≤◌, ◌^◌, ◌==◌, Bool, true, false, List, [], ◌∷◌, ◌++◌, length, take, get_or, refl, ap, ◌∙◌, sym, subst, arith, if◌then◌else◌}
-use Rattle.std.proofs.lemmas.Bool.{ne_eqb}
+use Rattle.std.proofs.Common.{◌≡◌, ℕ, ◌+◌, ◌-◌, ◌<◌, ◌≤◌, ◌^◌, true, false, List, [], ◌∷◌, ◌++◌, length, refl, ap, ◌∙◌, sym, subst, arith, if◌then◌else◌}
 use Rattle.std.proofs.lemmas.List.{length_push}
 use Rattle.std.specs.List.{AllByRecursion}
-use Rattle.std.specs.Prelude.{⊤}
 use Rattle.lava_base.specs.declared.ids.MadeSymbol.{MadeSymbol}
 use Rattle.lava_base.specs.declared.ids.Ref.{Ref}
 use Rattle.js_desc.specs.declared.crossing.CrossBody.{CrossBody}
 use Rattle.js_desc.specs.declared.crossing.CrossBody.TheVariants as body
 use Rattle.js_crossing.specs.js_run.Chain.{Journal_is_chain}
 use Rattle.js_crossing.specs.js_run.Heap.{heap}
-use Rattle.js_crossing.specs.js_run.Identities.{IsAmong, Message, Replies, Requests}
 use Rattle.js_crossing.specs.js_run.Journal.{Application, Crossing}
 use Rattle.js_crossing.specs.js_run.Laws.{IsWellMade, Journal_is_lawful}
-use Rattle.js_crossing.specs.js_run.Net.{rest}
-use Rattle.js_crossing.specs.js_run.Runs.{Asks, Imports, Makes}
-use Rattle.js_crossing.specs.Newest.{body_of, crossing_of, marks_at_crossing}
+use Rattle.js_crossing.specs.Newest.{marks_at_crossing}
 use Rattle.lava_journal.specs.Bodies.{body_pieces}
 use Rattle.lava_journal.specs.Sheets.{TraceNames, no_names}
 use Rattle.lava_ranges.specs.Ranges.{IsInRange, Ranged_body}
 use Rattle.lava_trace.specs.Courses.{is_make, may_cross, opened, opens, wanted}
 use Rattle.lava_trace.specs.declared.answers.AnswerKind.{AnswerKind}
-use Rattle.lava_trace.specs.declared.answers.AnswerKind.TheVariants as kind
 use Rattle.lava_trace.specs.declared.left.TheConstants.{MAX_PARTY}
 use Rattle.lava_trace.specs.declared.line.TraceLine.{TraceLine}
-use Rattle.lava_trace_laws.specs.Sound.{IsOfKind, Sound_body, Sound_crossing}
-use Rattle.lava_trace_laws.specs.Spelled.{HaveMarks}
+use Rattle.lava_trace_laws.specs.Sound.{Sound_body}
 use Rattle.lava_trace_laws.specs.Written.{line_of, parties_then}
 use Rattle.lava_told.specs.Told.{HasOwner, MayAllBeSaid, MayBeSaid}
-use Rattle.lava_course.specs.Courses.{AllHaveMarks, AllMayCross, AllOfKind, AreAnswers, IsConnected, IsWanted, MayBeWritten, OfKind, asks_behind, kinds_then, latest, open_kinds}
+use Rattle.lava_course.specs.Courses.{AllHaveMarks, AllMayCross, AllOfKind, IsConnected, MayBeWritten, OfKind, asks_behind}
 use Rattle.lava_course.specs.Lines.{journal_lines}
-use Rattle.lava_course.proofs.Between_laws.{AllInside, Inside, MakesNone, inside_crosses, journal_inside}
+use Rattle.lava_course.proofs.Between_laws.{AllInside, MakesNone, inside_crosses, journal_inside}
 use Rattle.lava_course.proofs.Line_laws.{IsMarked, all_before, all_more, journal_marked, line_owned}
 
 -- KINDS
 
--- the kinds that are open, the latest last
-abbrev reversed : List AnswerKind → List AnswerKind
-reversed [] = []
-reversed (k ∷ ks) = reversed ks ++ k ∷ []
-
-last_is : (ks : List AnswerKind) (k : AnswerKind) → get_or (ks ++ k ∷ []) (length ks) kind.Value ≡ k
-last_is [] k = refl
-last_is (j ∷ ks) k = last_is ks k
-
-front_is : (ks : List AnswerKind) (k : AnswerKind) → take (length ks) (ks ++ k ∷ []) ≡ ks
-front_is [] k = refl
-front_is (j ∷ ks) k = ap (λ l. j ∷ l) (front_is ks k)
-
-one_less : (ks : List AnswerKind) (k : AnswerKind) → length (ks ++ k ∷ []) - 1 ≡ length ks
-one_less ks k = let e = length_push ks k in omega (arith, e)
-
-some_open : (ks : List AnswerKind) (k : AnswerKind) → (length (ks ++ k ∷ []) == 0) ≡ false
-some_open ks k = let e = length_push ks k in ne_eqb (length (ks ++ k ∷ [])) 0 (λ z. omega (arith, e, z))
-
-wanted_is : (ks : List AnswerKind) → wanted (reversed ks) ≡ latest ks
-wanted_is [] = refl
-wanted_is (k ∷ ks) =
-    let l = reversed ks ++ k ∷ [] in
-    ap (λ b. if b then kind.Value else get_or l (length l - 1) kind.Value) (some_open (reversed ks) k) ∙ ap (λ (n : ℕ). get_or l n kind.Value) (one_less (reversed ks) k) ∙ last_is (reversed ks) k
-
-closed_is : (ks : List AnswerKind) → take (length (reversed ks) - 1) (reversed ks) ≡ reversed (rest ks)
-closed_is [] = refl
-closed_is (k ∷ ks) = ap (λ (n : ℕ). take n (reversed ks ++ k ∷ [])) (one_less (reversed ks) k) ∙ front_is (reversed ks) k
-
-opened_is : (m : Message Ref MadeSymbol) (ks : List AnswerKind) → opened (reversed ks) (opens (body_of m)) ≡ reversed (kinds_then m ks)
-opened_is (Requests (Asks r x)) ks = refl
-opened_is (Requests (Imports link path)) ks = refl
-opened_is (Requests (Makes globals modules meter)) ks = refl
-opened_is (Replies r) ks = closed_is ks
-
-behind_more : (asks : List AnswerKind) (ls : List TraceLine) (l : TraceLine) → asks_behind asks (ls ++ l ∷ []) ≡ opened (asks_behind asks ls) (opens l.crossing.body)
+pub behind_more : (asks : List AnswerKind) (ls : List TraceLine) (l : TraceLine) → asks_behind asks (ls ++ l ∷ []) ≡ opened (asks_behind asks ls) (opens l.crossing.body)
 behind_more asks [] l = refl
 behind_more asks (x ∷ ls) l = behind_more (opened asks (opens x.crossing.body)) ls l
-
-behind_is : (app : Application) (journal : List Crossing) → asks_behind [] (journal_lines app journal) ≡ reversed (open_kinds journal)
-behind_is app [] = refl
-behind_is app (x ∷ older) =
-    behind_more [] (journal_lines app older) _ ∙ ap (λ asks. opened asks (opens (body_of x.sent.body))) (behind_is app older) ∙ opened_is x.sent.body (open_kinds older)
 
 pub kinds_more : (asks : List AnswerKind) (ls : List TraceLine) (l : TraceLine) → AllOfKind asks ls → OfKind (asks_behind asks ls) l.crossing.body → AllOfKind asks (ls ++ l ∷ [])
 kinds_more asks [] l h k = (k, tt)
 kinds_more asks (x ∷ ls) l h k = (h.0, kinds_more (opened asks (opens x.crossing.body)) ls l h.1 k)
-
-of_kind : (m : Message Ref MadeSymbol) (asks ks : List AnswerKind) → asks ≡ reversed ks → IsWanted ks m → OfKind asks (body_of m)
-of_kind (Requests (Asks r x)) asks ks e h = tt
-of_kind (Requests (Imports link path)) asks ks e h = tt
-of_kind (Requests (Makes globals modules meter)) asks ks e h = tt
-of_kind (Replies r) asks ks e h = subst (λ k. IsOfKind k r) (sym (ap wanted e ∙ wanted_is ks)) h
-
-pub journal_of_kind : (app : Application) (journal : List Crossing) → AreAnswers journal → AllOfKind [] (journal_lines app journal)
-journal_of_kind app [] h = tt
-journal_of_kind app (x ∷ older) h =
-    kinds_more [] (journal_lines app older) _ (journal_of_kind app older h.1) (of_kind x.sent.body (asks_behind [] (journal_lines app older)) (open_kinds older) (behind_is app older) h.0)
 
 -- ALL LINES
 

@@ -1,13 +1,13 @@
 -- The laws of a journal's lines.
-use Rattle.std.specs.Prelude.{ℕ, ◌+◌, ◌<◌, ◌≤◌, ◌^◌, List, [], length}
+use Rattle.std.specs.Prelude.{ℕ, ◌+◌, ◌<◌, ◌≤◌, ◌^◌, [], length}
 use Rattle.std.specs.List.{AllByRecursion}
 use Rattle.js_crossing.specs.js_run.Heap.{heap}
-use Rattle.js_crossing.specs.js_run.Journal.{Application, Crossing}
+use Rattle.js_crossing.specs.js_run.Journal.{Application}
 use Rattle.js_crossing.specs.js_run.Laws.{IsWellMade}
 use Rattle.lava_journal.specs.Sheets.{no_names}
 use Rattle.lava_trace.specs.declared.left.TheConstants.{MAX_PARTY}
 use Rattle.lava_told.specs.Told.{MayAllBeSaid}
-use Rattle.lava_course.specs.Courses.{AllHaveMarks, AllMayCross, AllOfKind, AreAnswers, IsConnected, MayBeWritten}
+use Rattle.lava_course.specs.Courses.{AllHaveMarks, AllMayCross, AllOfKind, IsConnected, MayBeWritten}
 use Rattle.lava_course.specs.Lines.{journal_lines}
 
 -- each crossing goes from one party that is there to another one, and a Make to the next
@@ -22,10 +22,6 @@ Journal_goes_between =
 -- own: marks in a trace
 abbrev pub Journal_is_marked : Type 0
 Journal_is_marked = (app : Application) (budget crossings : ℕ) → AllHaveMarks no_names 1 (journal_lines app (heap app budget crossings).journal)
-
--- where each answer of a journal is of the kind that was asked, so are those of its lines
-abbrev pub Answers_are_of_kind : Type 0
-Answers_are_of_kind = (app : Application) (journal : List Crossing) → AreAnswers journal → AllOfKind [] (journal_lines app journal)
 
 -- so the lines of a journal may be told, where they can be written, their answers are of the kinds that were asked, and they are no more than 64 bits count
 -- own: a run's journal may be told

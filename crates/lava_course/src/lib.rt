@@ -1,11 +1,11 @@
-//! The course of a run's journal is that of a trace: its crossings go from one party to another, its answers are of the kinds that were asked, and what stands there for the first time has marks. Laws alone: the crate has no code that runs.
+//! The course of a run's journal is that of a trace: its crossings go from one party to another, and what stands there for the first time has marks. Laws alone: the crate has no code that runs.
 //!
 //! - `Lines` has the lines of a journal.
 //! - `Courses` has what the course of a journal keeps to.
 //! - `Laws` has the statements.
 #![tactic(auto)]
 
-ghost use Rattle.lava_course.specs.Laws.{Answers_are_of_kind, Journal_goes_between, Journal_is_marked, Journal_may_be_told};
+ghost use Rattle.lava_course.specs.Laws.{Journal_goes_between, Journal_is_marked, Journal_may_be_told};
 
 use js_run_laws::{journal_is_chain, journal_is_lawful};
 
@@ -32,9 +32,3 @@ pub fn journal_may_be_told()
     journal_is_chain();
     journal_is_lawful();
 }
-
-/// Where each answer of a journal is of the kind that was asked, so are those of its lines.
-#[tactic(none)]
-pub fn answers_are_of_kind()
-    ensures { Answers_are_of_kind }
-{}

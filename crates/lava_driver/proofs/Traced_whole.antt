@@ -18,7 +18,7 @@ pub kept_so : {B : Type 0} (f : B → TracedCrossing) (o : Option B) (b : B) (n 
 kept_so f o b n e d = sym e ∙ ap (option_map f) d
 
 -- the newest crossing is written
-pub written_so : {A E : Type 0} (k : Result A E) (v : WorldView) (old new : TraceText) (x : TracedCrossing) → v.tracing ≡ true → v.newest ≡ Some x → OnOk k ((new ≡ with_crossing old x) × CanBeRead x) → OnOk k (HasWritten v old new)
+pub written_so : {A E : Type 0} (k : Result A E) (v : WorldView) (old new : TraceText) (x : TracedCrossing) → v.tracing ≡ true → v.newest ≡ Some x → OnOk k ((new ≡ with_crossing old x) × CanBeRead old.asks x) → OnOk k (HasWritten v old new)
 written_so (Ok a) v old new x t is w = record { traces = t; newest = x; is = is; written = w.0; reads = w.1 }
 written_so (Err e) v old new x t is w = tt
 

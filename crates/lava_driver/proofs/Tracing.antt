@@ -35,12 +35,14 @@ wrote parties app after js v old new g h w t =
           ∙ ap (with_newest old) newest
           ∙ ap (λ o. with_newest o (newest_crossing app (x ∷ js))) t.is
           ∙ ap (trace_of parties app) (sym g.1);
-      ranges = subst (AllCanBeRead app) (sym g.1) (subst (λ o. IfSome o CanBeRead) newest w.reads, t.ranges);
+      ranges =
+          subst (AllCanBeRead parties app) (sym g.1)
+          (subst (λ o. IfSome o (CanBeRead (trace_of parties app js).asks)) newest (subst (λ asks. CanBeRead asks w.newest) (ap (λ (o : TraceText). o.asks) t.is) w.reads), t.ranges);
     }
 
 -- nothing crossed
 same_lines : (parties : List (List ℕ)) (app : Application) (js ks : List Crossing) (old new : TraceText) → ks ≡ js → new ≡ old → IsTraceOf parties app js old → IsTraceOf parties app ks new
-same_lines parties app js ks old new g n t = record { is = n ∙ t.is ∙ ap (trace_of parties app) (sym g); ranges = subst (AllCanBeRead app) (sym g) t.ranges }
+same_lines parties app js ks old new g n t = record { is = n ∙ t.is ∙ ap (trace_of parties app) (sym g); ranges = subst (AllCanBeRead parties app) (sym g) t.ranges }
 
 noted : (parties : List (List ℕ)) (app : Application) (w after : World) (v : WorldView) (t : Turn) (old new : TraceText) → Grown after.control w.journal after.journal → After app w after v t → HasNoted v t old new → IsTraceOf parties app w.journal old
     → IsTraceOf parties app (journal_at t w after) new

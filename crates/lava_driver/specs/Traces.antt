@@ -15,8 +15,11 @@ use Rattle.js_world.specs.js_crossing.declared.ending.Turn.TheVariants as turn
 use Rattle.js_world.specs.js_crossing.declared.newest.TracedCrossing.{TracedCrossing}
 use Rattle.lava_journal.specs.Lines.{HasSteps, crossing_line, end_text, start_text}
 use Rattle.lava_journal.specs.Sheets.{TraceNames, no_names}
+use Rattle.lava_ranges.specs.Kinds.{OfKind}
 use Rattle.lava_ranges.specs.Ranges.{HavePaths, IsInRange}
 use Rattle.lava_ranges.specs.Starts.{MayBeginTrace}
+use Rattle.lava_trace.specs.Courses.{opened, opens}
+use Rattle.lava_trace.specs.declared.answers.AnswerKind.{AnswerKind}
 use Rattle.lava_host.specs.Hosts.{HostWorld}
 use Rattle.lava_host.specs.declared.fault.Which.{Which}
 use Rattle.lava_host.specs.declared.fault.Which.TheVariants as which
@@ -29,15 +32,16 @@ use Rattle.lava_driver.specs.declared.trace_run.Traced.{Traced}
 
 -- THE TEXT
 
--- a trace that is being written: what is written of it, what that has named, and how many crossings it has
+-- a trace that is being written: what is written of it, what that has named, how many crossings it has, and the kinds of the answers to the open asks, the latest last
 pub record TraceText : Type 0 where
   pub text : List ℕ
   pub names : TraceNames
   pub count : ℕ
+  pub asks : List AnswerKind
 
 -- the first lines
 abbrev pub trace_start : (parties : List (List ℕ)) → TraceText
-trace_start parties = record { text = start_text parties; names = no_names; count = 0 }
+trace_start parties = record { text = start_text parties; names = no_names; count = 0; asks = [] }
 
 -- the trace with the line of one crossing more
 -- own: the crossings of a trace are numbered from 1
@@ -46,6 +50,7 @@ with_crossing t x = record {
   text = t.text ++ (crossing_line t.names (t.count + 1) x.crossing x.marks).text;
   names = (crossing_line t.names (t.count + 1) x.crossing x.marks).names;
   count = t.count + 1;
+  asks = opened t.asks (opens x.crossing.body);
 }
 
 abbrev pub with_newest : TraceText → Option TracedCrossing → TraceText
@@ -84,20 +89,20 @@ trace_text parties app w e = (trace_of parties app w.journal).text ++ end_text (
 
 -- ON THE WAY
 
--- a line keeps to what can be read back
+-- a line keeps to what can be read back, where these asks are open before it
 -- own: what a line of a run keeps to
-abbrev pub CanBeRead : TracedCrossing → Type 0
-CanBeRead x = IsInRange x.crossing × HavePaths x.marks
+abbrev pub CanBeRead : List AnswerKind → TracedCrossing → Type 0
+CanBeRead asks x = IsInRange x.crossing × HavePaths x.marks × OfKind asks x.crossing.body
 
 -- so does the line of each crossing of a journal
-abbrev pub AllCanBeRead : Application → List Crossing → Type 0
-AllCanBeRead app [] = ⊤
-AllCanBeRead app (x ∷ older) = IfSome (newest_crossing app (x ∷ older)) CanBeRead × AllCanBeRead app older
+abbrev pub AllCanBeRead : (parties : List (List ℕ)) → Application → List Crossing → Type 0
+AllCanBeRead parties app [] = ⊤
+AllCanBeRead parties app (x ∷ older) = IfSome (newest_crossing app (x ∷ older)) (CanBeRead (trace_of parties app older).asks) × AllCanBeRead parties app older
 
 -- what is written is the trace of a journal so far, and each line of it keeps to what can be read back
 pub record IsTraceOf (parties : List (List ℕ)) (app : Application) (journal : List Crossing) (t : TraceText) : Type 0 where
   pub is : t ≡ trace_of parties app journal
-  pub ranges : AllCanBeRead app journal
+  pub ranges : AllCanBeRead parties app journal
 
 -- the line of the newest crossing is written, where crossings are traced, and keeps to what can be read back
 pub record HasWritten (v : WorldView) (old new : TraceText) : Type 0 where
@@ -105,7 +110,7 @@ pub record HasWritten (v : WorldView) (old new : TraceText) : Type 0 where
   pub newest : TracedCrossing
   pub is : v.newest ≡ Some newest
   pub written : new ≡ with_crossing old newest
-  pub reads : CanBeRead newest
+  pub reads : CanBeRead old.asks newest
 
 -- a turn that comes by a crossing has its line, and another one has none
 abbrev pub HasNoted : WorldView → Turn → (old new : TraceText) → Type 0
@@ -151,7 +156,7 @@ pub record IsInBounds (text : List ℕ) (steps : List ℕ) (told : desc.Ending) 
 -- own: what the trace of a run keeps to
 pub record IsReadable (parties : List (List ℕ)) (app : Application) (w : World) (told : desc.Ending) (text : List ℕ) : Type 0 where
   pub begins_so : MayBeginTrace parties
-  pub ranges : AllCanBeRead app w.journal
+  pub ranges : AllCanBeRead parties app w.journal
   pub bounds : IsInBounds text (steps_from 0 (length parties) w.steps) told (length w.journal)
 
 -- the last lines of a trace were written, and the whole was put to the output

@@ -14,6 +14,8 @@ use lava_base::name::Name;
 use lava_journal::frame::{write_end, write_start};
 use lava_journal::names::Names;
 use lava_ranges::crossing::{have_paths, is_in_range};
+use lava_ranges::kinds::is_wanted;
+use lava_trace::answers::{AnswerKind, open_or_close, opens};
 use std::alloc::Global;
 use std::marker::Model;
 
@@ -26,6 +28,8 @@ pub struct Tracer {
     names: Names,
     /// The number of the newest crossing that has its line.
     count: u64,
+    /// The kinds of the answers to the open asks, the latest last.
+    asks: List<AnswerKind>,
     text: List<u8>,
 }
 
@@ -34,7 +38,7 @@ impl Model for Tracer {
 
     ghost Value = { TraceText };
 
-    ghost view = { λ t. record { text = t.text; names = t.names; count = t.count } };
+    ghost view = { λ t. record { text = t.text; names = t.names; count = t.count; asks = t.asks } };
 }
 
 /// The sum of steps, where it can be counted.
@@ -95,11 +99,13 @@ fn push_end(
     }
 }
 
-/// Whether the line of a crossing keeps to what can be read back.
-fn can_be_read(newest: &TracedCrossing) -> bool
-    ensures { result ≡ true → CanBeRead newest.now }
+/// Whether the line of a crossing keeps to what can be read back, where these asks are open before it.
+fn can_be_read(asks: &List<AnswerKind>, newest: &TracedCrossing) -> bool
+    ensures { result ≡ true → CanBeRead asks.now newest.now }
 {
-    is_in_range(&newest.crossing) && have_paths(&newest.marks)
+    is_in_range(&newest.crossing)
+        && have_paths(&newest.marks)
+        && is_wanted(asks, &newest.crossing.body)
 }
 
 impl Tracer {
@@ -112,6 +118,7 @@ impl Tracer {
         Ok(Tracer {
             names: Names::new(alloc),
             count: 0,
+            asks: List::new(alloc),
             text,
         })
     }
@@ -134,15 +141,16 @@ impl Tracer {
     /// The line of a crossing is written, where it keeps to what can be read back.
     fn write_line(&mut self, newest: &TracedCrossing) -> Result<(), OutOfMemory>
         ensures { let written = self.new ≡ with_crossing self.old newest.now in
-            OnOk result (written × CanBeRead newest.now) }
+            OnOk result (written × CanBeRead self.old.asks newest.now) }
     {
-        if !can_be_read(newest) {
+        if !can_be_read(&self.asks, newest) {
             return Err(OutOfMemory);
         }
         match self.count.checked_add(1) {
             Some(number) => {
                 self.names
                     .write_crossing(number, &newest.crossing, &newest.marks, &mut self.text)?;
+                open_or_close(&mut self.asks, opens(&newest.crossing.body))?;
                 self.count = number;
                 Ok(())
             }

@@ -1,2 +1,3 @@
+pub mod Kinds
 pub mod Ranges
 pub mod Starts

@@ -1,7 +1,7 @@
 -- The laws of the trace that a run writes.
 use Rattle.std.specs.Prelude.{◌≡◌, ℕ, suc, ◌+◌, ◌≤◌, List, [], length}
 use Rattle.js_desc.specs.declared.ending.Ending.{Ending}
-use Rattle.lava_course.specs.Courses.{AllOfKind, IsConnected}
+use Rattle.lava_course.specs.Courses.{IsConnected}
 use Rattle.lava_course.specs.Lines.{journal_lines}
 use Rattle.lava_driver.specs.Talks.{Agrees}
 use Rattle.lava_driver.specs.Traces.{HasTraced, IsReadable, trace_text}
@@ -37,14 +37,13 @@ Text_is_read =
     → 2 ≤ length parties → MayAllBeSaid (length parties) [] no_names 1 (journal_lines app w.journal)
     → reading_of text ≡ A_trace (told (run_trace parties app w e))
 
--- so the text that a run writes is read as its parties, crossings, steps and ending, where each answer is of the kind that was asked
+-- so the text that a run writes is read as its parties, crossings, steps and ending
 -- own: a run's trace is read back
 abbrev pub Run_is_read : Type 0
 Run_is_read =
     (parties : List (List ℕ)) (app : Application) (budget crossings : ℕ) (e : Ending) (text : List ℕ)
     → text ≡ trace_text parties app (heap app budget crossings) e → IsReadable parties app (heap app budget crossings) e text
     → IsWellMade app → IsConnected app → app.count ≡ length parties
-    → AllOfKind [] (journal_lines app (heap app budget crossings).journal)
     → reading_of text ≡ A_trace (told (run_trace parties app (heap app budget crossings) e))
 
 -- and so is the text of a run that is traced, in each application that begins as the first world rests and whose outside answers so
@@ -54,5 +53,4 @@ Traced_is_read =
     (parties : List (List ℕ)) (dir : List ℕ) (first now : WorldView) (before after : HostWorld) (r : Traced) (h : HasTraced parties dir first before now r after)
     (app : Application) → Rests app (begins app) first → Agrees app h.runs.come.talks
     → IsWellMade app → IsConnected app → app.count ≡ length parties
-    → AllOfKind [] (journal_lines app (heap app first.budget (suc h.runs.come.underway.crossings)).journal)
     → reading_of h.text ≡ A_trace (told (run_trace parties app (heap app first.budget (suc h.runs.come.underway.crossings)) h.told))

@@ -2,12 +2,14 @@
 
 ghost use Rattle.std.specs.Prelude.{◌≡◌, IfOk, OnOk};
 ghost use Rattle.lava_trace.specs.Asks as spec;
+ghost use Rattle.lava_trace.specs.Courses.{opened, opens, wanted};
 
 use crate::left::LineReader;
 use js_desc::ask::Ask;
 use js_desc::crossing::{CrossBody, Crossing};
 use js_desc::reply::Reply;
 use js_text::value::Value;
+use lava_base::list::List;
 use lava_base::memory::OutOfMemory;
 
 /// What a method is answered with.
@@ -30,7 +32,7 @@ pub enum AnswerKind {
 }
 
 /// The kind of the answer to an ask.
-pub(crate) fn kind_of(ask: &Ask) -> AnswerKind
+fn kind_of(ask: &Ask) -> AnswerKind
     ensures { result ≡ spec.kind_of ask.now }
 {
     match ask {
@@ -52,6 +54,45 @@ pub(crate) fn kind_of(ask: &Ask) -> AnswerKind
         Ask::Make { .. } => AnswerKind::Object,
         Ask::Queue => AnswerKind::Undefined,
         Ask::Turn => AnswerKind::Undefined,
+    }
+}
+
+/// The kind of the answer to what is asked, if it is an ask.
+pub fn opens(body: &CrossBody) -> Option<AnswerKind>
+    ensures { result ≡ opens body.now }
+{
+    match body {
+        CrossBody::Ask { ask, .. } => Some(kind_of(ask)),
+        CrossBody::Answer(_) => None,
+    }
+}
+
+/// The kind of answer that the latest open ask wants, and a value where none is open.
+#[tactic(auto, using(crate::proofs::Left_laws::same_item))]
+pub fn wanted(asks: &List<AnswerKind>) -> AnswerKind
+    ensures { result ≡ wanted asks.now }
+{
+    if asks.is_empty() {
+        AnswerKind::Value
+    } else {
+        *asks.item(asks.len() - 1)
+    }
+}
+
+/// Opens an ask, or closes the latest one.
+pub fn open_or_close(
+    asks: &mut List<AnswerKind>,
+    opens: Option<AnswerKind>,
+) -> Result<(), OutOfMemory>
+    ensures { OnOk result (asks.new ≡ opened asks.old opens) }
+{
+    match opens {
+        Some(kind) => asks.push(kind),
+        None => {
+            let count = asks.len().saturating_sub(1);
+            asks.truncate(count);
+            Ok(())
+        }
     }
 }
 

@@ -7,7 +7,7 @@ ghost use Rattle.js_text.specs.Texts.{same_units};
 ghost use Rattle.lava_trace.specs.Courses as spec;
 ghost use Rattle.lava_trace.specs.Courses.{Takes};
 
-use crate::answers::{AnswerKind, kind_of};
+use crate::answers::{AnswerKind, open_or_close, opens, wanted};
 use crate::left::{LineReader, MAX_PARTY};
 use crate::line::{Trace, TraceLine};
 use crate::names::is_word;
@@ -79,16 +79,6 @@ fn is_make(body: &CrossBody) -> bool
             ..
         } => true,
         _ => false,
-    }
-}
-
-/// The kind of the answer to what is asked, if it is an ask.
-fn opens(body: &CrossBody) -> Option<AnswerKind>
-    ensures { result ≡ spec.opens body.now }
-{
-    match body {
-        CrossBody::Ask { ask, .. } => Some(kind_of(ask)),
-        CrossBody::Answer(_) => None,
     }
 }
 
@@ -276,32 +266,6 @@ impl TraceReader {
         Ok(false)
     }
 
-    /// The kind of answer that the latest open ask wants.
-    #[tactic(auto, using(crate::proofs::Left_laws::same_item))]
-    fn wanted(&self) -> AnswerKind
-        ensures { result ≡ spec.wanted self.now.unanswered }
-    {
-        if self.unanswered.is_empty() {
-            AnswerKind::Value
-        } else {
-            *self.unanswered.item(self.unanswered.len() - 1)
-        }
-    }
-
-    /// Opens an ask, or closes the latest one.
-    fn open_or_close(&mut self, opens: Option<AnswerKind>) -> Result<(), OutOfMemory>
-        ensures { OnOk result (self.new ≡ spec.with_open self.old opens) }
-    {
-        match opens {
-            Some(kind) => self.unanswered.push(kind),
-            None => {
-                let count = self.unanswered.len().saturating_sub(1);
-                self.unanswered.truncate(count);
-                Ok(())
-            }
-        }
-    }
-
     /// Counts the party that a Make makes.
     fn count_made(&mut self, makes: bool) -> Result<(), OutOfMemory>
         ensures { OnOk result (self.new ≡ spec.with_made self.old makes) }
@@ -346,7 +310,7 @@ impl TraceReader {
         ensures kept { let got = spec.read_in (spec.wanted self.old.unanswered) line.now in
             OnOk result (self.new ≡ spec.with_told self.old got.0 got.1.marks got.1.named) }
     {
-        let kind = self.wanted();
+        let kind = wanted(&self.unanswered);
         let mut reader = LineReader::new(self.alloc, front(line));
         let crossing = reader.crossing(kind)?;
         let (marks, named) = reader.into_marks();
@@ -372,7 +336,7 @@ impl TraceReader {
         if !told.may_stand {
             return Ok(false);
         }
-        self.open_or_close(told.opens)?;
+        open_or_close(&mut self.unanswered, told.opens)?;
         self.count_made(told.makes)?;
         Ok(true)
     }

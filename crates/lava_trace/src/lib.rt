@@ -7,7 +7,7 @@
 //! Definitions are in specs/: `Left`, `Many`, `Items`, `Asks`, `Courses`, `Traces`.
 #![tactic(auto)]
 
-mod answers;
+pub mod answers;
 mod asks;
 mod course;
 mod fields;
