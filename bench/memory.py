@@ -1,5 +1,5 @@
 #!/usr/bin/env python3
-"""How many bytes a scope, an object, a frame and a form of a program take on `lava run`.
+"""How many bytes a scope, an object and a statement of a program take on `lava run`.
 
     bench/memory.py [PROGRAM]
 
@@ -19,7 +19,6 @@ PROGRAMS = (
     ('an object of four properties', 1 << 17, lambda n: OBJECT % (n, ', b: 2, c: 3, d: 4')),
     ('an array of one element', 1 << 17, lambda n: 'let o; let i = 0; while (i < %d) o = [i = i + 1];' % n),
     ('a function object, with a scope', 1 << 17, lambda n: 'let f; for (let i = 0; i < %d; i++) f = () => i;' % n),
-    ('an open call `1 + f(n - 1)`', 1 << 11, lambda n: 'function f(n) { return n < 1 ? 0 : 1 + f(n - 1); } f(%d);' % n),
     ('a statement `a = 1;`, read and run', 1 << 16, lambda n: 'let a;' + 'a = 1;\n' * n),
 )
 
