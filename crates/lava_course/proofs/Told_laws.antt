@@ -13,6 +13,7 @@ use Rattle.js_crossing.specs.js_run.Laws.{IsWellMade, Journal_is_lawful}
 use Rattle.js_crossing.specs.Newest.{marks_at_crossing}
 use Rattle.lava_journal.specs.Bodies.{body_pieces}
 use Rattle.lava_journal.specs.Sheets.{TraceNames, no_names}
+use Rattle.lava_ranges.specs.Kinds.{OfKind}
 use Rattle.lava_ranges.specs.Ranges.{IsInRange, Ranged_body}
 use Rattle.lava_trace.specs.Courses.{is_make, may_cross, opened, opens, wanted}
 use Rattle.lava_trace.specs.declared.answers.AnswerKind.{AnswerKind}
@@ -21,7 +22,7 @@ use Rattle.lava_trace.specs.declared.line.TraceLine.{TraceLine}
 use Rattle.lava_trace_laws.specs.Sound.{Sound_body}
 use Rattle.lava_trace_laws.specs.Written.{line_of, parties_then}
 use Rattle.lava_told.specs.Told.{HasOwner, MayAllBeSaid, MayBeSaid}
-use Rattle.lava_course.specs.Courses.{AllHaveMarks, AllMayCross, AllOfKind, IsConnected, MayBeWritten, OfKind, asks_behind}
+use Rattle.lava_course.specs.Courses.{AllHaveMarks, AllMayCross, AllOfKind, IsConnected, MayBeWritten, asks_behind}
 use Rattle.lava_course.specs.Lines.{journal_lines}
 use Rattle.lava_course.proofs.Between_laws.{AllInside, MakesNone, inside_crosses, journal_inside}
 use Rattle.lava_course.proofs.Line_laws.{IsMarked, all_before, all_more, journal_marked, line_owned}
