@@ -266,20 +266,6 @@ impl TraceReader {
         Ok(false)
     }
 
-    /// The kind of answer that the latest open ask wants.
-    fn wanted(&self) -> AnswerKind
-        ensures { result ≡ spec.wanted self.now.unanswered }
-    {
-        wanted(&self.unanswered)
-    }
-
-    /// Opens an ask, or closes the latest one.
-    fn open_or_close(&mut self, opens: Option<AnswerKind>) -> Result<(), OutOfMemory>
-        ensures { OnOk result (self.new ≡ spec.with_open self.old opens) }
-    {
-        open_or_close(&mut self.unanswered, opens)
-    }
-
     /// Counts the party that a Make makes.
     fn count_made(&mut self, makes: bool) -> Result<(), OutOfMemory>
         ensures { OnOk result (self.new ≡ spec.with_made self.old makes) }
@@ -324,7 +310,7 @@ impl TraceReader {
         ensures kept { let got = spec.read_in (spec.wanted self.old.unanswered) line.now in
             OnOk result (self.new ≡ spec.with_told self.old got.0 got.1.marks got.1.named) }
     {
-        let kind = self.wanted();
+        let kind = wanted(&self.unanswered);
         let mut reader = LineReader::new(self.alloc, front(line));
         let crossing = reader.crossing(kind)?;
         let (marks, named) = reader.into_marks();
@@ -350,7 +336,7 @@ impl TraceReader {
         if !told.may_stand {
             return Ok(false);
         }
-        self.open_or_close(told.opens)?;
+        open_or_close(&mut self.unanswered, told.opens)?;
         self.count_made(told.makes)?;
         Ok(true)
     }
