@@ -14,7 +14,6 @@ use lava_base::memory::OutOfMemory;
 use std::alloc::Global;
 
 /// The template of a module, or of a text that a compartment evaluates, whose names are resolved. `OutOfMemory` may come of any source.
-#[tactic(auto, using(crate::proofs::Valid_laws::valid_made))]
 pub fn lower(alloc: Global, resolved: &Resolved) -> Result<Template, OutOfMemory>
     ensures term { IfOk result (λ made. made ≡ source_template_of resolved.now.source) }
     ensures valid { (kind : SourceKind) (source : List ℕ) →
