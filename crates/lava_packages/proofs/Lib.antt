@@ -1,2 +1,3 @@
 pub mod In_range
 pub mod Firsts
+pub mod Refused_laws
