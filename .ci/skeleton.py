@@ -6,6 +6,10 @@
         file as @FILE): each answers Err(OutOfMemory), which its clauses allow where they speak of Ok alone. The front of a check is short
         then, and the copy is proved in minutes where the crate takes half an hour. (A crate whose clauses speak of refusals too, as
         js_store, is to be taken whole. A function that lets an owned value of a large enum go is dear as a copy, too.)
+  .ci/skeleton.py types FROM TO
+        copies a crate's types, constants and definitions alone, with no function and no proof. Built, it is a library for the definitions of
+        the crates above it in some seconds; passed by --src, it needs no building. What is called there can be put back by hand, with
+        Err(OutOfMemory) for a body where the clauses allow that, a law with none (by --src).
   .ci/skeleton.py check CRATE --libs FOLDER[:FOLDER..] [--src NAME=CRATE ..] [flags of `rattle check`]
         runs `rattle check` on the crate over libraries NAME.rlib in these folders, or over the sources that --src names. Work is kept
         in the crate's out/incremental. With --only PATH one function takes half a minute.
@@ -123,6 +127,72 @@ def copy(frm, to, *keeps):
     print(f"left out {len(gone)}")
 
 
+def item_end(text, i):
+    """Returns the place behind the item at i: behind its `;`, or behind the brace that closes it, before which clauses may stand."""
+    depth = 0
+    while i < len(text):
+        over = skip(text, i)
+        if over != i:
+            i = over
+            continue
+        depth += {"{": 1, "(": 1, "[": 1, "}": -1, ")": -1, "]": -1}.get(text[i], 0)
+        i += 1
+        if depth == 0 and text[i - 1] == ";":
+            return i
+        if depth == 0 and text[i - 1] == "}" and not re.match(r"\s*(;|ensures|requires|ghost\s+\w+:|\{)", text[i:]):
+            return i
+    return i
+
+
+def named(item, body):
+    """Returns a `use` item with the types that stand in a text, or nothing where none does; one that is public as it is."""
+    found = re.match(r"use\s+(.*)::(?:\{(.*)\}|(\w+(?: as \w+)?));$", item, re.S)
+    if not found:
+        return item
+    names = [n.strip() for n in (found[2] or found[3]).split(",") if n.strip()]
+    names = [n for n in names if n[0].isupper() and re.search(rf"\b{n.split(' as ')[-1]}\b", body)]
+    return f"use {found[1]}::{{{', '.join(names)}}};" if names else ""
+
+
+def types_of(text):
+    """Returns the types, constants and definitions of a text, in its order."""
+    kept, attributes, i = [], "", 0
+    while i < len(text):
+        if text[i].isspace():
+            i += 1
+        elif text.startswith("//", i):
+            i = skip(text, i)
+        elif text[i] == "#":
+            end = text.index("\n", i)
+            word = text[i:end].strip()
+            if word.startswith("#!"):
+                kept.append(word)
+            derived = [d for d in re.findall(r"\w+", word[8:]) if d in ("Clone", "Copy")] if word.startswith("#[derive") else []
+            attributes += f"#[derive({', '.join(derived)})]\n" if derived else word + "\n" if word.startswith("#[cycle") else ""
+            i = end
+        else:
+            end = item_end(text, i)
+            item = text[i:end].strip()
+            bare = re.sub(r"^pub(\([a-z]+\))?\s+", "", item)
+            if re.match(r"(ghost use|use|mod|struct|enum|const(?!\s+fn)|static|type)\b|impl(<[^>]*>)?\s+Model\b", bare):
+                kept.append(attributes + item)
+            attributes, i = "", end
+    body = "\n".join(k for k in kept if not re.match(r"(ghost )?use\b", k))
+    return "\n".join(filter(None, (named(k, body) for k in kept))) + "\n"
+
+
+def types(frm, to):
+    """Copies a crate's types, constants and definitions."""
+    shutil.rmtree(to, ignore_errors=True)
+    shutil.copytree(frm, to, ignore=shutil.ignore_patterns("out", "must-fail", "proofs", "stdin", "stdout", "data"))
+    for at, _, files in os.walk(f"{to}/src"):
+        for path in (f"{at}/{f}" for f in files if f.endswith(".rt")):
+            with open(path, encoding="utf-8") as it:
+                text = types_of(it.read())
+            with open(path, "w", encoding="utf-8") as it:
+                it.write(text)
+
+
 def run(verb, crate, *words):
     """Runs rattle on a crate over libraries that are there."""
     crate, words = os.path.abspath(crate), list(words)
@@ -182,6 +252,6 @@ def run(verb, crate, *words):
     return subprocess.call([f"{kit}/bin/rattle", verb, *line], cwd=crate)
 
 
-if len(sys.argv) < 3 or sys.argv[1] not in ("copy", "check", "build"):
+if len(sys.argv) < 3 or sys.argv[1] not in ("copy", "types", "check", "build"):
     sys.exit(__doc__)
-sys.exit(copy(*sys.argv[2:]) if sys.argv[1] == "copy" else run(*sys.argv[1:]))
+sys.exit({"copy": copy, "types": types}[sys.argv[1]](*sys.argv[2:]) if sys.argv[1] in ("copy", "types") else run(*sys.argv[1:]))
