@@ -33,6 +33,8 @@ def skip(text, i):
     if text.startswith("/*", i):
         end = text.find("*/", i)
         return len(text) if end < 0 else end + 2
+    if text.startswith('r#"', i):
+        return text.index('"#', i) + 2
     if text[i] == '"':
         end = i + 1
         while text[end] != '"':
@@ -174,7 +176,7 @@ def types_of(text):
             end = item_end(text, i)
             item = text[i:end].strip()
             bare = re.sub(r"^pub(\([a-z]+\))?\s+", "", item)
-            if re.match(r"(ghost use|use|mod|struct|enum|const(?!\s+fn)|static|type)\b|impl(<[^>]*>)?\s+Model\b", bare):
+            if re.match(r"(ghost use|use|mod|struct|enum|const(?!\s+fn)|static|type)\b|macro_rules!|impl(<[^>]*>)?\s+Model\b", bare):
                 kept.append(attributes + item)
             attributes, i = "", end
     body = "\n".join(k for k in kept if not re.match(r"(ghost )?use\b", k))
