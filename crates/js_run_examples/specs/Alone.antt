@@ -1,21 +1,22 @@
 -- The run of an application that has one package alone, and what is seen of it.
-use Rattle.std.specs.Prelude.{ℕ, zero, suc, false, List, [], ◌∷◌, Option, Some, None, codes}
+use Rattle.std.specs.Prelude.{ℕ, zero, suc, false, List, [], ◌∷◌, map, Option, Some, None, codes}
 use Rattle.lava_base.specs.declared.ids.MadeSymbol.{MadeSymbol}
 use Rattle.lava_base.specs.declared.ids.Ref.{Ref}
 use Rattle.js_text.specs.Naming.{naming_of}
+use Rattle.js_store.specs.Frozen.{bare_objects}
 use Rattle.js_store.specs.Objects.{plain_marks}
 use Rattle.js_term.specs.declared.term.Template.{Template}
 use Rattle.js_run.specs.Functions.{plain_object}
 use Rattle.js_run.specs.Heap.{Control, Over_with, Runs, World, heap}
-use Rattle.js_run.specs.Journal.{Application, Ending}
+use Rattle.js_run.specs.Journal.{Application, Done, Ending}
 use Rattle.js_run.specs.Outside.{OutsideCall, OutsideAnswer, AnswersUndefined}
 use Rattle.js_run.specs.Parties.{Loaded, Party, Shared}
 use Rattle.js_run.specs.Starts.{blank, host_party, host_ref, root_endowments}
 use Rattle.js_run_laws.specs.Given.{alone_left, alone_starts}
 
--- a common part without functions, whose objects have nothing in them
-abbrev pub empty_part : Shared
-empty_part = record { objects = []; templates = []; number_of = λ t. None; find = λ s t n. None; program = λ t. None }
+-- a common part without functions, whose objects are frozen and have nothing in them
+abbrev pub bare_part : Shared
+bare_part = record { objects = bare_objects; templates = []; number_of = λ t. None; find = λ s t n. None; program = λ t. None }
 
 -- the party of a module, whose global has the host's objects alone
 abbrev pub start : Template → Party Ref MadeSymbol
@@ -34,7 +35,7 @@ own t (suc (suc p)) = blank
 -- the application of this module alone, which is given the whole host
 abbrev pub application : Template → Application
 application t = record {
-  shared = empty_part;
+  shared = bare_part;
   own = own t;
   count = 2;
   links = λ p l. 1;
@@ -65,3 +66,11 @@ runs t budget crossings = seen (heap (application t) budget crossings)
 -- a call of `console.log`
 abbrev pub line : List (List ℕ) → OutsideCall
 line values = record { function = 1; arguments = values }
+
+-- the run to its end, which wants no more crossings and steps than these
+abbrev pub whole : Template → Seen
+whole t = runs t 1000 20
+
+-- these lines are printed, the last one first, and the run is done after so many steps of the package
+abbrev pub printed_and_done : List (List (List ℕ)) → (steps : ℕ) → Seen
+printed_and_done lines n = record { printed = map line lines; steps = n; ending = Some Done }

@@ -1,3 +1,8 @@
 pub mod Terms
 pub mod Alone
 pub mod Literals
+pub mod Loops
+pub mod Tries
+pub mod Functions
+pub mod Objects
+pub mod Classes
