@@ -1,4 +1,6 @@
 pub mod Terms
+pub mod Iterating
+pub mod CommonPart
 pub mod Alone
 pub mod Literals
 pub mod Loops
@@ -6,3 +8,4 @@ pub mod Tries
 pub mod Functions
 pub mod Objects
 pub mod Classes
+pub mod Patterns

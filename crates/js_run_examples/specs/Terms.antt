@@ -5,10 +5,9 @@ use Rattle.js_text.specs.declared.native.Native.TheVariants as native
 use Rattle.js_tree.specs.declared.operator.BinaryOperator.{BinaryOperator}
 use Rattle.js_tree.specs.declared.operator.LogicalOperator.{LogicalOperator}
 use Rattle.js_tree.specs.declared.operator.UnaryOperator.{UnaryOperator}
-use Rattle.js_term.specs.Layers.{JumpLayer, PartLayer, TermLayer}
-use Rattle.js_term.specs.declared.term.Arguments.{Arguments, roll-Arguments}
+use Rattle.js_term.specs.declared.term.Arguments.{roll-Arguments}
 use Rattle.js_term.specs.declared.term.Arguments.TheOpen.{Arguments-F, Jump-F, Part-F, Term-F}
-use Rattle.js_term.specs.declared.term.Jump.{Jump, roll-Jump}
+use Rattle.js_term.specs.declared.term.Jump.{roll-Jump}
 use Rattle.js_term.specs.declared.term.Literal.TheVariants as literal
 use Rattle.js_term.specs.declared.term.Part.{Part, roll-Part}
 use Rattle.js_term.specs.declared.term.Template.{Template, roll-Template}
