@@ -1,3 +1,11 @@
 pub mod Terms
+pub mod Iterating
+pub mod CommonPart
 pub mod Alone
 pub mod Literals
+pub mod Loops
+pub mod Tries
+pub mod Functions
+pub mod Objects
+pub mod Classes
+pub mod Patterns
