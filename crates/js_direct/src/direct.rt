@@ -8,7 +8,7 @@ ghost use Rattle.js_tree.specs.declared.operator.UnaryOperator.TheVariants.{Plus
 ghost use Rattle.js_code.specs.declared.node.Node.TheVariants as node;
 ghost use Rattle.js_direct.specs.Direct.{HasData, IsDirect, IsDirectNamed, IsDirectRow, Operates, compared, seen, value_of};
 
-use crate::numbers::{DEPTH, number_at, steps_of};
+use crate::numbers::{DEPTH, operand_at, steps_of};
 use crate::plain::{Plain, plain_of};
 use crate::properties::{indexed_data, named_data, object_at};
 use js_code::code::Code;
@@ -74,10 +74,10 @@ fn binary_at(
     ensures { let sight = seen store.now code.now scopes.now scope in
         IfSome result (IsDirectRow sight (node.Binary operator left right)) }
 {
-    let Some(left) = number_at(code, store, scopes, scope, left, DEPTH) else {
+    let Some(left) = operand_at(code, store, scopes, scope, left, DEPTH) else {
         return None;
     };
-    let Some(right) = number_at(code, store, scopes, scope, right, DEPTH) else {
+    let Some(right) = operand_at(code, store, scopes, scope, right, DEPTH) else {
         return None;
     };
     let Some(steps) = steps_of(left.steps, right.steps) else {
@@ -102,7 +102,7 @@ fn plus_at(
     ensures { let sight = seen store.now code.now scopes.now scope in
         IfSome result (IsDirectRow sight (node.Unary Plus operand)) }
 {
-    let Some(operand) = number_at(code, store, scopes, scope, operand, DEPTH) else {
+    let Some(operand) = operand_at(code, store, scopes, scope, operand, DEPTH) else {
         return None;
     };
     let Some(steps) = steps_of(operand.steps, 0) else {
@@ -211,7 +211,7 @@ fn indexed_at(
     let Some(id) = object_at(code, store, scopes, scope, object) else {
         return None;
     };
-    let Some(index) = number_at(code, store, scopes, scope, key, DEPTH) else {
+    let Some(index) = operand_at(code, store, scopes, scope, key, DEPTH) else {
         return None;
     };
     let Some(steps) = steps_of(2, index.steps) else {

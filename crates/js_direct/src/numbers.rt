@@ -110,6 +110,25 @@ fn operated(operator: BinaryOperator, left: Counted, right: Counted) -> Option<C
     }
 }
 
+/// A form that gives a number at once, where it is not deeper than so much. (A literal and a slot want no call.)
+#[inline(always)]
+pub fn operand_at(
+    code: &Code,
+    store: &FlatStore,
+    scopes: &Scopes,
+    scope: u32,
+    at: u32,
+    depth: u32,
+) -> Option<Counted>
+    ensures { IfSome result (GivesNumber (seen store.now code.now scopes.now scope) at) }
+{
+    match code.node(at) {
+        Node::Int(number) => Some(Counted { number, steps: 1 }),
+        Node::Local { hops, slot } => slot_number(scopes, scope, hops, slot),
+        _ => number_at(code, store, scopes, scope, at, depth),
+    }
+}
+
 /// A form that gives a number at once, where it is not deeper than so much.
 pub fn number_at(
     code: &Code,

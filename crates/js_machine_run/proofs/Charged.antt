@@ -6,7 +6,6 @@ use Rattle.js_text.specs.Naming.{Naming, naming_of}
 use Rattle.js_text.specs.declared.value.Value.{Value}
 use Rattle.js_desc.specs.declared.ask.Ask.{Ask}
 use Rattle.js_code.specs.Decoded.{term_at}
-use Rattle.js_direct.specs.Direct.{GivesAtOnce}
 use Rattle.js_machine.specs.js_run.Acts as acts
 use Rattle.js_machine.specs.js_run.Completions as halt_kind
 use Rattle.js_machine.specs.js_run.Completions.{Completion}
@@ -25,8 +24,8 @@ use Rattle.js_machine.specs.declared.stop.Charge.TheVariants as charge_kind
 use Rattle.js_machine.specs.declared.stop.Pause.{Pause}
 use Rattle.js_machine.specs.declared.stop.Stop.{Stop}
 use Rattle.js_machine.specs.declared.stop.Stop.TheVariants as stop
-use Rattle.js_machine_run.specs.Sights.{sight_of}
-use Rattle.js_machine_run.proofs.Handed.{fits, keeps_on, me_kept}
+use Rattle.js_machine_run.specs.Going.{GoesOnTo}
+use Rattle.js_in_place.proofs.Gone.{fits, keeps_on, me_kept}
 use Rattle.js_machine.proofs.Looked.{decided_here, sent_away}
 
 -- what is left of a run
@@ -152,10 +151,6 @@ worked_first first w v m n a k x =
     subst (λ i. (let b = fitting first a in point_of b v n ≡ worked (naming_of i) b.shared b.env (point_of b w m))) (me_kept first w k)
     (subst (λ (b : Around). point_of b v n ≡ worked (naming_of w.me) b.shared b.env (point_of b w m)) (fits first w a k) (x.stands a))
 
--- a value is given, and nothing else
-abbrev pub with_given : Value Ref MadeSymbol → View → View
-with_given v w = record w { values = v ∷ w.values }
-
 module _ (meter : Option ℕ) (charges limit steps : ℕ) (start : Mode) (first : View) where
   pub begins : IsOn meter charges limit steps start first charges steps start first
   begins = record { goes = λ a h. refl; keeps = (refl, (refl, (refl, (refl, refl)))) }
@@ -190,25 +185,24 @@ module _ (meter : Option ℕ) (charges limit steps : ℕ) (start : Mode) (first 
         keeps = keeps_on first w v on.keeps x.keeps;
       }
 
-  -- the charges of a form that gives a value at once
-  leaps_to : (at rest k spent : ℕ) (v : Value Ref MadeSymbol) (w : View) → Keeps first w → GivesAtOnce (sight_of w) at v k → charge meter spent limit k ≡ Charged → (a : Around) → a.rest.meter ≡ meter
-      → (let b = fitting first a in run_for (naming_of first.me) b.shared b.env (k + rest) limit spent (point_of b w (mode.Eval at)) ≡ run_for (naming_of first.me) b.shared b.env rest limit (spent + k) (point_of b (with_given v w) mode.Value))
-  leaps_to at rest k spent v w keeps direct paid a h =
-      let b = fitting first a in
-      subst (λ me. run_for (naming_of me) b.shared b.env (k + rest) limit spent (point_of b w (mode.Eval at)) ≡ run_for (naming_of me) b.shared b.env rest limit (spent + k) (point_of b (with_given v w) mode.Value)) (me_kept first w keeps)
-      (direct.gives b.shared b.env (party_of b w) (nexts_of (naming_of w.me) b.shared w.code w.frames w.values w.waits) rest limit spent refl refl refl (ap (λ x. charge x spent limit k) h ∙ paid))
+  -- what is paid together
+  goes_there : (used rest spent : ℕ) (m n : Mode) (w new : View) → Keeps first w → GoesOnTo meter spent limit used m w new n → (a : Around) → a.rest.meter ≡ meter
+      → (let b = fitting first a in run_for (naming_of first.me) b.shared b.env (used + rest) limit spent (point_of b w m) ≡ run_for (naming_of first.me) b.shared b.env rest limit (spent + used) (point_of b new n))
+  goes_there used rest spent m n w new keeps g a h =
+      subst (λ me. (let b = fitting first a in run_for (naming_of me) b.shared b.env (used + rest) limit spent (point_of b w m) ≡ run_for (naming_of me) b.shared b.env rest limit (spent + used) (point_of b new n))) (me_kept first w keeps)
+      (subst (λ (b : Around). run_for (naming_of w.me) b.shared b.env (used + rest) limit spent (point_of b w m) ≡ run_for (naming_of w.me) b.shared b.env rest limit (spent + used) (point_of b new n)) (fits first w a keeps)
+      (g.goes a rest h))
 
-  pub leaps_on : (left rest spent now at k : ℕ) (v : Value Ref MadeSymbol) (m n : Mode) (w new : View) → IsOn meter charges limit steps start first left spent m w → m ≡ mode.Eval at
-      → GivesAtOnce (sight_of w) at v k → charge meter spent limit k ≡ Charged → left ≡ k + rest → now ≡ spent + k → new ≡ with_given v w → n ≡ mode.Value
+  pub goes_on_to : (left rest spent now used : ℕ) (m n : Mode) (w new : View) → IsOn meter charges limit steps start first left spent m w → GoesOnTo meter spent limit used m w new n → left ≡ used + rest → now ≡ spent + used
       → IsOn meter charges limit steps start first rest now n new
-  leaps_on left rest spent now at k v m n w new on e direct paid q s f g =
+  goes_on_to left rest spent now used m n w new on g q s =
       record {
         goes = λ a h. (let b = fitting first a in
             on.goes a h
-            ∙ (λ z. run_for (naming_of first.me) b.shared b.env (q z) limit spent (point_of b w (e z)))
-            ∙ leaps_to at rest k spent v w on.keeps direct paid a h
-            ∙ (λ z. run_for (naming_of first.me) b.shared b.env rest limit (sym s z) (point_of b (sym f z) (sym g z))));
-        keeps = subst (λ x. Keeps first x) (sym f) on.keeps;
+            ∙ (λ z. run_for (naming_of first.me) b.shared b.env (q z) limit spent (point_of b w m))
+            ∙ goes_there used rest spent m n w new on.keeps g a h
+            ∙ (λ z. run_for (naming_of first.me) b.shared b.env rest limit (sym s z) (point_of b new n)));
+        keeps = keeps_on first w new on.keeps g.keeps;
       }
 
   pub lacks_there : (left spent cost price : ℕ) (r : charge_type.Charge) (m : Mode) (w : View) → IsOn meter charges limit steps start first left spent m w → cost_of w m ≡ Some cost → price ≡ cost + 1 → 0 < left

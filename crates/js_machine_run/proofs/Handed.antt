@@ -1,38 +1,22 @@
 -- Completions that are handed on, and what is charged for.
 use Rattle.std.proofs.Common.{◌≡◌, ℕ, true, List, [], ◌∷◌, drop, length, reverse, Option, Some, None, refl, sym, ap, ◌∙◌, subst, arith, Result, Ok, Err, IfOk}
 use Rattle.std.proofs.lemmas.List.{length-reverse}
-use Rattle.lava_base.specs.Ids.{same_ref}
 use Rattle.lava_base.specs.declared.ids.Ref.{Ref}
 use Rattle.js_text.specs.Naming.{naming_of}
 use Rattle.js_text.specs.declared.value.Value.TheVariants as value
 use Rattle.js_machine.specs.js_run.Acts.{give}
-use Rattle.js_machine.specs.js_run.Requests.{is_link}
-use Rattle.js_store.specs.Foreign.{marks_of}
 use Rattle.js_machine.specs.Looks.{foreign_in}
-use Rattle.js_machine.specs.Steps.{IsBegun, IsDecided, IsDelivered, Keeps, LeadsTo, point_of}
+use Rattle.js_machine.specs.Steps.{IsBegun, IsDecided, IsDelivered, LeadsTo, point_of}
 use Rattle.js_machine.specs.Stops.{IsWorked, Stays, worked}
-use Rattle.js_machine.specs.Views.{Around, View, fitting, is_due, newest, nexts_of, party_of, templates_at}
+use Rattle.js_machine.specs.Views.{Around, View, fitting, is_due, newest, nexts_of, party_of}
 use Rattle.js_machine.specs.declared.frame.Frame.{Frame}
 use Rattle.js_machine.specs.declared.frame.Mode.{Mode}
 use Rattle.js_machine.specs.declared.frame.Mode.TheVariants as mode
 use Rattle.js_machine.proofs.Looked.{decided_here, sent_away}
-
--- WHAT STAYS
-
-pub fits : (old new : View) (a : Around) → Keeps old new → fitting new a ≡ fitting old a
-fits old new a (m, (d, (c, (t, k)))) = λ j. record a { shared = record a.shared { objects = c j; templates = templates_at (d j) (t j) }; env = record a.env { marks = λ r. marks_of same_ref r (k j).0; allows = λ l. is_link l (k j).1 } }
-
-pub me_kept : (old new : View) → Keeps old new → new.me ≡ old.me
-me_kept old new (m, k) = m
-
-pub keeps_on : (old mid new : View) → Keeps old mid → Keeps mid new → Keeps old new
-keeps_on old mid new (m, (d, (c, (t, k)))) (m', (d', (c', (t', k')))) = (m' ∙ m, (d' ∙ d, (c' ∙ c, (t' ∙ t, k' ∙ k))))
+use Rattle.js_in_place.proofs.Gone.{fits, keeps_on}
+use Rattle.js_in_place.proofs.Newest.{first_back}
 
 -- A FRAME IS TAKEN OFF
-
-first_back : (f : Frame) (fs : List Frame) → newest fs ≡ Some f → fs ≡ f ∷ drop 1 fs
-first_back f [] e = cc
-first_back f (g ∷ fs) e = let same : g ≡ f = cc in ap (λ x. x ∷ fs) same
 
 none_back : (fs : List Frame) → newest fs ≡ None → drop 1 fs ≡ fs
 none_back [] e = refl

@@ -1,5 +1,6 @@
 pub mod Replied
 pub mod Handed
+pub mod Gone_on
 pub mod Charged
 pub mod Argued
 pub mod Woken_laws

@@ -1,16 +1,17 @@
 // Runs: charges, and what each leads to.
 
-ghost use Rattle.std.specs.Prelude.{◌≡◌, ◌+◌, ◌<◌, ◌≤◌, ◌∷◌, IfOk, IfSome, None, OnOk};
-ghost use Rattle.js_direct.specs.Direct.{IsDirect, value_of};
+ghost use Rattle.std.specs.Prelude.{◌≡◌, ◌+◌, ◌<◌, ◌≤◌, [], IfOk, None, true};
 ghost use Rattle.js_machine.specs.js_run.Runs.{Charged, charge};
 ghost use Rattle.js_machine.specs.Stops.{IsRun, RunsFor, RunsOn};
 ghost use Rattle.js_machine.specs.declared.frame.Mode.TheVariants as mode_kind;
-ghost use Rattle.js_machine_run.specs.Sights.{sight_of};
+ghost use Rattle.js_machine.specs.Views.{is_handed};
+ghost use Rattle.js_machine_run.specs.Going.{GoesOnTo, IsNext};
 
 use crate::steps::{settle, work};
 use crate::stop::{charge_steps, cost, stop_at};
-use js_direct::direct::{Direct, value_at};
-use js_direct::plain::{Plain, as_value};
+use js_direct::plain::as_value;
+use js_in_place::spot::{Spot, at_form};
+use js_in_place::run::run_in_place;
 use js_machine::frame::{Halt, Mode};
 use js_machine::machine::Machine;
 use js_machine::stop::{Charge, Pause, Stop};
@@ -19,49 +20,97 @@ use lava_base::memory::OutOfMemory;
 /// How many charges a run may make that is free of charge.
 pub const FREE_CHARGES: u64 = 1000;
 
-/// A plain value is given.
-#[inline]
-fn give_plain(machine: &mut Machine, plain: Plain) -> Result<Mode, OutOfMemory>
-    ensures mode { IfOk result (λ m. m ≡ mode_kind.Value) }
-    ensures value { let values = value_of plain ∷ machine.old.values in
-        OnOk result (machine.new ≡ record machine.old { values = values }) }
-{
-    machine.give(as_value(plain))
+/// A mode, and how many steps it took to come there.
+#[derive(Clone, Copy)]
+struct Went {
+    mode: Mode,
+    used: u64,
 }
 
-/// What the form at a place gives at once, where all its steps can be paid.
+/// How many steps can be paid.
 #[inline]
-fn direct_within(
-    machine: &Machine,
+fn affordable(meter: Option<u64>, spent: u64, limit: u64, left: u64) -> u64
+    ensures within { result ≤ left }
+    ensures fits { 0 < result → spent + result ≤ limit }
+    ensures paid { 0 < result → charge meter spent limit result ≡ Charged }
+{
+    let within = limit.saturating_sub(spent).min(left);
+    let most = match meter {
+        Some(bound) => bound.saturating_sub(spent).min(within),
+        None => within,
+    };
+    if most == 0 {
+        return 0;
+    }
+    match charge_steps(meter, spent, limit, most) {
+        Charge::Charged => most,
+        _ => 0,
+    }
+}
+
+/// What stands at a place is next.
+#[inline]
+fn resumed(machine: &mut Machine, spot: Spot) -> Result<Mode, OutOfMemory>
+    ensures { IfOk result (IsNext spot machine.old machine.new) }
+{
+    match spot {
+        Spot::Form(at) => Ok(Mode::Eval(at)),
+        Spot::Given(value) => machine.give(as_value(value)),
+    }
+}
+
+/// A form begins, and the run goes on in place as far as its steps can be paid.
+#[inline]
+fn go_in_place(
+    machine: &mut Machine,
     at: u32,
     meter: Option<u64>,
     spent: u64,
     limit: u64,
     left: u64,
-) -> Option<Direct>
-    ensures direct { IfSome result (IsDirect (sight_of machine.now) at) }
-    ensures paid { IfSome result (λ d. charge meter spent limit d.steps ≡ Charged) }
-    ensures fits { IfSome result (λ d. spent + d.steps ≤ limit) }
-    ensures some { IfSome result (λ d. 0 < d.steps) }
-    ensures within { IfSome result (λ d. d.steps ≤ left) }
+) -> Result<Went, OutOfMemory>
+    ensures within { IfOk result (λ w. w.used ≤ left) }
+    ensures fits { IfOk result (λ w. 0 < w.used → spent + w.used ≤ limit) }
+    ensures goes { IfOk result (λ w. GoesOnTo meter spent limit w.used (mode_kind.Eval at)
+        machine.old machine.new w.mode) }
 {
-    let Some(direct) = value_at(
-        &machine.code,
-        &machine.store,
-        &machine.scopes,
-        machine.standing(),
-        at,
-    ) else {
-        return None;
+    let mode = Mode::Eval(at);
+    let most = affordable(meter, spent, limit, left);
+    if most == 0 {
+        return Ok(Went { mode, used: 0 });
+    }
+    let stand = run_in_place(machine, at_form(at, most))?;
+    let used = most - stand.left;
+    let mode = resumed(machine, stand.spot)?;
+    Ok(Went { mode, used })
+}
+
+/// Completions are handed on, and then the run goes on in place as far as its steps can be paid.
+#[inline]
+fn advance(
+    machine: &mut Machine,
+    mode: Mode,
+    meter: Option<u64>,
+    spent: u64,
+    limit: u64,
+    left: u64,
+) -> Result<Went, OutOfMemory>
+    ensures within { IfOk result (λ w. w.used ≤ left) }
+    ensures fits { IfOk result (λ w. 0 < w.used → spent + w.used ≤ limit) }
+    ensures goes { IfOk result (λ w. GoesOnTo meter spent limit w.used mode
+        machine.old machine.new w.mode) }
+    ensures settled { IfOk result (λ w. is_handed w.mode ≡ true → machine.new.frames ≡ []) }
+{
+    let mode = settle(machine, mode)?;
+    let Mode::Eval(at) = mode else {
+        return Ok(Went { mode, used: 0 });
     };
-    let price = u64::from(direct.steps);
-    if price == 0 || price > left {
-        return None;
-    }
-    match charge_steps(meter, spent, limit, price) {
-        Charge::Charged => Some(direct),
-        _ => None,
-    }
+    let went = go_in_place(machine, at, meter, spent, limit, left)?;
+    let mode = settle(machine, went.mode)?;
+    Ok(Went {
+        mode,
+        used: went.used,
+    })
 }
 
 /// What is left of a run.
@@ -77,7 +126,7 @@ fn paused(charges: u64, limit: u64, steps: u64) -> Pause
     }
 }
 
-/// At most so many charges, and steps up to the limit. A form that gives a plain value at once is paid whole.
+/// At most so many charges, and steps up to the limit. Forms that the run goes through in place are paid together.
 fn run_for(
     machine: &mut Machine,
     charges: u64,
@@ -92,14 +141,12 @@ fn run_for(
     let mut spent = steps;
     let mut left = charges;
     while left > 0 {
-        mode = settle(machine, mode)?;
-        if let Mode::Eval(at) = mode {
-            if let Some(direct) = direct_within(machine, at, meter, spent, limit, left) {
-                spent += u64::from(direct.steps);
-                left -= u64::from(direct.steps);
-                mode = give_plain(machine, direct.value)?;
-                continue;
-            }
+        let went = advance(machine, mode, meter, spent, limit, left)?;
+        mode = went.mode;
+        if went.used > 0 {
+            spent += went.used;
+            left -= went.used;
+            continue;
         }
         let Some(cost) = cost(machine, mode) else {
             return Ok(stop_at(machine, mode, paused(left, limit, spent)));

@@ -1,9 +1,9 @@
 // The steps of a machine: completions are handed on, and what was charged for is done.
 
-ghost use Rattle.std.specs.Prelude.{◌≡◌, [], IfOk, drop, true};
+ghost use Rattle.std.specs.Prelude.{◌≡◌, [], IfOk, true};
 ghost use Rattle.js_machine.specs.Steps.{IsDelivered};
 ghost use Rattle.js_machine.specs.Stops.{IsWorked, Stays};
-ghost use Rattle.js_machine.specs.Views.{is_completion, is_due, is_handed, newest, takes_values};
+ghost use Rattle.js_machine.specs.Views.{is_completion, is_due, is_handed, takes_values};
 ghost use Rattle.js_machine.specs.declared.frame.Frame.TheVariants as frame_kind;
 ghost use Rattle.js_machine.specs.declared.frame.Mode.TheVariants as mode_kind;
 
@@ -13,6 +13,7 @@ use crate::decisions::{decide, resume_thrown};
 use crate::deliver::deliver_value;
 use crate::newest::deliver_newest;
 use crate::wakes::resume_jumped;
+use js_in_place::frames::take_frame;
 use js_machine::frame::{Frame, Mode};
 use js_machine::machine::Machine;
 use js_machine_modules::modules::{deliver_module_body, deliver_module_ends};
@@ -94,16 +95,6 @@ fn deliver_any(machine: &mut Machine, frame: Frame, mode: Mode) -> Result<Mode, 
         Mode::Answer => deliver_answer(machine, frame),
         _ => deliver(machine, frame, mode),
     }
-}
-
-/// The newest frame is taken off, if there is one.
-#[inline]
-#[tactic(auto, using(js_machine::proofs::Reversed::reverse_push))]
-fn take_frame(machine: &mut Machine) -> Option<Frame>
-    ensures frame { result ≡ newest machine.old.frames }
-    ensures rest { machine.new ≡ record machine.old { frames = drop 1 machine.old.frames } }
-{
-    machine.frames.pop()
 }
 
 /// The newest value comes to the newest frame; where there is none, the body is over.

@@ -1,0 +1,27 @@
+-- The newest frame.
+use Rattle.std.proofs.Common.{◌≡◌, ℕ, ◌<◌, ◌-◌, List, [], ◌∷◌, drop, get_or, length, reverse, Option, Some, None, refl, sym, ap, ◌∙◌, arith}
+use Rattle.std.proofs.lemmas.List.{get_or-reverse, length-reverse}
+use Rattle.js_machine.specs.Views.{newest}
+use Rattle.js_machine.specs.declared.frame.Frame.{Frame}
+
+pub first_back : (f : Frame) (fs : List Frame) → newest fs ≡ Some f → fs ≡ f ∷ drop 1 fs
+first_back f [] e = cc
+first_back f (g ∷ fs) e = let same : g ≡ f = cc in ap (λ x. x ∷ fs) same
+
+first_is : (f : Frame) (fs : List Frame) → 0 < length fs → f ≡ get_or fs 0 f → Some f ≡ newest fs
+first_is f [] l e = absurd (omega (arith, l))
+first_is f (g ∷ fs) l e = ap Some e
+
+-- the last one that was pushed
+pub newest_is : (f : Frame) (fs : List Frame) → (length fs ≡ 0 → ⊥) → f ≡ get_or fs (length fs - 1) f → Some f ≡ newest (reverse fs)
+newest_is f fs n e =
+    let some : 0 < length fs = omega (arith, n) in
+    let at : length fs - 1 - 0 ≡ length fs - 1 = omega arith in
+    first_is f (reverse fs) (omega (arith, some, length-reverse fs)) (e ∙ ap (λ i. get_or fs i f) (sym at) ∙ sym (get_or-reverse fs 0 f some))
+
+none_is : (fs : List Frame) → length fs ≡ 0 → None ≡ newest fs
+none_is [] e = refl
+none_is (f ∷ fs) e = absurd (omega (arith, e))
+
+pub no_newest : (fs : List Frame) → length fs ≡ 0 → None ≡ newest (reverse fs)
+no_newest fs e = none_is (reverse fs) (length-reverse fs ∙ e)

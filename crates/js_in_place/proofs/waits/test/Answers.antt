@@ -1,0 +1,6 @@
+use Rattle.js_in_place.proofs.Led.{test_waits}
+use Rattle.js_in_place.proofs.waits.test.Goals as goal
+
+pub returns : goal.returns
+returns c =
+    test_waits c.wait.result c.args.turns c.args.left c.turn-row.result c.args.machine.now c.wait.new.machine c.turn-row.ensures c.wait.ensures

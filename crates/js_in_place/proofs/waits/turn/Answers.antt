@@ -1,0 +1,6 @@
+use Rattle.js_in_place.proofs.Led.{turn_waits}
+use Rattle.js_in_place.proofs.waits.turn.Goals as goal
+
+pub returns : goal.returns
+returns c =
+    turn_waits c.wait.result c.args.turns c.args.left c.turn-row.result c.args.machine.now c.wait.new.machine c.turn-row.ensures c.wait.ensures

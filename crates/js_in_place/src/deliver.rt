@@ -1,0 +1,170 @@
+// Frames that a plain value comes to in place.
+
+ghost use Rattle.std.specs.Prelude.{◌≡◌, IfOk, false, is_some, true};
+ghost use Rattle.std.specs.Option.{option_map};
+ghost use Rattle.js_code.specs.Decoded.{term_at};
+ghost use Rattle.js_direct.specs.Direct.{value_of};
+ghost use Rattle.js_in_place.specs.InPlace.{LedTo, RunsTo};
+ghost use Rattle.js_in_place.specs.declared.spot.Spot.TheVariants as spot_kind;
+ghost use Rattle.js_machine.specs.Bodies.{scope_of};
+ghost use Rattle.js_machine.specs.Steps.{deed_with};
+ghost use Rattle.js_machine.specs.Views.{party_of};
+ghost use Rattle.js_machine.specs.declared.frame.Frame.TheVariants as frame_kind;
+ghost use Rattle.js_machine.specs.js_run.Control.{branch};
+ghost use Rattle.js_machine.specs.js_run.Truth.{to_boolean};
+ghost use Rattle.js_state.specs.Scopes.{outwards, slot_of};
+
+use crate::frames::{newest_frame, take_off};
+use crate::spot::{Spot, Stand, at_form, at_value, stopped_at};
+use crate::scopes::{has_local, write_local};
+use crate::waits::{in_order, next_turn, test, turn};
+use js_direct::plain::Plain;
+use js_machine::frame::Frame;
+use js_machine::machine::Machine;
+use js_machine_statements::slots::stand_in;
+use lava_base::memory::OutOfMemory;
+
+/// Whether a plain value counts as true (ECMA-262, ToBoolean).
+#[inline]
+fn is_true(value: Plain) -> bool
+    ensures { result ≡ to_boolean (value_of value) }
+{
+    match value {
+        Plain::Undefined | Plain::Null => false,
+        Plain::Bool(truth) => truth,
+        Plain::Int(number) => number != 0,
+        Plain::Ref(_) => true,
+    }
+}
+
+/// A form in a scope is over.
+#[inline]
+fn leave_scope(machine: &mut Machine, scope: u32, value: Plain, left: u64) -> Stand
+    ensures { LedTo (deed_with (frame_kind.ScopeExit scope) (value_of value) machine.old) left
+        machine.old machine.new result }
+{
+    stand_in(machine, scope);
+    at_value(value, left)
+}
+
+/// The test of a turn has its value.
+#[inline]
+fn tested(machine: &mut Machine, turns: u32, value: Plain, left: u64) -> Result<Stand, OutOfMemory>
+    ensures { IfOk result (LedTo (deed_with (frame_kind.Tested turns) (value_of value) machine.old)
+        left machine.old machine.new) }
+{
+    if is_true(value) {
+        return turn(machine, turns, left);
+    }
+    Ok(at_value(Plain::Undefined, left))
+}
+
+/// Whether a slot is initialised and no constant.
+#[inline]
+fn can_set(machine: &Machine, hops: u32, slot: u32, constant: bool) -> bool
+    ensures changes { result ≡ true → constant ≡ false }
+    ensures there { let scope = outwards machine.now.scopes hops (scope_of machine.now.bodies) in
+        result ≡ true → is_some (slot_of machine.now.scopes scope slot) ≡ true }
+{
+    if constant {
+        return false;
+    }
+    has_local(machine, hops, slot)
+}
+
+/// An initialised slot gets its value.
+#[inline]
+fn set_slot(machine: &mut Machine, hops: u32, slot: u32, value: Plain, left: u64) -> Stand
+    ensures { let scope = outwards machine.old.scopes hops (scope_of machine.old.bodies) in
+        let frame = frame_kind.SetLocal hops slot false in
+        is_some (slot_of machine.old.scopes scope slot) ≡ true
+        → LedTo (deed_with frame (value_of value) machine.old) left machine.old machine.new result }
+{
+    write_local(machine, hops, slot, value);
+    at_value(value, left)
+}
+
+/// A slot gets its first value.
+#[inline]
+fn init_slot(machine: &mut Machine, hops: u32, slot: u32, value: Plain, left: u64) -> Stand
+    ensures { LedTo (deed_with (frame_kind.Init hops slot) (value_of value) machine.old) left
+        machine.old machine.new result }
+{
+    write_local(machine, hops, slot, value);
+    at_value(Plain::Undefined, left)
+}
+
+/// One of two forms follows, by the truth of a value; where there is no second one, undefined is given.
+#[inline]
+fn choose(machine: &Machine, value: Plain, consequent: u32, alternate: Option<u32>, left: u64) -> Stand
+    ensures { let term = term_at machine.now.code in
+        LedTo (λ a. branch (value_of value) (term consequent) (option_map term alternate)
+        (party_of a machine.now)) left machine.now machine.now result }
+{
+    if is_true(value) {
+        return at_form(consequent, left);
+    }
+    match alternate {
+        Some(at) => at_form(at, left),
+        None => at_value(Plain::Undefined, left),
+    }
+}
+
+/// A plain value comes to the newest frame, or is still to come to it.
+#[inline]
+pub fn deliver(machine: &mut Machine, value: Plain, left: u64) -> Result<Stand, OutOfMemory>
+    ensures { IfOk result (RunsTo (spot_kind.Given value) left machine.old machine.new) }
+{
+    let Some(frame) = newest_frame(machine) else {
+        return Ok(stopped_at(Spot::Given(value), left));
+    };
+    match frame {
+        Frame::Seq { start, count } => {
+            take_off(machine);
+            in_order(machine, start, count, left)
+        }
+        Frame::ScopeExit { scope } => {
+            take_off(machine);
+            Ok(leave_scope(machine, scope, value, left))
+        }
+        Frame::Tested { turns } => {
+            take_off(machine);
+            tested(machine, turns, value, left)
+        }
+        Frame::Turned { turns } => {
+            take_off(machine);
+            next_turn(machine, turns, left)
+        }
+        Frame::Updated { turns } => {
+            take_off(machine);
+            test(machine, turns, left)
+        }
+        Frame::SetLocal {
+            hops,
+            slot,
+            constant,
+        } => {
+            if !can_set(machine, hops, slot, constant) {
+                return Ok(stopped_at(Spot::Given(value), left));
+            }
+            take_off(machine);
+            Ok(set_slot(machine, hops, slot, value, left))
+        }
+        Frame::Init { hops, slot } => {
+            take_off(machine);
+            Ok(init_slot(machine, hops, slot, value, left))
+        }
+        Frame::If { consequent } => {
+            take_off(machine);
+            Ok(choose(machine, value, consequent, None, left))
+        }
+        Frame::IfElse {
+            consequent,
+            alternate,
+        } => {
+            take_off(machine);
+            Ok(choose(machine, value, consequent, Some(alternate), left))
+        }
+        _ => Ok(stopped_at(Spot::Given(value), left)),
+    }
+}

@@ -1,0 +1,10 @@
+use Rattle.js_machine_run.proofs.Gone_on.{form_next, value_next}
+use Rattle.js_machine_run.proofs.run.resumed.Goals as goal
+
+pub returns-in-Form : goal.returns-in-Form
+returns-in-Form c =
+    form_next c.args.spot c.in-Form.at c.args.machine.now c.in-Form.is
+
+pub returns-in-Given : goal.returns-in-Given
+returns-in-Given c =
+    value_next c.give.result c.args.spot c.in-Given.value c.as_value.result c.args.machine.now c.give.new.self c.in-Given.is c.as_value.ensures c.give.ensures.mode c.give.ensures.value
