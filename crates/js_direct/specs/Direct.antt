@@ -29,11 +29,13 @@ use Rattle.js_operation.specs.js_run.Acts.{Next, give}
 use Rattle.js_operation.specs.js_run.Completions.{Replied}
 use Rattle.js_operation.specs.js_run.Operators.{binary_value}
 use Rattle.js_operation.specs.js_run.Parties.{Shared, running}
+use Rattle.js_operation.specs.js_run.Truth.{to_boolean}
 use Rattle.js_operation.specs.js_run.Runs.{Begins, Charged, Due, Env, Gives, charge, run_for, settle}
 use Rattle.js_direct.specs.declared.direct.Direct.{Direct}
 use Rattle.js_direct.specs.declared.numbers.Counted.{Counted}
 use Rattle.js_direct.specs.declared.plain.Plain.{Plain}
 use Rattle.js_direct.specs.declared.plain.Plain.TheVariants as plain
+use Rattle.js_direct.specs.declared.truths.Truth.{Truth}
 
 -- where a party stands: its number and objects, the code, its scopes, and the scope of the body that runs
 pub record Sight : Type 0 where
@@ -55,6 +57,12 @@ pub record GivesAtOnce (s : Sight) (at : ℕ) (v : MachineValue) (k : ℕ) : Typ
 
 abbrev pub GivesNumber : Sight → (at : ℕ) → Counted → Type 0
 GivesNumber s at c = GivesAtOnce s at (value.Int c.number) c.steps
+
+-- it gives a value that counts as this truth value
+pub record GivesTruth (s : Sight) (at : ℕ) (t : Truth) : Type 0 where
+  pub value : MachineValue
+  pub gives : GivesAtOnce s at value t.steps
+  pub truth : to_boolean value ≡ t.truth
 
 -- the value of a plain one
 abbrev pub value_of : Plain → MachineValue
@@ -118,6 +126,13 @@ Operates o a b v = (me : ℕ) (shared : Shared) (p : MachineParty) → binary_va
 -- the form at each place with this row gives that
 abbrev pub IsDirectRow : Sight → Node → Direct → Type 0
 IsDirectRow s n d = (at : ℕ) → out-Term (term_at s.code at) ≡ layer_of s.code (term_at s.code) n → IsDirect s at d
+
+abbrev pub IsNumberRow : Sight → Node → Counted → Type 0
+IsNumberRow s n c = (at : ℕ) → out-Term (term_at s.code at) ≡ layer_of s.code (term_at s.code) n → GivesNumber s at c
+
+-- the form at each place with this row gives that truth value
+abbrev pub IsTruthRow : Sight → Node → Truth → Type 0
+IsTruthRow s n t = (at : ℕ) → out-Term (term_at s.code at) ≡ layer_of s.code (term_at s.code) n → GivesAtOnce s at (value.Bool t.truth) t.steps
 
 -- so does the one that reads a property whose key, at its place, is a name
 abbrev pub IsDirectNamed : Sight → (object key name : ℕ) → Direct → Type 0

@@ -1,24 +1,23 @@
 // Forms that give a plain value at once.
 
-ghost use Rattle.std.specs.Prelude.{◌≡◌, ◌+◌, IfSome, Some};
+ghost use Rattle.std.specs.Prelude.{◌≡◌, ◌<◌, IfSome, Some};
 ghost use Rattle.std.specs.Fmt.{signed_decimal};
 ghost use Rattle.js_text.specs.Indices.{key_of_text};
 ghost use Rattle.js_state.specs.Scopes.{outwards, slot_of};
-ghost use Rattle.js_tree.specs.declared.operator.UnaryOperator.TheVariants.{Plus};
 ghost use Rattle.js_code.specs.declared.node.Node.TheVariants as node;
-ghost use Rattle.js_direct.specs.Direct.{HasData, IsDirect, IsDirectNamed, IsDirectRow, Operates, compared, seen, value_of};
+ghost use Rattle.js_direct.specs.Direct.{GivesAtOnce, HasData, IsDirect, IsDirectNamed, IsDirectRow, seen, value_of};
 
-use crate::numbers::{DEPTH, operand_at, steps_of};
+use crate::numbers::{DEPTH, number_at, operand_at, steps_of};
 use crate::plain::{Plain, plain_of};
 use crate::properties::{indexed_data, named_data, object_at};
+use crate::truths::comparison_at;
 use js_code::code::Code;
 use js_code::node::Node;
-use js_operators::numbers::number_by;
 use js_state::scopes::Scopes;
 use js_store::flat::FlatStore;
 use js_text::text::Text;
 use js_text::value::Value;
-use js_tree::operator::{BinaryOperator, UnaryOperator};
+use js_tree::operator::BinaryOperator;
 use lava_base::ids::ObjId;
 
 /// What a form gives, and how many steps that takes.
@@ -28,41 +27,9 @@ pub struct Direct {
     pub steps: u32,
 }
 
-/// How an operator compares two numbers, if it does.
+/// How a binary operator compares forms that give numbers at once, as a value.
 #[inline]
-fn compared(operator: BinaryOperator, left: i64, right: i64) -> Option<bool>
-    ensures { result ≡ compared operator left right }
-{
-    match operator {
-        BinaryOperator::Less => Some(left < right),
-        BinaryOperator::Greater => Some(right < left),
-        BinaryOperator::LessOrEqual => Some(!(right < left)),
-        BinaryOperator::GreaterOrEqual => Some(!(left < right)),
-        BinaryOperator::LooselyEqual | BinaryOperator::StrictlyEqual => Some(left == right),
-        BinaryOperator::LooselyUnequal | BinaryOperator::StrictlyUnequal => Some(!(left == right)),
-        _ => None,
-    }
-}
-
-/// What a binary operator gives for two numbers, where that is a number or a truth value.
-#[inline]
-#[tactic(auto, using(crate::proofs::Given::operates_truth, crate::proofs::Given::operates_number))]
-fn operated(operator: BinaryOperator, left: i64, right: i64) -> Option<Plain>
-    ensures { IfSome result (Operates operator left right) }
-{
-    match compared(operator, left, right) {
-        Some(truth) => Some(Plain::Bool(truth)),
-        None => match number_by(operator, left, right) {
-            Some(number) => Some(Plain::Int(number)),
-            None => None,
-        },
-    }
-}
-
-/// What a binary operator gives, where its operands give numbers at once.
-#[inline]
-#[tactic(auto, using(crate::proofs::Given::direct_binary))]
-fn binary_at(
+fn comparison_value(
     code: &Code,
     store: &FlatStore,
     scopes: &Scopes,
@@ -74,64 +41,35 @@ fn binary_at(
     ensures { let sight = seen store.now code.now scopes.now scope in
         IfSome result (IsDirectRow sight (node.Binary operator left right)) }
 {
-    let Some(left) = operand_at(code, store, scopes, scope, left, DEPTH) else {
+    let truth = comparison_at(code, store, scopes, scope, operator, left, right);
+    if truth.steps == 0 {
         return None;
-    };
-    let Some(right) = operand_at(code, store, scopes, scope, right, DEPTH) else {
-        return None;
-    };
-    let Some(steps) = steps_of(left.steps, right.steps) else {
-        return None;
-    };
-    match operated(operator, left.number, right.number) {
-        Some(value) => Some(Direct { value, steps }),
-        None => None,
     }
-}
-
-/// What `+` gives, where its operand gives a number at once.
-#[inline]
-#[tactic(auto, using(crate::proofs::Given::direct_plus))]
-fn plus_at(
-    code: &Code,
-    store: &FlatStore,
-    scopes: &Scopes,
-    scope: u32,
-    operand: u32,
-) -> Option<Direct>
-    ensures { let sight = seen store.now code.now scopes.now scope in
-        IfSome result (IsDirectRow sight (node.Unary Plus operand)) }
-{
-    let Some(operand) = operand_at(code, store, scopes, scope, operand, DEPTH) else {
-        return None;
-    };
-    let Some(steps) = steps_of(operand.steps, 0) else {
-        return None;
-    };
     Some(Direct {
-        value: Plain::Int(operand.number),
-        steps,
+        value: Plain::Bool(truth.truth),
+        steps: truth.steps,
     })
 }
 
-/// What a unary operator gives, where its operand gives a number at once.
+/// A number that a form gives at once, as a value.
 #[inline]
-#[tactic(auto, using(crate::proofs::Given::as_plus))]
-fn unary_at(
+fn number_value(
     code: &Code,
     store: &FlatStore,
     scopes: &Scopes,
     scope: u32,
-    operator: UnaryOperator,
-    operand: u32,
+    at: u32,
 ) -> Option<Direct>
-    ensures { let sight = seen store.now code.now scopes.now scope in
-        IfSome result (IsDirectRow sight (node.Unary operator operand)) }
+    ensures { IfSome result (IsDirect (seen store.now code.now scopes.now scope) at) }
 {
-    match operator {
-        UnaryOperator::Plus => plus_at(code, store, scopes, scope, operand),
-        _ => None,
+    let number = number_at(code, store, scopes, scope, at, DEPTH);
+    if number.steps == 0 {
+        return None;
     }
+    Some(Direct {
+        value: Plain::Int(number.number),
+        steps: number.steps,
+    })
 }
 
 /// A slot that has a plain value.
@@ -211,12 +149,14 @@ fn indexed_at(
     let Some(id) = object_at(code, store, scopes, scope, object) else {
         return None;
     };
-    let Some(index) = operand_at(code, store, scopes, scope, key, DEPTH) else {
+    let index = operand_at(code, store, scopes, scope, key, DEPTH);
+    if index.steps == 0 {
         return None;
-    };
-    let Some(steps) = steps_of(2, index.steps) else {
+    }
+    let steps = steps_of(2, index.steps);
+    if steps == 0 {
         return None;
-    };
+    }
     match indexed_plain(store, id, index.number) {
         Some(value) => Some(Direct { value, steps }),
         None => None,
@@ -242,9 +182,9 @@ fn property_at(
     }
 }
 
-/// What a form gives at once, if it does.
+/// What a form gives at once that is no number, if it does.
 #[tactic(auto, using(crate::proofs::Given::at_row))]
-pub fn value_at(
+fn other_at(
     code: &Code,
     store: &FlatStore,
     scopes: &Scopes,
@@ -266,10 +206,6 @@ pub fn value_at(
             value: Plain::Bool(truth),
             steps: 1,
         }),
-        Node::Int(number) => Some(Direct {
-            value: Plain::Int(number),
-            steps: 1,
-        }),
         Node::Local { hops, slot } => match slot_at(scopes, scope, hops, slot) {
             Some(value) => Some(Direct { value, steps: 1 }),
             None => None,
@@ -278,11 +214,51 @@ pub fn value_at(
             operator,
             left,
             right,
-        } => binary_at(code, store, scopes, scope, operator, left, right),
-        Node::Unary { operator, operand } => unary_at(
-            code, store, scopes, scope, operator, operand,
-        ),
+        } => comparison_value(code, store, scopes, scope, operator, left, right),
         Node::Get { object, key } => property_at(code, store, scopes, scope, object, key),
         _ => None,
+    }
+}
+
+/// What a form gives at once, if it does.
+pub fn value_at(
+    code: &Code,
+    store: &FlatStore,
+    scopes: &Scopes,
+    scope: u32,
+    at: u32,
+) -> Option<Direct>
+    ensures { IfSome result (IsDirect (seen store.now code.now scopes.now scope) at) }
+{
+    match number_value(code, store, scopes, scope, at) {
+        Some(direct) => Some(direct),
+        None => other_at(code, store, scopes, scope, at),
+    }
+}
+
+/// What a form gives at once, and how many steps that takes; none where it does not. (A number wants no `Direct`.)
+#[inline]
+pub fn value_into(
+    code: &Code,
+    store: &FlatStore,
+    scopes: &Scopes,
+    scope: u32,
+    at: u32,
+    given: &mut Plain,
+) -> u32
+    ensures { let sight = seen store.now code.now scopes.now scope in
+        0 < result → GivesAtOnce sight at (value_of given.new) result }
+{
+    let number = operand_at(code, store, scopes, scope, at, DEPTH);
+    if number.steps > 0 {
+        *given = Plain::Int(number.number);
+        return number.steps;
+    }
+    match other_at(code, store, scopes, scope, at) {
+        Some(direct) => {
+            *given = direct.value;
+            direct.steps
+        }
+        None => 0,
     }
 }

@@ -1,11 +1,16 @@
-// Forms that give a plain value at once, and change nothing: what they give, and how many steps that takes.
+// Forms that are done at once: what they give, what they change, and how many steps that takes.
 //
-// - `direct` reads forms that give a plain value, `numbers` those that give a number.
+// - `direct` reads forms that give a plain value, `numbers` those that give a number, `truths` those that give a truth value.
 // - `plain` has values that are no text and no symbol.
 // - `properties` has own data properties.
+// - `slots` writes slots, `puts` properties; `done` does what a form does at once.
 #![tactic(auto)]
 
 pub mod direct;
+pub mod done;
 pub mod numbers;
 pub mod plain;
 pub mod properties;
+pub mod puts;
+pub mod slots;
+pub mod truths;

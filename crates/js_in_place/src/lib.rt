@@ -1,15 +1,18 @@
 // Forms that a run goes through in place: a value that is given comes on no stack, and a frame takes it at once.
 //
-// - `spot` is where such a run stands.
-// - `frames` has the newest frame, `waits` what stands before a form, `scopes` what is done with scopes.
-// - `begin` has forms that begin, `deliver` frames that a value comes to.
+// - `spot` is where such a run stands, `seat` how far a form got.
+// - `form` has forms that hold others, `here` what is done at once, `back` the frames that wait for these.
+// - `frames` has the newest frame, `waits` what stands before a form, `scopes` what is done with scopes, `deliver` frames that a value comes to.
 // - `run` goes on as long as there is something to do.
 #![tactic(auto)]
 
-pub mod begin;
+pub mod back;
 pub mod deliver;
+pub mod form;
 pub mod frames;
-pub mod spot;
+pub mod here;
 pub mod run;
 pub mod scopes;
+pub mod seat;
+pub mod spot;
 pub mod waits;

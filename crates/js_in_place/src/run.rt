@@ -2,15 +2,59 @@
 
 ghost use Rattle.std.specs.Prelude.{IfOk};
 ghost use Rattle.js_in_place.specs.InPlace.{RunsTo};
+ghost use Rattle.js_in_place.specs.declared.spot.Spot.TheVariants as spot_kind;
 
-use crate::begin::begin;
 use crate::deliver::deliver;
-use crate::spot::{Spot, Stand};
+use crate::form::{MOST_DEEP, do_form};
+use crate::seat::{How, Seat};
+use crate::spot::{Spot, Stand, at_form, at_value, stopped_at};
+use js_code::node::Node;
+use js_direct::direct::value_into;
+use js_direct::plain::Plain;
 use js_machine::machine::Machine;
 use lava_base::memory::OutOfMemory;
 
 /// How much a run does in place at most before it looks up.
 pub const EVENTS: u32 = 1000000;
+
+/// A form that gives a value at once, where its steps can be paid; else it is to begin still.
+#[inline]
+fn value_here(machine: &Machine, at: u32, left: u64) -> Stand
+    ensures { RunsTo (spot_kind.Form at) left machine.now machine.now result }
+{
+    let mut given = Plain::Undefined;
+    let steps = value_into(
+        &machine.code,
+        &machine.store,
+        &machine.scopes,
+        machine.standing(),
+        at,
+        &mut given,
+    );
+    let price = u64::from(steps);
+    if price == 0 || price > left {
+        return stopped_at(Spot::Form(at), left);
+    }
+    at_value(given, left - price)
+}
+
+/// A form goes as far as it gets.
+fn begin(machine: &mut Machine, at: u32, left: u64) -> Result<Stand, OutOfMemory>
+    ensures { IfOk result (RunsTo (spot_kind.Form at) left machine.old machine.new) }
+{
+    let mut seat = Seat {
+        at,
+        value: Plain::Undefined,
+    };
+    let step = do_form(machine, &mut seat, at, left, MOST_DEEP);
+    match step.how {
+        How::Given => Ok(at_value(seat.value, step.left)),
+        How::Left => Ok(stopped_at(Spot::Given(seat.value), step.left)),
+        How::Next => Ok(stopped_at(Spot::Form(seat.at), step.left)),
+        How::Stopped => Ok(stopped_at(Spot::Form(seat.at), step.left)),
+        How::Failed => Err(OutOfMemory),
+    }
+}
 
 /// A form begins, or a value comes to the newest frame.
 #[inline]
@@ -37,4 +81,31 @@ pub fn run_in_place(machine: &mut Machine, stand: Stand) -> Result<Stand, OutOfM
         }
     }
     Ok(stand)
+}
+
+/// A form begins in place, where it is one of those that are done so; else it is to begin still.
+#[inline]
+pub fn begin_in_place(machine: &mut Machine, at: u32, left: u64) -> Result<Stand, OutOfMemory>
+    ensures { IfOk result (RunsTo (spot_kind.Form at) left machine.old machine.new) }
+{
+    match machine.code.node(at) {
+        Node::Seq { .. }
+        | Node::Scope { .. }
+        | Node::Fresh
+        | Node::Loop { .. }
+        | Node::If { .. }
+        | Node::IfElse { .. }
+        | Node::SetLocal { .. }
+        | Node::Init { .. }
+        | Node::Put { .. } => run_in_place(machine, at_form(at, left)),
+        Node::Undefined
+        | Node::Null
+        | Node::Bool(_)
+        | Node::Int(_)
+        | Node::Local { .. }
+        | Node::Unary { .. }
+        | Node::Binary { .. }
+        | Node::Get { .. } => Ok(value_here(machine, at, left)),
+        _ => Ok(stopped_at(Spot::Form(at), left)),
+    }
 }

@@ -35,7 +35,7 @@ pub fn begin_scope(machine: &mut Machine, count: u32, body: u32, left: u64) -> R
 
 /// The body that runs enters a copy of the scope where it stands.
 #[inline]
-fn enter_copy(machine: &mut Machine) -> Result<(), OutOfMemory>
+pub fn enter_copy(machine: &mut Machine) -> Result<(), OutOfMemory>
     ensures { OnOk result (machine.new ≡ with_copy machine.old) }
 {
     let here = machine.standing();

@@ -10,8 +10,8 @@ ghost use Rattle.js_machine_run.specs.Going.{GoesOnTo, IsNext};
 use crate::steps::{settle, work};
 use crate::stop::{charge_steps, cost, stop_at};
 use js_direct::plain::as_value;
-use js_in_place::spot::{Spot, at_form};
-use js_in_place::run::run_in_place;
+use js_in_place::spot::Spot;
+use js_in_place::run::begin_in_place;
 use js_machine::frame::{Halt, Mode};
 use js_machine::machine::Machine;
 use js_machine::stop::{Charge, Pause, Stop};
@@ -79,7 +79,7 @@ fn go_in_place(
     if most == 0 {
         return Ok(Went { mode, used: 0 });
     }
-    let stand = run_in_place(machine, at_form(at, most))?;
+    let stand = begin_in_place(machine, at, most)?;
     let used = most - stand.left;
     let mode = resumed(machine, stand.spot)?;
     Ok(Went { mode, used })

@@ -1,0 +1,88 @@
+// Forms that are done at once.
+
+ghost use Rattle.std.specs.Prelude.{◌≡◌, ◌<◌, ◌≤◌};
+ghost use Rattle.js_direct.specs.Done.{DoesAtOnce};
+ghost use Rattle.js_direct.specs.Direct.{seen, value_of};
+
+use crate::direct::value_into;
+use crate::plain::Plain;
+use crate::puts::put_at;
+use crate::slots::{init_at, set_at};
+use js_code::code::Code;
+use js_code::node::Node;
+use js_state::scopes::Scopes;
+use js_store::flat::FlatStore;
+
+/// A form that gives a value at once and changes nothing, where its steps are at most so many.
+#[inline(never)]
+fn only_value(
+    code: &Code,
+    store: &FlatStore,
+    scopes: &Scopes,
+    scope: u32,
+    at: u32,
+    left: u64,
+    given: &mut Plain,
+) -> u32
+{
+    let steps = value_into(code, store, scopes, scope, at, given);
+    if u64::from(steps) > left {
+        return 0;
+    }
+    steps
+}
+
+/// A property gets what a form gives at once.
+fn put_into(
+    code: &Code,
+    store: &mut FlatStore,
+    scopes: &Scopes,
+    scope: u32,
+    object: u32,
+    key: u32,
+    value: u32,
+    left: u64,
+    given: &mut Plain,
+) -> u32 {
+    match put_at(code, store, scopes, scope, object, key, value, left) {
+        Some(direct) => {
+            *given = direct.value;
+            direct.steps
+        }
+        None => 0,
+    }
+}
+
+/// A form is done at once, where its steps are at most so many: gives the steps, and none where nothing was done.
+#[inline(always)]
+pub fn done_at(
+    code: &Code,
+    store: &mut FlatStore,
+    scopes: &mut Scopes,
+    scope: u32,
+    at: u32,
+    left: u64,
+    given: &mut Plain,
+) -> u32
+    ensures does { let sight = seen store.old code.now scopes.old scope in
+        0 < result → DoesAtOnce sight at (value_of given.new) store.new.objects scopes.new result }
+    ensures within { result ≤ left }
+    ensures none { result ≡ 0 → (store.new.objects ≡ store.old.objects) × (scopes.new ≡ scopes.old) }
+    ensures party { store.new.party ≡ store.old.party }
+{
+    match code.node(at) {
+        Node::SetLocal {
+            hops,
+            slot,
+            constant: false,
+            value,
+        } => set_at(code, store, scopes, scope, hops, slot, value, left, given),
+        Node::Init { hops, slot, value } => init_at(
+            code, store, scopes, scope, hops, slot, value, left, given,
+        ),
+        Node::Put { object, key, value } => put_into(
+            code, store, scopes, scope, object, key, value, left, given,
+        ),
+        _ => only_value(code, store, scopes, scope, at, left, given),
+    }
+}

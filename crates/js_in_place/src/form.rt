@@ -1,0 +1,240 @@
+// Forms that hold others: each is begun, and what it holds is done in place as far as it gets. No form is deeper in another one than `MOST_DEEP`.
+
+use crate::back::{back_from_scope, back_from_turn, back_from_update, back_in_list};
+use crate::here::{choose_one, choose_two, done_here, fresh, starts_loop, truth_here};
+use crate::seat::{How, Seat, Went, given, next, stopped, went};
+use js_code::node::Node;
+use js_direct::plain::Plain;
+use js_machine::frame::Frame;
+use js_machine::machine::Machine;
+use js_machine_statements::blocks::enter;
+
+/// How deep forms may hold one another.
+pub const MOST_DEEP: u32 = 32;
+
+/// How many forms may take one another's place before a run looks up.
+pub const MOST_FORMS: u32 = 1000;
+
+/// How often a loop turns before a run looks up.
+pub const MOST_TURNS: u32 = 1000000;
+
+/// A form, and those that take its place, go as far as they get.
+#[cycle(form)]
+pub fn do_form(machine: &mut Machine, seat: &mut Seat, at: u32, left: u64, depth: u32) -> Went {
+    let mut at = at;
+    let mut left = left;
+    for _i in 0..MOST_FORMS {
+        if left == 0 || depth == 0 {
+            break;
+        }
+        let step = do_row(machine, seat, at, left, depth);
+        match step.how {
+            How::Next => {
+                at = seat.at;
+                left = step.left;
+            }
+            _ => return step,
+        }
+    }
+    stopped(seat, at, left)
+}
+
+/// A form goes as far as it gets, or is done at once.
+#[cycle(form)]
+#[inline(always)]
+fn do_row(machine: &mut Machine, seat: &mut Seat, at: u32, left: u64, depth: u32) -> Went {
+    match machine.code.node(at) {
+        Node::Seq { start, count } => do_items(machine, seat, start, count, left - 1, depth - 1),
+        Node::Scope { slots, body } => do_scope(machine, seat, slots, body, left - 1, depth - 1),
+        Node::Loop {
+            turns,
+            tests_first: true,
+        } => do_loop(machine, seat, turns, left - 1, depth - 1),
+        Node::If { test, consequent } => choose_one(machine, seat, at, test, consequent, left),
+        Node::IfElse {
+            test,
+            consequent,
+            alternate,
+        } => choose_two(machine, seat, at, test, consequent, alternate, left),
+        Node::Fresh => fresh(machine, seat, left - 1),
+        _ => do_leaf(machine, seat, at, left),
+    }
+}
+
+/// A form is done at once, or not begun.
+#[inline(always)]
+fn do_leaf(machine: &mut Machine, seat: &mut Seat, at: u32, left: u64) -> Went {
+    let steps = done_here(machine, seat, at, left);
+    if steps == 0 {
+        return stopped(seat, at, left);
+    }
+    went(How::Given, left - u64::from(steps))
+}
+
+/// Forms in their order, but for the last one, which is next (ECMA-262, "Block").
+#[cycle(form)]
+#[inline(never)]
+fn do_items(
+    machine: &mut Machine,
+    seat: &mut Seat,
+    start: u32,
+    count: u32,
+    left: u64,
+    depth: u32,
+) -> Went {
+    let Ok(there) = machine.listed(start, count) else {
+        return went(How::Failed, left);
+    };
+    if there == 0 {
+        return given(seat, Plain::Undefined, left);
+    }
+    let mut left = left;
+    for i in 0..there - 1 {
+        let at = machine.number(start + i);
+        let step = do_item(machine, seat, at, start + i + 1, count - i - 1, left, depth);
+        match step.how {
+            How::Given => left = step.left,
+            _ => return step,
+        }
+    }
+    next(seat, machine.number(start + there - 1), left)
+}
+
+/// Whether a form holds others, or changes where the body stands.
+#[inline(always)]
+fn holds_others(node: Node) -> bool {
+    match node {
+        Node::Seq { .. }
+        | Node::Scope { .. }
+        | Node::Loop { .. }
+        | Node::If { .. }
+        | Node::IfElse { .. }
+        | Node::Fresh => true,
+        _ => false,
+    }
+}
+
+/// A form of a list that others follow.
+#[cycle(form)]
+#[inline(always)]
+fn do_item(
+    machine: &mut Machine,
+    seat: &mut Seat,
+    at: u32,
+    start: u32,
+    count: u32,
+    left: u64,
+    depth: u32,
+) -> Went {
+    if !holds_others(machine.code.node(at)) {
+        let steps = done_here(machine, seat, at, left);
+        if steps > 0 {
+            return went(How::Given, left - u64::from(steps));
+        }
+        if machine.push_frame(Frame::Seq { start, count }).is_err() {
+            return went(How::Failed, left);
+        }
+        return stopped(seat, at, left);
+    }
+    if machine.push_frame(Frame::Seq { start, count }).is_err() {
+        return went(How::Failed, left);
+    }
+    let step = do_form(machine, seat, at, left, depth);
+    match step.how {
+        How::Given => back_in_list(machine, start, count, step.left),
+        _ => step,
+    }
+}
+
+/// A form in a new scope.
+#[cycle(form)]
+#[inline(never)]
+fn do_scope(
+    machine: &mut Machine,
+    seat: &mut Seat,
+    slots: u32,
+    body: u32,
+    left: u64,
+    depth: u32,
+) -> Went {
+    let scope = machine.standing();
+    if enter(machine, slots).is_err() {
+        return went(How::Failed, left);
+    }
+    if machine.push_frame(Frame::ScopeExit { scope }).is_err() {
+        return went(How::Failed, left);
+    }
+    let step = do_form(machine, seat, body, left, depth);
+    match step.how {
+        How::Given => back_from_scope(machine, step.left),
+        _ => step,
+    }
+}
+
+/// The turns of a loop that begins with its test (ECMA-262, LoopEvaluation).
+#[cycle(form)]
+#[inline(never)]
+fn do_loop(machine: &mut Machine, seat: &mut Seat, turns: u32, left: u64, depth: u32) -> Went {
+    let mut left = left;
+    for _i in 0..MOST_TURNS {
+        let step = do_turn(machine, seat, turns, left, depth);
+        match step.how {
+            How::Next => left = step.left,
+            _ => return step,
+        }
+    }
+    starts_loop(machine, seat, turns, left)
+}
+
+/// The test of a loop, and a turn.
+#[cycle(form)]
+#[inline(always)]
+fn do_turn(machine: &mut Machine, seat: &mut Seat, turns: u32, left: u64, depth: u32) -> Went {
+    let row = machine.code.turn(turns);
+    let truth = truth_here(machine, row.test);
+    let price = u64::from(truth.steps);
+    if price == 0 || price > left {
+        return starts_loop(machine, seat, turns, left);
+    }
+    if !truth.truth {
+        return given(seat, Plain::Undefined, left - price);
+    }
+    if machine.push_frame(Frame::Turned { turns }).is_err() {
+        return went(How::Failed, left);
+    }
+    let step = do_form(machine, seat, row.body, left - price, depth);
+    match step.how {
+        How::Given => (),
+        _ => return step,
+    }
+    let step = back_from_turn(machine, turns, step.left);
+    match step.how {
+        How::Next => (),
+        _ => return step,
+    }
+    match row.update {
+        Some(update) => do_update(machine, seat, turns, update, step.left, depth),
+        None => step,
+    }
+}
+
+/// What a loop does after a turn.
+#[cycle(form)]
+#[inline(always)]
+fn do_update(
+    machine: &mut Machine,
+    seat: &mut Seat,
+    turns: u32,
+    update: u32,
+    left: u64,
+    depth: u32,
+) -> Went {
+    if machine.push_frame(Frame::Updated { turns }).is_err() {
+        return went(How::Failed, left);
+    }
+    let step = do_form(machine, seat, update, left, depth);
+    match step.how {
+        How::Given => back_from_update(machine, turns, step.left),
+        _ => step,
+    }
+}

@@ -1,0 +1,99 @@
+// What is done at once where the machine stands.
+
+use crate::scopes::enter_copy;
+use crate::seat::{How, Seat, Went, given, next, stopped, went};
+use js_direct::done::done_at;
+use js_direct::plain::Plain;
+use js_direct::truths::{Truth, truth_at};
+use js_machine::frame::Frame;
+use js_machine::machine::Machine;
+
+/// A form is done at once, where its steps are at most so many: gives the steps, and none where nothing was done.
+#[inline(always)]
+pub fn done_here(machine: &mut Machine, seat: &mut Seat, at: u32, left: u64) -> u32 {
+    let scope = machine.standing();
+    done_at(
+        &machine.code,
+        &mut machine.store,
+        &mut machine.scopes,
+        scope,
+        at,
+        left,
+        &mut seat.value,
+    )
+}
+
+/// Whether what a form gives at once counts as true.
+#[inline(always)]
+pub fn truth_here(machine: &Machine, at: u32) -> Truth {
+    truth_at(
+        &machine.code,
+        &machine.store,
+        &machine.scopes,
+        machine.standing(),
+        at,
+    )
+}
+
+/// A form or none, by what a test gives at once (ECMA-262, the if Statement).
+#[inline(never)]
+pub fn choose_one(
+    machine: &Machine,
+    seat: &mut Seat,
+    at: u32,
+    test: u32,
+    consequent: u32,
+    left: u64,
+) -> Went {
+    let truth = truth_here(machine, test);
+    let price = u64::from(truth.steps);
+    if price == 0 || price >= left {
+        return stopped(seat, at, left);
+    }
+    let left = left - 1 - price;
+    if truth.truth {
+        return next(seat, consequent, left);
+    }
+    given(seat, Plain::Undefined, left)
+}
+
+/// One of two forms, by what a test gives at once (ECMA-262, the if Statement).
+#[inline(never)]
+pub fn choose_two(
+    machine: &Machine,
+    seat: &mut Seat,
+    at: u32,
+    test: u32,
+    consequent: u32,
+    alternate: u32,
+    left: u64,
+) -> Went {
+    let truth = truth_here(machine, test);
+    let price = u64::from(truth.steps);
+    if price == 0 || price >= left {
+        return stopped(seat, at, left);
+    }
+    let left = left - 1 - price;
+    if truth.truth {
+        return next(seat, consequent, left);
+    }
+    next(seat, alternate, left)
+}
+
+/// A copy of the innermost scope takes its place (ECMA-262, CreatePerIterationEnvironment).
+pub fn fresh(machine: &mut Machine, seat: &mut Seat, left: u64) -> Went {
+    match enter_copy(machine) {
+        Ok(_) => given(seat, Plain::Undefined, left),
+        Err(_) => went(How::Failed, left),
+    }
+}
+
+/// The test of a loop's next turn is to begin.
+#[inline(never)]
+pub fn starts_loop(machine: &mut Machine, seat: &mut Seat, turns: u32, left: u64) -> Went {
+    let row = machine.code.turn(turns);
+    if machine.push_frame(Frame::Tested { turns }).is_err() {
+        return went(How::Failed, left);
+    }
+    stopped(seat, row.test, left)
+}
