@@ -132,7 +132,7 @@ module _ (me : ℕ) (shared : Shared) where
   by_slot r (kept.Promised x) callable k receiver p e = refl
   by_slot r (kept.Namespace sc ex) callable k receiver p e = refl
 
-  own_origin : (id : ℕ) → origin_of me (reference.Own (record { 0 = me }) (record { 0 = id })) ≡ Own id
+  pub own_origin : (id : ℕ) → origin_of me (reference.Own (record { 0 = me }) (record { 0 = id })) ≡ Own id
   own_origin id = ap (λ b. if b then Own id else Foreign) (eq-eqb me me refl)
 
   pub data_decided : (id : ℕ) (k : Key MadeSymbol) (v receiver : MachineValue) (p : MachineParty) → HasData p.objects id k v
@@ -149,7 +149,7 @@ module _ (me : ℕ) (shared : Shared) where
       ∙ ap (λ x. (as_exotic (get_own k receiver (object_at p.objects id).prototype x), p.objects)) d.found)
 
 -- the ask of an own object is decided
-own_asked : (me id : ℕ) (x : Ask Ref MadeSymbol) (p : MachineParty) (next : Next Ref MadeSymbol) → asks_value (naming_of me) (own_object me id) x p next ≡ acts.Decide (own_object me id) x p next
+pub own_asked : (me id : ℕ) (x : Ask Ref MadeSymbol) (p : MachineParty) (next : Next Ref MadeSymbol) → asks_value (naming_of me) (own_object me id) x p next ≡ acts.Decide (own_object me id) x p next
 own_asked me id x p next = ap (λ b. ask_there (if b then Own id else Foreign) (reference.Own (record { 0 = me }) (record { 0 = id })) x p next) (eq-eqb me me refl)
 
 -- a number or a text is a key at once
@@ -170,7 +170,7 @@ module _ (s : Sight) (at : ℕ) where
   IsRow n = out-Term (term_at s.code at) ≡ layer_of s.code (term_at s.code) n
 
   -- what the row of a form leads to, once it is charged
-  begun : (shared : Shared) (env : Env Ref) (p : MachineParty) (ks : List (Next Ref MadeSymbol)) (charges limit steps : ℕ) (n : Node) → IsRow n → charge p.meter steps limit 1 ≡ Charged
+  pub begun : (shared : Shared) (env : Env Ref) (p : MachineParty) (ks : List (Next Ref MadeSymbol)) (charges limit steps : ℕ) (n : Node) → IsRow n → charge p.meter steps limit 1 ≡ Charged
       → run_for (naming_of s.me) shared env (suc charges) limit steps (Due 0 (Begins (term_at s.code at)) p ks)
       ≡ run_for (naming_of s.me) shared env charges limit (steps + 1) (settle (naming_of s.me) shared env ks (answered (naming_of s.me) env (row_at (naming_of s.me) shared (layer_of s.code (term_at s.code) n) p)))
   begun shared env p ks charges limit steps n e a =
