@@ -1,5 +1,5 @@
 -- Forms that give a value at once.
-use Rattle.std.proofs.Common.{◌≡◌, ℕ, suc, ◌+◌, Bool, true, false, not, List, ◌∷◌, length, Option, Some, None, ℤ, IfSome, int_lt, refl, sym, ap, ◌∙◌, subst, arith, eq-eqb, lt-ltb, if◌then◌else◌}
+use Rattle.std.proofs.Common.{◌≡◌, ℕ, suc, ◌+◌, Bool, true, false, not, List, ◌∷◌, length, Option, Some, None, ℤ, IfSome, int_lt, ◌<◌, refl, sym, ap, ◌∙◌, subst, arith, eq-eqb, lt-ltb, if◌then◌else◌}
 use Rattle.std.specs.Fmt.{signed_decimal}
 use Rattle.std.specs.Ordering.{int_eq}
 use Rattle.lava_base.specs.declared.ids.MadeSymbol.{MadeSymbol}
@@ -17,7 +17,6 @@ use Rattle.js_desc.specs.declared.decision.EndKind.TheVariants as end
 use Rattle.js_desc.specs.declared.reply.Reply.TheVariants as reply
 use Rattle.js_tree.specs.declared.operator.BinaryOperator.{BinaryOperator}
 use Rattle.js_tree.specs.declared.operator.BinaryOperator.TheVariants as op
-use Rattle.js_tree.specs.declared.operator.UnaryOperator.{UnaryOperator}
 use Rattle.js_tree.specs.declared.operator.UnaryOperator.TheVariants as unary_op
 use Rattle.js_term.specs.declared.term.Term.{out-Term}
 use Rattle.js_code.specs.Decoded.{layer_of, term_at, text_at}
@@ -44,12 +43,14 @@ use Rattle.js_operation.specs.js_run.Operators.{binary_value, given_number, is_s
 use Rattle.js_operation.specs.js_run.Parties.{Shared, running}
 use Rattle.js_operation.specs.js_run.Properties.{read_slot}
 use Rattle.js_operation.specs.js_run.Rows.{binary_left, get_key, get_object, row_at}
+use Rattle.js_operation.specs.js_run.Truth.{to_boolean}
 use Rattle.js_operation.specs.js_run.Runs.{Begins, Charged, Decides, Due, Env, Gives, answered, charge, run_for, settle}
-use Rattle.js_direct.specs.Direct.{GivesAtOnce, GivesNumber, HasData, IsDirect, IsDirectNamed, IsDirectRow, Operates, Sight, compared, is_proxy, key_named, own_object, value_of}
+use Rattle.js_direct.specs.Direct.{GivesAtOnce, GivesNumber, GivesTruth, HasData, IsDirect, IsDirectNamed, IsDirectRow, IsNumberRow, IsTruthRow, Sight, compared, is_proxy, key_named, own_object, value_of}
 use Rattle.js_direct.specs.declared.direct.Direct.{Direct}
 use Rattle.js_direct.specs.declared.numbers.Counted.{Counted}
 use Rattle.js_direct.specs.declared.plain.Plain.{Plain}
 use Rattle.js_direct.specs.declared.plain.Plain.TheVariants as plain
+use Rattle.js_direct.specs.declared.truths.Truth.{Truth}
 use Rattle.js_direct.proofs.Charges.{one, part}
 
 -- WHAT OPERATORS GIVE
@@ -302,54 +303,62 @@ module _ (s : Sight) (at : ℕ) where
   pub number_literal : (n : Node) (i : ℤ) → IsRow s at n → n ≡ node.Int i → GivesNumber s at (record { number = i; steps = 1 })
   number_literal n i e f = literal s at i (row_is n (node.Int i) e f)
 
-  pub number_slot : (n : Node) (h i : ℕ) (o : Option Counted) → IsRow s at n → n ≡ node.Local h i
-      → IfSome o (λ c. (slot_of s.scopes (outwards s.scopes h s.scope) i ≡ Some (value.Int c.number)) × (c.steps ≡ 1)) → IfSome o (GivesNumber s at)
-  number_slot n h i (Some c) e f (v, k) = subst (λ m. GivesAtOnce s at (value.Int c.number) m) (sym k) (slot s at h i (value.Int c.number) (row_is n (node.Local h i) e f) v)
-  number_slot n h i None e f g = tt
+  pub number_slot : (n : Node) (h i : ℕ) (c : Counted) → IsRow s at n → n ≡ node.Local h i
+      → (0 < c.steps → (slot_of s.scopes (outwards s.scopes h s.scope) i ≡ Some (value.Int c.number)) × (c.steps ≡ 1)) → 0 < c.steps → GivesNumber s at c
+  number_slot n h i c e f g l = let (v, k) = g l in subst (λ m. GivesAtOnce s at (value.Int c.number) m) (sym k) (slot s at h i (value.Int c.number) (row_is n (node.Local h i) e f) v)
 
-  pub number_binary : (n : Node) (op : BinaryOperator) (left right : ℕ) (o : Option Counted) (x y : Counted) → IsRow s at n → n ≡ node.Binary op left right → GivesNumber s left x → GivesNumber s right y
-      → IfSome o (λ c. number_or_end (numeric op x.number y.number) ≡ Is c.number) → IfSome o (λ c. c.steps ≡ 1 + x.steps + y.steps) → IfSome o (GivesNumber s at)
-  number_binary n op left right (Some c) x y e f g h v k =
-      binary s at op left right (value.Int x.number) (value.Int y.number) (value.Int c.number) x.steps y.steps c.steps (row_is n (node.Binary op left right) e f) (λ me shared p. calculates (naming_of me) shared op x.number y.number c.number p v) g h k
-  number_binary n op left right None x y e f g h v k = tt
-
-  pub number_named : (n m : Node) (object key text id : ℕ) (o : Option Counted) → IsRow s at n → n ≡ node.Get object key → GivesAtOnce s object (own_object s.me id) 1
-      → out-Term (term_at s.code key) ≡ layer_of s.code (term_at s.code) m → m ≡ node.Text text
-      → IfSome o (λ c. HasData s.objects id (key_of_text (text_at s.code text)) (value.Int c.number) × (c.steps ≡ 4)) → IfSome o (GivesNumber s at)
-  number_named n m object key text id (Some c) e f g t y (d, k) =
-      property s at object key id (value.Text (text_at s.code text)) (value.Int c.number) (key_of_text (text_at s.code text)) 1 c.steps (row_is n (node.Get object key) e f) g
-      (name_at s key text m t y) refl d (omega (arith, k))
-  number_named n m object key text id None e f g t y d = tt
-
-  pub number_indexed : (n : Node) (object key id : ℕ) (o : Option Counted) (x : Counted) → IsRow s at n → n ≡ node.Get object key → GivesAtOnce s object (own_object s.me id) 1 → GivesNumber s key x
-      → IfSome o (λ c. HasData s.objects id (key_of_text (signed_decimal x.number)) (value.Int c.number) × (c.steps ≡ 3 + x.steps)) → IfSome o (GivesNumber s at)
-  number_indexed n object key id (Some c) x e f g h (d, k) = property s at object key id (value.Int x.number) (value.Int c.number) (key_of_text (signed_decimal x.number)) x.steps c.steps (row_is n (node.Get object key) e f) g h refl d k
-  number_indexed n object key id None x e f g h d = tt
-
--- a number or a truth value of two numbers
-pub operates_truth : (o : BinaryOperator) (a b : ℤ) (r : Option Bool) (t : Bool) → r ≡ compared o a b → r ≡ Some t → Operates o a b (plain.Bool t)
-operates_truth o a b r t e f = λ me shared p. compares (naming_of me) shared o a b t p (sym e ∙ f)
-
-pub operates_number : (o : BinaryOperator) (a b n : ℤ) → number_or_end (numeric o a b) ≡ Is n → Operates o a b (plain.Int n)
-operates_number o a b n e = λ me shared p. calculates (naming_of me) shared o a b n p e
+  -- the form at a place has this row
+  pub number_row : (n m : Node) (c : Counted) → IsRow s at n → n ≡ m → (0 < c.steps → IsNumberRow s m c) → 0 < c.steps → GivesNumber s at c
+  number_row n m c e f g l = g l at (row_is n m e f)
 
 module _ (s : Sight) where
-  pub direct_binary : (o : BinaryOperator) (left right : ℕ) (x y : Counted) (v : Plain) (k : ℕ) → GivesNumber s left x → GivesNumber s right y → Operates o x.number y.number v → k ≡ 1 + x.steps + y.steps
-      → IsDirectRow s (node.Binary o left right) (record { value = v; steps = k })
-  direct_binary o left right x y v k g h does sum = λ at e. binary s at o left right (value.Int x.number) (value.Int y.number) (value_of v) x.steps y.steps k e does g h sum
+  pub number_binary : (op : BinaryOperator) (left right : ℕ) (c x y : Counted) → (0 < x.steps → GivesNumber s left x) → 0 < x.steps → (0 < y.steps → GivesNumber s right y) → 0 < y.steps
+      → (0 < c.steps → number_or_end (numeric op x.number y.number) ≡ Is c.number) → (0 < c.steps → c.steps ≡ 1 + x.steps + y.steps) → 0 < c.steps → IsNumberRow s (node.Binary op left right) c
+  number_binary op left right c x y g lx h ly v k l =
+      λ at e. binary s at op left right (value.Int x.number) (value.Int y.number) (value.Int c.number) x.steps y.steps c.steps e (λ me shared p. calculates (naming_of me) shared op x.number y.number c.number p (v l)) (g lx) (h ly) (k l)
 
-  pub direct_plus : (operand : ℕ) (x : Counted) (k : ℕ) → GivesNumber s operand x → k ≡ 1 + x.steps + 0 → IsDirectRow s (node.Unary unary_op.Plus operand) (record { value = plain.Int x.number; steps = k })
-  direct_plus operand x k g sum = λ at e. plus s at operand x.number x.steps k e g (omega (arith, sum))
+  pub number_plus : (operand k : ℕ) (x : Counted) → (0 < x.steps → GivesNumber s operand x) → 0 < x.steps → (0 < k → k ≡ 1 + x.steps + 0) → 0 < k → IsNumberRow s (node.Unary unary_op.Plus operand) (record { number = x.number; steps = k })
+  number_plus operand k x g lx sum l = let counted = sum l in λ at e. plus s at operand x.number x.steps k e (g lx) (omega (arith, counted))
 
-  pub as_plus : (o : UnaryOperator) (operand : ℕ) (r : Option Direct) → o ≡ unary_op.Plus → IfSome r (IsDirectRow s (node.Unary unary_op.Plus operand)) → IfSome r (IsDirectRow s (node.Unary o operand))
-  as_plus o operand r e h = subst (λ u. IfSome r (IsDirectRow s (node.Unary u operand))) (sym e) h
+  pub number_named : (m : Node) (object key text id : ℕ) (c : Counted) → GivesAtOnce s object (own_object s.me id) 1 → out-Term (term_at s.code key) ≡ layer_of s.code (term_at s.code) m → m ≡ node.Text text
+      → (0 < c.steps → HasData s.objects id (key_of_text (text_at s.code text)) (value.Int c.number) × (c.steps ≡ 4)) → 0 < c.steps → IsNumberRow s (node.Get object key) c
+  number_named m object key text id c g t y d l =
+      let (has, k) = d l in
+      λ at e. property s at object key id (value.Text (text_at s.code text)) (value.Int c.number) (key_of_text (text_at s.code text)) 1 c.steps e g (name_at s key text m t y) refl has (omega (arith, k))
+
+  pub number_indexed : (object key id : ℕ) (c x : Counted) → GivesAtOnce s object (own_object s.me id) 1 → (0 < x.steps → GivesNumber s key x) → 0 < x.steps
+      → (0 < c.steps → HasData s.objects id (key_of_text (signed_decimal x.number)) (value.Int c.number) × (c.steps ≡ 3 + x.steps)) → 0 < c.steps → IsNumberRow s (node.Get object key) c
+  number_indexed object key id c x g h lx d l =
+      let (has, k) = d l in
+      λ at e. property s at object key id (value.Int x.number) (value.Int c.number) (key_of_text (signed_decimal x.number)) x.steps c.steps e g (h lx) refl has k
+
+  -- how two numbers compare
+  pub truth_binary : (op : BinaryOperator) (left right k : ℕ) (b : Bool) (r : Option Bool) (x y : Counted) → (0 < x.steps → GivesNumber s left x) → 0 < x.steps → (0 < y.steps → GivesNumber s right y) → 0 < y.steps
+      → r ≡ compared op x.number y.number → r ≡ Some b → (0 < k → k ≡ 1 + x.steps + y.steps) → 0 < k → IsTruthRow s (node.Binary op left right) (record { truth = b; steps = k })
+  truth_binary op left right k b r x y g lx h ly e f sum l =
+      λ at i. binary s at op left right (value.Int x.number) (value.Int y.number) (value.Bool b) x.steps y.steps k i (λ me shared p. compares (naming_of me) shared op x.number y.number b p (sym e ∙ f)) (g lx) (h ly) (sum l)
+
+  -- the truth value that a form with this row gives
+  pub truth_row : (at : ℕ) (n m : Node) (t : Truth) → out-Term (term_at s.code at) ≡ layer_of s.code (term_at s.code) n → n ≡ m → (0 < t.steps → IsTruthRow s m t) → 0 < t.steps → GivesTruth s at t
+  truth_row at n m t e f g l = record { value = value.Bool t.truth; gives = g l at (row_is s at n m e f); truth = refl }
+
+  -- the truth value of what a form gives
+  pub truth_any : (at k : ℕ) (v : Plain) (b : Bool) → (0 < k → GivesAtOnce s at (value_of v) k) → b ≡ to_boolean (value_of v) → 0 < k → GivesTruth s at (record { truth = b; steps = k })
+  truth_any at k v b g e l = record { value = value_of v; gives = g l; truth = sym e }
+
+-- WHAT ANY FORM GIVES
+
+module _ (s : Sight) where
+  -- a truth value
+  pub direct_truth : (n : Node) (t : Truth) → (0 < t.steps → IsTruthRow s n t) → 0 < t.steps → IsDirectRow s n (record { value = plain.Bool t.truth; steps = t.steps })
+  direct_truth n t g l = λ at e. g l at e
 
   pub direct_named : (object key text id : ℕ) (v : Plain) → GivesAtOnce s object (own_object s.me id) 1 → HasData s.objects id (key_of_text (text_at s.code text)) (value_of v) → IsDirectNamed s object key text (record { value = v; steps = 4 })
   direct_named object key text id v g d = λ t at e. property s at object key id (value.Text (text_at s.code text)) (value_of v) (key_of_text (text_at s.code text)) 1 4 e g (name s key text t) refl d refl
 
-  pub direct_indexed : (object key id : ℕ) (x : Counted) (v : Plain) (k : ℕ) → GivesAtOnce s object (own_object s.me id) 1 → GivesNumber s key x → HasData s.objects id (key_of_text (signed_decimal x.number)) (value_of v) → k ≡ 1 + 2 + x.steps
+  pub direct_indexed : (object key id : ℕ) (x : Counted) (v : Plain) (k : ℕ) → GivesAtOnce s object (own_object s.me id) 1 → (0 < x.steps → GivesNumber s key x) → 0 < x.steps → HasData s.objects id (key_of_text (signed_decimal x.number)) (value_of v) → (0 < k → k ≡ 1 + 2 + x.steps) → 0 < k
       → IsDirectRow s (node.Get object key) (record { value = v; steps = k })
-  direct_indexed object key id x v k g h d sum = λ at e. property s at object key id (value.Int x.number) (value_of v) (key_of_text (signed_decimal x.number)) x.steps k e g h refl d sum
+  direct_indexed object key id x v k g h lx d sum l = let counted = sum l in λ at e. property s at object key id (value.Int x.number) (value_of v) (key_of_text (signed_decimal x.number)) x.steps k e g (h lx) refl d (omega (arith, counted))
 
   -- the row at a place is that one
   pub at_row : (at : ℕ) (n m : Node) (r : Option Direct) → out-Term (term_at s.code at) ≡ layer_of s.code (term_at s.code) n → n ≡ m → IfSome r (IsDirectRow s m) → IfSome r (IsDirect s at)

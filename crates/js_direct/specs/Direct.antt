@@ -25,9 +25,8 @@ use Rattle.js_store.specs.declared.slot.Slot.TheVariants as slot
 use Rattle.js_state.specs.Scopes.{Scope}
 use Rattle.js_operation.specs.Deeds.{MachineParty}
 use Rattle.js_operation.specs.Operating.{MachineValue}
-use Rattle.js_operation.specs.js_run.Acts.{Next, give}
+use Rattle.js_operation.specs.js_run.Acts.{Next}
 use Rattle.js_operation.specs.js_run.Completions.{Replied}
-use Rattle.js_operation.specs.js_run.Operators.{binary_value}
 use Rattle.js_operation.specs.js_run.Parties.{Shared, running}
 use Rattle.js_operation.specs.js_run.Truth.{to_boolean}
 use Rattle.js_operation.specs.js_run.Runs.{Begins, Charged, Due, Env, Gives, charge, run_for, settle}
@@ -116,10 +115,6 @@ compared op.LooselyUnequal a b = Some (not (int_eq a b))
 compared op.StrictlyEqual a b = Some (int_eq a b)
 compared op.StrictlyUnequal a b = Some (not (int_eq a b))
 compared o a b = None
-
--- an operator gives this for two numbers
-abbrev pub Operates : BinaryOperator → ℤ → ℤ → Plain → Type 0
-Operates o a b v = (me : ℕ) (shared : Shared) (p : MachineParty) → binary_value (naming_of me) shared o (value.Int a) (value.Int b) p ≡ give (value_of v) p
 
 -- WHAT ROWS GIVE
 

@@ -1,5 +1,5 @@
 -- Forms that are done at once: they give a value, and write a slot or a property.
-use Rattle.std.specs.Prelude.{◌≡◌, ℕ, ◌+◌, List}
+use Rattle.std.specs.Prelude.{◌≡◌, ℕ, ◌+◌, ◌<◌, List}
 use Rattle.lava_base.specs.declared.ids.MadeSymbol.{MadeSymbol}
 use Rattle.lava_base.specs.declared.ids.Ref.{Ref}
 use Rattle.js_text.specs.Naming.{naming_of}
@@ -15,12 +15,13 @@ use Rattle.js_operation.specs.js_run.Acts.{Next}
 use Rattle.js_operation.specs.js_run.Completions.{Replied}
 use Rattle.js_operation.specs.js_run.Parties.{Shared, running}
 use Rattle.js_operation.specs.js_run.Runs.{Begins, Charged, Due, Env, Gives, charge, run_for, settle}
+use Rattle.js_operation.specs.js_run.declared.TheConstants.{MAX_DEPTH}
 use Rattle.js_direct.specs.Direct.{Sight}
 
--- the form at a place gives a value after so many steps, where these can be paid together, and then there are these objects and scopes: of each party that has those of the sight and stands in its scope, whatever waits
+-- the form at a place gives a value after so many steps, where these can be paid together, and then there are these objects and scopes: of each party that has those of the sight, stands in its scope and is not as deep as it may be (an object that waits for an answer is open meanwhile), whatever waits
 pub record DoesAtOnce (s : Sight) (at : ℕ) (v : MachineValue) (objects : List (Object Ref MadeSymbol)) (scopes : List (Scope Ref MadeSymbol)) (k : ℕ) : Type 0 where
   pub does : (shared : Shared) (env : Env Ref) (p : MachineParty) (ks : List (Next Ref MadeSymbol)) (charges limit steps : ℕ)
-      → p.objects ≡ s.objects → p.scopes ≡ s.scopes → (running p).scope ≡ s.scope → charge p.meter steps limit k ≡ Charged
+      → p.objects ≡ s.objects → p.scopes ≡ s.scopes → (running p).scope ≡ s.scope → p.depth < MAX_DEPTH → charge p.meter steps limit k ≡ Charged
       → run_for (naming_of s.me) shared env (k + charges) limit steps (Due 0 (Begins (term_at s.code at)) p ks)
       ≡ run_for (naming_of s.me) shared env charges limit (steps + k) (settle (naming_of s.me) shared env ks (Gives (Replied (reply.Value v)) (record p { objects = objects; scopes = scopes })))
 

@@ -1,3 +1,4 @@
 pub mod Gone
 pub mod Led
 pub mod Newest
+pub mod Placed

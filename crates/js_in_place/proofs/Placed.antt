@@ -1,0 +1,215 @@
+-- How runs in place are put together.
+use Rattle.std.proofs.Common.{◌≡◌, ℕ, suc, ◌+◌, ◌-◌, ◌≤◌, ◌<◌, ◌∷◌, drop, List, Option, Some, refl, sym, ap, ◌∙◌, subst, arith}
+use Rattle.lava_base.specs.declared.ids.MadeSymbol.{MadeSymbol}
+use Rattle.lava_base.specs.declared.ids.Ref.{Ref}
+use Rattle.js_text.specs.Naming.{naming_of}
+use Rattle.js_text.specs.declared.value.Value.{Value}
+use Rattle.js_code.specs.Decoded.{layer_of, term_at}
+use Rattle.js_code.specs.declared.node.Node.{Node}
+use Rattle.js_term.specs.declared.term.Term.{out-Term}
+use Rattle.js_store.specs.Objects.{Object}
+use Rattle.js_state.specs.Scopes.{Scope}
+use Rattle.js_direct.specs.Direct.{GivesAtOnce, GivesTruth, value_of}
+use Rattle.js_direct.specs.Done.{DoesAtOnce}
+use Rattle.js_direct.specs.declared.plain.Plain.{Plain}
+use Rattle.js_direct.proofs.Charges.{one, part}
+use Rattle.js_machine.specs.Steps.{Deed, Keeps, deed_of_row, deed_with, over, settles, under}
+use Rattle.js_machine.specs.Views.{Around, View, fitting, newest, nexts_of, party_of}
+use Rattle.js_machine.specs.declared.frame.Frame.{Frame}
+use Rattle.js_machine.specs.js_run.Acts.{Evaluate, Next}
+use Rattle.js_machine.specs.js_run.Going.{go_on}
+use Rattle.js_machine.specs.js_run.Completions.{Replied}
+use Rattle.js_machine.specs.js_run.Rows.{row_at}
+use Rattle.js_machine.specs.js_run.Runs.{Begins, Charged, Due, answered, charge, run_for, settle}
+use Rattle.js_machine.specs.js_run.Truth.{to_boolean}
+use Rattle.js_operation.specs.js_run.declared.TheConstants.{MAX_DEPTH}
+use Rattle.js_desc.specs.declared.reply.Reply.TheVariants as reply
+use Rattle.js_in_place.specs.InPlace.{sight_of}
+use Rattle.js_in_place.specs.Places.{CameOf, Comes, ComesTo, IsPart, IsWent, PartCameOf, Place, at_deed, at_form, at_value}
+use Rattle.js_in_place.specs.declared.seat.How.{How}
+use Rattle.js_in_place.specs.declared.seat.How.TheVariants as how
+use Rattle.js_in_place.specs.declared.seat.Seat.{Seat}
+use Rattle.js_in_place.specs.declared.seat.Went.{Went}
+use Rattle.js_in_place.proofs.Gone.{fits, keeps_on, me_kept}
+use Rattle.js_in_place.proofs.Newest.{first_back}
+
+pub all_kept : (w : View) → Keeps w w
+all_kept w = (refl, (refl, (refl, (refl, refl))))
+
+-- ONE AFTER THE OTHER
+
+-- the second part, seen from an earlier machine
+seen_earlier : (j : ℕ) (old mid new : View) (from to : Place) → Keeps old mid → Comes j mid new from to → (a : Around) (charges limit steps : ℕ) → charge a.rest.meter steps limit j ≡ Charged
+    → (let b = fitting old a in run_for (naming_of old.me) b.shared b.env (j + charges) limit steps (from b) ≡ run_for (naming_of old.me) b.shared b.env charges limit (steps + j) (to b))
+seen_earlier j old mid new from to k h a charges limit steps c =
+    subst (λ me. (let b = fitting old a in run_for (naming_of me) b.shared b.env (j + charges) limit steps (from b) ≡ run_for (naming_of me) b.shared b.env charges limit (steps + j) (to b))) (me_kept old mid k)
+    (subst (λ (b : Around). run_for (naming_of mid.me) b.shared b.env (j + charges) limit steps (from b) ≡ run_for (naming_of mid.me) b.shared b.env charges limit (steps + j) (to b)) (fits old mid a k)
+    (h.comes a charges limit steps c))
+
+pub further : (i j k : ℕ) (old mid new : View) (from there to : Place) → Comes i old mid from there → Comes j mid new there to → k ≡ i + j → Comes k old new from to
+further i j k old mid new from there to first second e =
+    record {
+      comes = λ a charges limit steps c.
+          (let b = fitting old a in
+          let names = naming_of old.me in
+          let first_paid : charge a.rest.meter steps limit i ≡ Charged = part a.rest.meter steps steps limit i k (omega (arith, e)) c in
+          let rest_paid : charge a.rest.meter (steps + i) limit j ≡ Charged = part a.rest.meter steps (steps + i) limit j k (omega (arith, e)) c in
+          let count : k + charges ≡ i + (j + charges) = omega (arith, e) in
+          let sum : steps + i + j ≡ steps + k = omega (arith, e) in
+          ap (λ m. run_for names b.shared b.env m limit steps (from b)) count
+          ∙ first.comes a (j + charges) limit steps first_paid
+          ∙ seen_earlier j old mid new there to first.keeps second a charges limit (steps + i) rest_paid
+          ∙ ap (λ n. run_for names b.shared b.env charges limit n (to b)) sum);
+      keeps = keeps_on old mid new first.keeps second.keeps;
+    }
+
+pub then_to : (left mid_left rest : ℕ) (old mid new : View) (from there to : Place) → ComesTo left old mid from there mid_left → ComesTo mid_left mid new there to rest → ComesTo left old new from to rest
+then_to left mid_left rest old mid new from there to h g =
+    record {
+      within = omega (arith, h.within, g.within);
+      comes = further (left - mid_left) (mid_left - rest) (left - rest) old mid new from there to h.comes g.comes (omega (arith, h.within, g.within));
+    }
+
+then_by : (x : How) (left mid_left rest : ℕ) (old mid new : View) (from there : Place) (s : Seat) → ComesTo left old mid from there mid_left → CameOf x mid_left mid new there s rest → CameOf x left old new from s rest
+then_by how.Given left mid_left rest old mid new from there s h g = then_to left mid_left rest old mid new from there (at_value s.value new) h g
+then_by how.Left left mid_left rest old mid new from there s h g = then_to left mid_left rest old mid new from there (at_value s.value new) h g
+then_by how.Next left mid_left rest old mid new from there s h g = then_to left mid_left rest old mid new from there (at_form s.at new) h g
+then_by how.Stopped left mid_left rest old mid new from there s h g = then_to left mid_left rest old mid new from there (at_form s.at new) h g
+then_by how.Failed left mid_left rest old mid new from there s h g = tt
+
+pub then_went : (left mid_left : ℕ) (old mid new : View) (from there : Place) (s : Seat) (w : Went) → ComesTo left old mid from there mid_left → IsWent there mid_left mid new s w → IsWent from left old new s w
+then_went left mid_left old mid new from there s w h g = then_by w.how left mid_left w.left old mid new from there s h g
+
+then_part_by : (x : How) (left mid_left rest : ℕ) (old mid new : View) (from there to : Place) (s : Seat) → ComesTo left old mid from there mid_left → PartCameOf x mid_left mid new there to s rest → PartCameOf x left old new from to s rest
+then_part_by how.Next left mid_left rest old mid new from there to s h g = then_to left mid_left rest old mid new from there to h g
+then_part_by how.Given left mid_left rest old mid new from there to s h g = then_by how.Given left mid_left rest old mid new from there s h g
+then_part_by how.Left left mid_left rest old mid new from there to s h g = then_by how.Left left mid_left rest old mid new from there s h g
+then_part_by how.Stopped left mid_left rest old mid new from there to s h g = then_by how.Stopped left mid_left rest old mid new from there s h g
+then_part_by how.Failed left mid_left rest old mid new from there to s h g = tt
+
+pub then_part : (left mid_left : ℕ) (old mid new : View) (from there to : Place) (s : Seat) (w : Went) → ComesTo left old mid from there mid_left → IsPart there to mid_left mid new s w → IsPart from to left old new s w
+then_part left mid_left old mid new from there to s w h g = then_part_by w.how left mid_left w.left old mid new from there to s h g
+
+-- what went as a whole, but is not next, went so as a part
+part_by : (x : How) (left rest : ℕ) (old new : View) (from to : Place) (s : Seat) → (x ≡ how.Next → ComesTo left old new from to rest) → CameOf x left old new from s rest → PartCameOf x left old new from to s rest
+part_by how.Next left rest old new from to s e h = e refl
+part_by how.Given left rest old new from to s e h = h
+part_by how.Left left rest old new from to s e h = h
+part_by how.Stopped left rest old new from to s e h = h
+part_by how.Failed left rest old new from to s e h = tt
+
+-- and what is a part, but is not next, went so as a whole
+whole_by : (x : How) (left rest : ℕ) (old new : View) (from to : Place) (s : Seat) → (x ≡ how.Next → CameOf how.Next left old new from s rest) → PartCameOf x left old new from to s rest → CameOf x left old new from s rest
+whole_by how.Next left rest old new from to s e h = e refl
+whole_by how.Given left rest old new from to s e h = h
+whole_by how.Left left rest old new from to s e h = h
+whole_by how.Stopped left rest old new from to s e h = h
+whole_by how.Failed left rest old new from to s e h = tt
+
+-- nothing is charged, and the run stands where it stood
+pub same_place : (left : ℕ) (old new : View) (from to : Place) → Keeps old new → ((a : Around) → let b = fitting old a in to b ≡ from b) → ComesTo left old new from to left
+same_place left old new from to k e =
+    let none : 0 ≡ left - left = omega arith in
+    record {
+      within = omega arith;
+      comes = subst (λ n. Comes n old new from to) none (record {
+        comes = λ a charges limit steps c.
+            (let b = fitting old a in
+            let count : 0 + charges ≡ charges = omega arith in
+            let sum : steps ≡ steps + 0 = omega arith in
+            λ j. run_for (naming_of old.me) b.shared b.env (count j) limit (sum j) (sym (e a) j));
+        keeps = k;
+      });
+    }
+
+pub still : (left : ℕ) (w : View) (from : Place) → ComesTo left w w from from left
+still left w from = same_place left w w from from (all_kept w) (λ a. refl)
+
+-- FORMS
+
+-- the row of a form is charged, and its act is done
+pub row_done : (at left rest : ℕ) (n : Node) (w : View) → out-Term (term_at w.code at) ≡ layer_of w.code (term_at w.code) n → 0 < left → rest ≡ left - 1 → ComesTo left w w (at_form at w) (at_deed (deed_of_row n w) w) rest
+row_done at left rest n w e l d =
+    let price : 1 ≡ left - rest = omega (arith, l, d) in
+    record {
+      within = omega (arith, d);
+      comes = subst (λ k. Comes k w w (at_form at w) (at_deed (deed_of_row n w) w)) price (record {
+        comes = λ a charges limit steps c.
+            (let b = fitting w a in
+            let names = naming_of w.me in
+            let ks = nexts_of names b.shared w.code w.frames w.values w.waits in
+            let count : 1 + charges ≡ suc charges = omega arith in
+            ap (λ m. run_for names b.shared b.env m limit steps (Due 0 (Begins (term_at w.code at)) (party_of b w) ks)) count
+            ∙ one names b.shared b.env charges limit steps (Begins (term_at w.code at)) (party_of b w) ks c
+            ∙ ap (λ l. run_for names b.shared b.env charges limit (steps + 1) (settle names b.shared b.env ks (answered names b.env (row_at names b.shared l (party_of b w))))) e);
+        keeps = all_kept w;
+      });
+    }
+
+-- what a form changes that is done at once
+abbrev pub with_done : List (Object Ref MadeSymbol) → List (Scope Ref MadeSymbol) → View → View
+with_done objects scopes w = record w { objects = objects; scopes = scopes }
+
+-- a form is done at once, whatever waits for its value
+pub does_under : (at left k rest : ℕ) (v : Plain) (objects : List (Object Ref MadeSymbol)) (scopes : List (Scope Ref MadeSymbol)) (w : View) (next : Around → Next Ref MadeSymbol)
+    → DoesAtOnce (sight_of w) at (value_of v) objects scopes k → w.depth < MAX_DEPTH → k ≤ left → rest ≡ left - k
+    → (let new = with_done objects scopes w in ComesTo left w new (at_deed (λ a. Evaluate (term_at w.code at) (party_of a w) (next a)) w)
+      (at_deed (λ a. go_on (naming_of w.me) a.shared (next a) (Replied (reply.Value (value_of v))) (party_of a new)) new) rest)
+does_under at left k rest v objects scopes w next h d l e =
+    let price : k ≡ left - rest = omega (arith, l, e) in
+    let new = with_done objects scopes w in
+    record {
+      within = omega (arith, l, e);
+      comes = subst (λ n. Comes n w new (at_deed (λ a. Evaluate (term_at w.code at) (party_of a w) (next a)) w) (at_deed (λ a. go_on (naming_of w.me) a.shared (next a) (Replied (reply.Value (value_of v))) (party_of a new)) new)) price (record {
+        comes = λ a charges limit steps c.
+            (let b = fitting w a in
+            h.does b.shared b.env (party_of b w) (next b ∷ nexts_of (naming_of w.me) b.shared w.code w.frames w.values w.waits) charges limit steps refl refl refl d c);
+        keeps = all_kept w;
+      });
+    }
+
+-- and gives its value to the newest frame
+pub does_here : (at left k rest : ℕ) (v : Plain) (objects : List (Object Ref MadeSymbol)) (scopes : List (Scope Ref MadeSymbol)) (w new : View) → DoesAtOnce (sight_of w) at (value_of v) objects scopes k → w.depth < MAX_DEPTH → k ≤ left → rest ≡ left - k
+    → new ≡ with_done objects scopes w → ComesTo left w new (at_form at w) (at_value v new) rest
+does_here at left k rest v objects scopes w new h d l e i =
+    let price : k ≡ left - rest = omega (arith, l, e) in
+    subst (λ x. ComesTo left w x (at_form at w) (at_value v x) rest) (sym i)
+    (record {
+      within = omega (arith, l, e);
+      comes = subst (λ n. Comes n w (with_done objects scopes w) (at_form at w) (at_value v (with_done objects scopes w))) price (record {
+        comes = λ a charges limit steps c.
+            (let b = fitting w a in
+            h.does b.shared b.env (party_of b w) (nexts_of (naming_of w.me) b.shared w.code w.frames w.values w.waits) charges limit steps refl refl refl d c);
+        keeps = all_kept w;
+      });
+    })
+
+-- a form gives a value at once, whatever waits for it
+pub gives_under : (at left k rest : ℕ) (v : Value Ref MadeSymbol) (w : View) (next : Around → Next Ref MadeSymbol) → GivesAtOnce (sight_of w) at v k → k ≤ left → rest ≡ left - k
+    → ComesTo left w w (at_deed (λ a. Evaluate (term_at w.code at) (party_of a w) (next a)) w) (at_deed (λ a. go_on (naming_of w.me) a.shared (next a) (Replied (reply.Value v)) (party_of a w)) w) rest
+gives_under at left k rest v w next h l e =
+    let price : k ≡ left - rest = omega (arith, l, e) in
+    record {
+      within = omega (arith, l, e);
+      comes = subst (λ n. Comes n w w (at_deed (λ a. Evaluate (term_at w.code at) (party_of a w) (next a)) w) (at_deed (λ a. go_on (naming_of w.me) a.shared (next a) (Replied (reply.Value v)) (party_of a w)) w)) price (record {
+        comes = λ a charges limit steps c.
+            (let b = fitting w a in
+            h.gives b.shared b.env (party_of b w) (next b ∷ nexts_of (naming_of w.me) b.shared w.code w.frames w.values w.waits) charges limit steps refl refl refl c);
+        keeps = all_kept w;
+      });
+    }
+
+-- FRAMES
+
+-- a form begins over a new frame
+pub pushed : (f : Frame) (at left : ℕ) (w : View) → ComesTo left (under f w) (record w { frames = f ∷ w.frames }) (at_deed (λ a. Evaluate (term_at w.code at) (party_of a w) (over f w a)) (under f w)) (at_form at (record w { frames = f ∷ w.frames })) left
+pushed f at left w = same_place left (under f w) (record w { frames = f ∷ w.frames }) (at_deed (λ a. Evaluate (term_at w.code at) (party_of a w) (over f w a)) (under f w)) (at_form at (record w { frames = f ∷ w.frames })) (all_kept w) (λ a. refl)
+
+-- a value comes to the newest frame, which is taken off
+popped_low : (f : Frame) (v : Plain) (left : ℕ) (low : View) → ComesTo left (record low { frames = f ∷ low.frames }) (under f low) (at_value v (record low { frames = f ∷ low.frames })) (at_deed (deed_with f (value_of v) low) (under f low)) left
+popped_low f v left low = same_place left (record low { frames = f ∷ low.frames }) (under f low) (at_value v (record low { frames = f ∷ low.frames })) (at_deed (deed_with f (value_of v) low) (under f low)) (all_kept low) (λ a. refl)
+
+pub popped : (f : Frame) (v : Plain) (left : ℕ) (old low : View) → newest old.frames ≡ Some f → low ≡ record old { frames = drop 1 old.frames } → ComesTo left old (under f low) (at_value v old) (at_deed (deed_with f (value_of v) low) (under f low)) left
+popped f v left old low e d =
+    let back : record low { frames = f ∷ low.frames } ≡ old = (λ j. record (d j) { frames = f ∷ (d j).frames }) ∙ ap (λ fs. record old { frames = fs }) (sym (first_back f old.frames e)) in
+    subst (λ w. ComesTo left w (under f low) (at_value v w) (at_deed (deed_with f (value_of v) low) (under f low)) left) back (popped_low f v left low)

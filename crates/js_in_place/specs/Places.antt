@@ -1,0 +1,87 @@
+-- Where a run stands in place, and how it comes from there to somewhere else.
+use Rattle.std.specs.Prelude.{◌≡◌, ℕ, ◌+◌, ◌-◌, ◌≤◌, None, replicate}
+use Rattle.lava_base.specs.declared.ids.MadeSymbol.{MadeSymbol}
+use Rattle.lava_base.specs.declared.ids.Ref.{Ref}
+use Rattle.js_text.specs.Naming.{naming_of}
+use Rattle.js_code.specs.Decoded.{term_at, terms_of}
+use Rattle.js_direct.specs.declared.plain.Plain.{Plain}
+use Rattle.js_machine.specs.Steps.{Deed, Keeps, settles}
+use Rattle.js_machine.specs.Views.{Around, View, fitting, party_of, turns_at}
+use Rattle.js_machine.specs.js_run.Acts.{Evaluate, Give, Tested, Turned, next_turn}
+use Rattle.js_machine.specs.js_run.Control.{in_order, inside}
+use Rattle.js_machine.specs.js_run.Runs.{Charged, Point, answered, charge, run_for}
+use Rattle.js_in_place.specs.InPlace.{point_at}
+use Rattle.js_in_place.specs.declared.seat.How.{How}
+use Rattle.js_in_place.specs.declared.seat.How.TheVariants as how
+use Rattle.js_in_place.specs.declared.seat.Seat.{Seat}
+use Rattle.js_in_place.specs.declared.seat.Went.{Went}
+use Rattle.js_in_place.specs.declared.spot.Spot.TheVariants as spot
+
+-- a point of a run, whatever stands around the party
+abbrev pub Place : Type 0
+Place = Around → Point Ref MadeSymbol
+
+-- an act is done
+abbrev pub at_deed : Deed → View → Place
+at_deed d w = λ a. settles a w w.values (answered (naming_of w.me) a.env (d a))
+
+-- a form begins
+abbrev pub at_form : ℕ → View → Place
+at_form at w = λ a. point_at a w (spot.Form at)
+
+-- a value comes to the newest frame
+abbrev pub at_value : Plain → View → Place
+at_value v w = λ a. point_at a w (spot.Given v)
+
+-- the forms of a list follow, in their order
+abbrev pub at_list : (start count : ℕ) → View → Place
+at_list s c w = at_deed (λ a. in_order (terms_of w.code (term_at w.code) s c) (party_of a w)) w
+
+-- a form in a new scope
+abbrev pub at_scope : (slots body : ℕ) → View → Place
+at_scope n body w = at_deed (λ a. inside (replicate n None) (term_at w.code body) (party_of a w) Give) w
+
+-- a loop tests, turns, and does what it does after a turn
+abbrev pub at_test : (turns : ℕ) → View → Place
+at_test t w = at_deed (λ a. Evaluate (turns_at w.code t).test (party_of a w) (Tested (turns_at w.code t))) w
+
+abbrev pub at_turn : (turns : ℕ) → View → Place
+at_turn t w = at_deed (λ a. Evaluate (turns_at w.code t).body (party_of a w) (Turned (turns_at w.code t))) w
+
+abbrev pub after_turn : (turns : ℕ) → View → Place
+after_turn t w = at_deed (λ a. next_turn (turns_at w.code t) (turns_at w.code t).update (party_of a w)) w
+
+-- a run is after so many charges of one step each, where these can be paid together, where it goes on from another place, whatever stands around
+pub record Comes (k : ℕ) (old new : View) (from to : Place) : Type 0 where
+  pub comes : (a : Around) (charges limit steps : ℕ) → charge a.rest.meter steps limit k ≡ Charged
+      → (let b = fitting old a in run_for (naming_of old.me) b.shared b.env (k + charges) limit steps (from b) ≡ run_for (naming_of old.me) b.shared b.env charges limit (steps + k) (to b))
+  pub keeps : Keeps old new
+
+-- it pays for that with what is left
+pub record ComesTo (left : ℕ) (old new : View) (from to : Place) (rest : ℕ) : Type 0 where
+  pub within : rest ≤ left
+  pub comes : Comes (left - rest) old new from to
+
+-- by what came of a form
+abbrev pub CameOf : How → (left : ℕ) → (old new : View) → (from : Place) → Seat → (rest : ℕ) → Type 0
+CameOf how.Given left old new from s rest = ComesTo left old new from (at_value s.value new) rest
+CameOf how.Left left old new from s rest = ComesTo left old new from (at_value s.value new) rest
+CameOf how.Next left old new from s rest = ComesTo left old new from (at_form s.at new) rest
+CameOf how.Stopped left old new from s rest = ComesTo left old new from (at_form s.at new) rest
+CameOf how.Failed left old new from s rest = Unit
+
+-- a form went so far
+abbrev pub IsWent : (from : Place) → (left : ℕ) → (old new : View) → Seat → Went → Type 0
+IsWent from left old new s w = CameOf w.how left old new from s w.left
+
+-- by what came of a part of a form, of which something is next
+abbrev pub PartCameOf : How → (left : ℕ) → (old new : View) → (from to : Place) → Seat → (rest : ℕ) → Type 0
+PartCameOf how.Next left old new from to s rest = ComesTo left old new from to rest
+PartCameOf how.Given left old new from to s rest = CameOf how.Given left old new from s rest
+PartCameOf how.Left left old new from to s rest = CameOf how.Left left old new from s rest
+PartCameOf how.Stopped left old new from to s rest = CameOf how.Stopped left old new from s rest
+PartCameOf how.Failed left old new from to s rest = Unit
+
+-- a part of a form went so far
+abbrev pub IsPart : (from to : Place) → (left : ℕ) → (old new : View) → Seat → Went → Type 0
+IsPart from to left old new s w = PartCameOf w.how left old new from to s w.left
