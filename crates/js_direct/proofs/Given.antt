@@ -293,7 +293,7 @@ own_slot s at h i k n p id e f there same mine =
     subst (λ (q : ℕ). GivesAtOnce s at (value.Ref (reference.Own (record { 0 = q }) id)) 1) mine
     (slot s at h i (value.Ref (reference.Own p id)) (e ∙ ap (layer_of s.code (term_at s.code)) f) (ap (λ j. slot_of s.scopes j i) (sym same) ∙ there))
 
-name_at : (s : Sight) (key t : ℕ) (n : Node) → out-Term (term_at s.code key) ≡ layer_of s.code (term_at s.code) n → n ≡ node.Text t → GivesAtOnce s key (value.Text (text_at s.code t)) 1
+pub name_at : (s : Sight) (key t : ℕ) (n : Node) → out-Term (term_at s.code key) ≡ layer_of s.code (term_at s.code) n → n ≡ node.Text t → GivesAtOnce s key (value.Text (text_at s.code t)) 1
 name_at s key t n e f = name s key t (e ∙ ap (layer_of s.code (term_at s.code)) f)
 
 module _ (s : Sight) (at : ℕ) where

@@ -29,7 +29,8 @@ use Rattle.js_desc.specs.declared.descriptor.Descriptor.{Descriptor}
 use Rattle.js_desc.specs.declared.descriptor.Descriptor.TheVariants.{Accessor, Data}
 use Rattle.js_desc.specs.declared.reply.Reply.TheVariants as reply
 use Rattle.js_term.specs.declared.term.Term.{out-Term}
-use Rattle.js_code.specs.Decoded.{layer_of, term_at}
+use Rattle.js_code.specs.Decoded.{layer_of, term_at, text_at}
+use Rattle.js_code.specs.declared.node.Node.{Node}
 use Rattle.js_code.specs.declared.node.Node.TheVariants as node
 use Rattle.js_store.specs.Objects.{Object, at_place, goes_before, object_at, ordinary_get_own_property, replaced, with_change, with_replaced, written}
 use Rattle.js_store.specs.Order.{IsInOrder, MayPrecede, PrecedesAll}
@@ -60,10 +61,12 @@ use Rattle.js_operation.specs.js_run.Properties.{has_set, put_property}
 use Rattle.js_operation.specs.js_run.Rows.{put_key, put_object}
 use Rattle.js_operation.specs.js_run.Runs.{Begins, Charged, Decides, Due, Env, Gives, answered, charge, run_for, settle}
 use Rattle.js_operation.specs.js_run.declared.TheConstants.{MAX_DEPTH}
-use Rattle.js_direct.specs.Direct.{GivesAtOnce, Sight, is_proxy, key_named, own_object}
-use Rattle.js_direct.specs.Puts.{HasWritable, KeepsPlace, NamesAtOnce, PutsAtOnce, defines_plainly, is_below_length, is_inside}
+use Rattle.js_direct.specs.Direct.{GivesAtOnce, GivesNumber, IsDirect, Sight, is_proxy, key_named, own_object, value_of}
+use Rattle.js_direct.specs.Puts.{HasWritable, IsPutRow, IsWritten, KeepsPlace, NamesAtOnce, PutsAtOnce, defines_plainly, is_below_length, is_inside}
+use Rattle.js_direct.specs.declared.direct.Direct.{Direct}
+use Rattle.js_direct.specs.declared.numbers.Counted.{Counted}
 use Rattle.js_direct.proofs.Charges.{one, part}
-use Rattle.js_direct.proofs.Given.{IsRow, begun, own_asked, own_origin}
+use Rattle.js_direct.proofs.Given.{IsRow, begun, name_at, own_asked, own_origin}
 
 -- A PROPERTY KEEPS ITS PLACE
 
@@ -268,8 +271,8 @@ module _ (me : ℕ) (shared : Shared) where
       abbrev defined : Next Ref MadeSymbol
       defined = Decides_on me_at (next.Ordinary wait.Answer)
 
-      abbrev after : List (Object Ref MadeSymbol)
-      after = at_place p.objects id (with_replaced same_made_symbol k (Data v true e c))
+      abbrev replaced_objects : List (Object Ref MadeSymbol)
+      replaced_objects = at_place p.objects id (with_replaced same_made_symbol k (Data v true e c))
 
       -- the object that is asked to set the property asks the receiver, which is itself, for its own property
       sets : p.depth < MAX_DEPTH → decides (naming_of me) shared (own_object me id) (ask.Set k v (own_object me id)) p ≡ Decide (own_object me id) (ask.GetOwnProperty k) (deeper p) (Closes told)
@@ -285,7 +288,7 @@ module _ (me : ℕ) (shared : Shared) where
           ∙ ap (λ x. Give (Replied (reply.Desc x)) (deeper p)) w.found
 
       -- and defines its value
-      defines : decides (naming_of me) shared (own_object me id) (ask.DefineOwnProperty k (value_alone v)) (deeper p) ≡ Give (Replied (reply.Flag true)) (record (deeper p) { objects = after })
+      defines : decides (naming_of me) shared (own_object me id) (ask.DefineOwnProperty k (value_alone v)) (deeper p) ≡ Give (Replied (reply.Flag true)) (record (deeper p) { objects = replaced_objects })
       defines =
           own_decided (ask.DefineOwnProperty k (value_alone v)) (deeper p) w.there w.decides (λ callable t. refl) (λ callable es. refl)
           ∙ ap (λ d. follows_with (naming_of me) shared me_at (exotic_carried_out p.objects (Own id) d) (deeper p)) (value_defined me me_at (object_at p.objects id) k w.old v e c w.found w.place w.plainly)
@@ -367,3 +370,20 @@ module _ (s : Sight) (at : ℕ) where
             ∙ ap (λ n. run_for names shared env charges limit n (settle names shared env ks (Gives (Replied (reply.Value v)) (record p { objects = at_place p.objects id (with_replaced same_made_symbol k (Data v true e c)) })))) paid
             ∙ ap (λ os. run_for names shared env charges limit (steps + all) (settle names shared env ks (Gives (Replied (reply.Value v)) (record p { objects = at_place os id (with_replaced same_made_symbol k (Data v true e c)) })))) h);
       }
+
+-- WHAT THE CODE WRITES
+
+module _ (s : Sight) where
+  -- a name
+  pub text_names : (at t : ℕ) (n : Node) (k : Key MadeSymbol) → out-Term (term_at s.code at) ≡ layer_of s.code (term_at s.code) n → n ≡ node.Text t → k ≡ key_of_text (text_at s.code t) → NamesAtOnce s at k 1
+  text_names at t n k e f same = record { name = value.Text (text_at s.code t); gives = name_at s at t n e f; is = ap Some (sym same) }
+
+  -- an array index
+  pub number_names : (at : ℕ) (x : Counted) (k : Key MadeSymbol) → GivesNumber s at x → k ≡ key_of_text (signed_decimal x.number) → NamesAtOnce s at k x.steps
+  number_names at x k gives same = record { name = value.Int x.number; gives = gives; is = ap Some (sym same) }
+
+  pub direct_put : (object key form id : ℕ) (k : Key MadeSymbol) (j n : ℕ) (d : Direct) (after : List (Object Ref MadeSymbol))
+      → GivesAtOnce s object (own_object s.me id) 1 → IsDirect s form d → NamesAtOnce s key k j → n ≡ 5 + j + d.steps → IsWritten s.objects id k (value_of d.value) after
+      → IsPutRow s (node.Put object key form) after (record { value = d.value; steps = n })
+  direct_put object key form id k j n d after first third second sum w =
+      λ at e. subst (λ os. PutsAtOnce s at (value_of d.value) os n) (sym w.written) (put s at object key form id (value_of d.value) k w.enumerable w.configurable j d.steps n e first second third w.writable sum)

@@ -24,7 +24,8 @@ use Rattle.js_operation.specs.js_run.Completions.{Replied}
 use Rattle.js_operation.specs.js_run.Parties.{Shared, running}
 use Rattle.js_operation.specs.js_run.Runs.{Begins, Charged, Due, Env, Gives, charge, run_for, settle}
 use Rattle.js_operation.specs.js_run.declared.TheConstants.{MAX_DEPTH}
-use Rattle.js_direct.specs.Direct.{GivesAtOnce, Sight, is_proxy, key_named}
+use Rattle.js_direct.specs.Direct.{GivesAtOnce, Sight, is_proxy, key_named, value_of}
+use Rattle.js_direct.specs.declared.direct.Direct.{Direct}
 
 -- the form at a place gives a value after so many steps, where these can be paid together, and changes the objects alone, which are these afterwards: as GivesAtOnce, of each party that is not as deep as it may be, since an object that waits for an answer is open meanwhile
 pub record PutsAtOnce (s : Sight) (at : ℕ) (v : MachineValue) (after : List (Object Ref MadeSymbol)) (k : ℕ) : Type 0 where
@@ -34,8 +35,8 @@ pub record PutsAtOnce (s : Sight) (at : ℕ) (v : MachineValue) (after : List (O
       ≡ run_for (naming_of s.me) shared env charges limit (steps + k) (settle (naming_of s.me) shared env ks (Gives (Replied (reply.Value v)) (record p { objects = after })))
 
 -- so does the form at each place with this row
-abbrev pub PutsRow : Sight → Node → MachineValue → (after : List (Object Ref MadeSymbol)) → (k : ℕ) → Type 0
-PutsRow s n v after k = (at : ℕ) → out-Term (term_at s.code at) ≡ layer_of s.code (term_at s.code) n → PutsAtOnce s at v after k
+abbrev pub IsPutRow : Sight → Node → (after : List (Object Ref MadeSymbol)) → Direct → Type 0
+IsPutRow s n after d = (at : ℕ) → out-Term (term_at s.code at) ≡ layer_of s.code (term_at s.code) n → PutsAtOnce s at (value_of d.value) after d.steps
 
 -- the form at a place gives what is this key after so many steps
 pub record NamesAtOnce (s : Sight) (at : ℕ) (k : Key MadeSymbol) (steps : ℕ) : Type 0 where

@@ -20,7 +20,7 @@ use lava_base::ids::{ObjId, Ref};
 
 /// Whether a slot is that of a proxy.
 #[inline]
-pub fn is_proxy(slot: &Slot) -> bool
+pub(crate) fn is_proxy(slot: &Slot) -> bool
     ensures { result ≡ is_proxy slot.now }
 {
     match slot {
@@ -45,7 +45,7 @@ fn data_at<'a>(store: &'a FlatStore, id: ObjId, key: &Key) -> Option<&'a Value>
 
 /// The property key that a text is (ECMA-262, ToPropertyKey).
 #[inline]
-pub fn text_key(text: &Text) -> Option<Key>
+pub(crate) fn text_key(text: &Text) -> Option<Key>
     ensures { IfSome result (λ k. k ≡ key_of_text text.now) }
 {
     match text.copy() {

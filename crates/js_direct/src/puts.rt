@@ -1,7 +1,13 @@
-// Own data properties that a form writes at once.
+// Own data properties, which a form writes at once.
+
+ghost use Rattle.std.specs.Prelude.{◌≡◌, ◌+◌, ◌<◌, ◌≤◌, length, IfNone, IfSome, IsFalse, IsTrue};
+ghost use Rattle.js_code.specs.declared.node.Node.TheVariants as node;
+ghost use Rattle.js_store.specs.Objects.{object_at};
+ghost use Rattle.js_direct.specs.Direct.{seen, value_of};
+ghost use Rattle.js_direct.specs.Puts.{HasWritable, IsPutRow, IsWritten, KeepsPlace, NamesAtOnce, defines_plainly, is_inside};
 
 use crate::direct::{Direct, value_at};
-use crate::numbers::{DEPTH, operand_at};
+use crate::numbers::{DEPTH, MOST_STEPS, number_at};
 use crate::plain::{Plain, as_value};
 use crate::properties::{is_proxy, object_at, text_key};
 use js_code::code::Code;
@@ -11,26 +17,161 @@ use js_operation::array_index_keys::array_index_key;
 use js_state::scopes::Scopes;
 use js_store::flat::FlatStore;
 use js_store::store::Store;
-use js_text::value::Key;
+use js_text::length::is_length;
+use js_text::value::{Key, Value};
 use lava_base::ids::ObjId;
+use lava_base::marks::Class;
 
-fn flags(store: &FlatStore, id: ObjId, key: &Key) -> Option<(bool, bool)> {
-    if id.0 >= store.count() || is_proxy(store.slot(id)) {
+/// A property key, and how many steps the form takes that gives it.
+#[derive(Drop)]
+struct Named {
+    key: Key,
+    steps: u32,
+}
+
+/// The attributes that a property keeps when its value is written.
+#[derive(Clone, Copy)]
+struct Attributes {
+    enumerable: bool,
+    configurable: bool,
+}
+
+/// The key of a form that gives an array index at once.
+#[inline]
+fn index_at(code: &Code, store: &FlatStore, scopes: &Scopes, scope: u32, at: u32) -> Option<Named>
+    ensures { let sight = seen store.now code.now scopes.now scope in
+        IfSome result (λ n. NamesAtOnce sight at n.key n.steps) }
+{
+    let Some(index) = number_at(code, store, scopes, scope, at, DEPTH) else {
+        return None;
+    };
+    match array_index_key(index.number) {
+        Some(key) => Some(Named {
+            key,
+            steps: index.steps,
+        }),
+        None => None,
+    }
+}
+
+/// The key that a form gives at once: a name, or an array index.
+#[inline]
+fn key_at(code: &Code, store: &FlatStore, scopes: &Scopes, scope: u32, at: u32) -> Option<Named>
+    ensures { let sight = seen store.now code.now scopes.now scope in
+        IfSome result (λ n. NamesAtOnce sight at n.key n.steps) }
+{
+    let Node::Text(name) = code.node(at) else {
+        return index_at(code, store, scopes, scope, at);
+    };
+    match text_key(code.text(name)) {
+        Some(key) => Some(Named { key, steps: 1 }),
+        None => None,
+    }
+}
+
+/// The steps of a Put, of its key and its value, where these are not too many.
+#[inline]
+fn steps_within(key: u32, value: u32, left: u64) -> Option<u32>
+    ensures { IfSome result (λ n. (n ≡ 5 + key + value) × (n ≤ left)) }
+{
+    if key > MOST_STEPS || value > MOST_STEPS {
         return None;
     }
+    let steps = 5 + key + value;
+    if u64::from(steps) > left {
+        return None;
+    }
+    Some(steps)
+}
+
+/// Whether a key of an array is neither its length nor an index at or past it.
+#[inline]
+fn is_inside(store: &FlatStore, id: ObjId, key: &Key) -> bool
+    requires { id.0 < length store.now.objects }
+    ensures { result ≡ is_inside (object_at store.now.objects id.0) key.now }
+{
+    match key {
+        Key::Index(index) => match store.own(id, store.length_key()) {
+            Some(Descriptor::Data {
+                value: Value::Int(length),
+                ..
+            }) => i64::from(*index) < *length,
+            _ => false,
+        },
+        Key::Text(_) => !is_length(key),
+        Key::Symbol(_) => true,
+    }
+}
+
+/// Whether an object defines a property that it has as any object does (ECMA-262, "Array Exotic Objects", [[DefineOwnProperty]]).
+#[inline]
+fn defines_plainly(store: &FlatStore, id: ObjId, key: &Key) -> bool
+    requires { id.0 < length store.now.objects }
+    ensures { result ≡ defines_plainly (object_at store.now.objects id.0) key.now }
+{
+    match store.marks(id).class {
+        Class::Array => is_inside(store, id, key),
+        _ => true,
+    }
+}
+
+/// A property that is written keeps its place: those at array indices stand in order.
+#[inline]
+fn keep_place(store: &FlatStore, id: ObjId, key: &Key)
+    requires { id.0 < length store.now.objects }
+    ensures { KeepsPlace key.now (object_at store.now.objects id.0) }
+{
+    if let Key::Index(_) = key {
+        store.last_index(id);
+    }
+}
+
+/// The attributes of an own data property that may be written, of an object that is no proxy.
+#[inline]
+fn writable_at(store: &FlatStore, id: ObjId, key: &Key) -> Option<Attributes>
+    ensures { let objects = store.now.objects in
+        IfSome result (λ a. HasWritable objects id.0 key.now a.enumerable a.configurable) }
+{
+    if id.0 >= store.count() || is_proxy(store.slot(id)) || !defines_plainly(store, id, key) {
+        return None;
+    }
+    keep_place(store, id, key);
     match store.own(id, key) {
-        Some(Descriptor::Data { writable: true, enumerable, configurable, .. }) => Some((*enumerable, *configurable)),
+        Some(Descriptor::Data {
+            writable,
+            enumerable,
+            configurable,
+            ..
+        }) if *writable => Some(Attributes {
+            enumerable: *enumerable,
+            configurable: *configurable,
+        }),
         _ => None,
     }
 }
 
-pub fn write_data(store: &mut FlatStore, id: ObjId, key: Key, value: Plain) -> bool {
-    let Some((enumerable, configurable)) = flags(store, id, &key) else {
+/// Writes the value of an own data property, where it may be written, and tells whether it did.
+#[inline]
+fn write_data(store: &mut FlatStore, id: ObjId, key: Key, value: Plain) -> bool
+    ensures written { let after = store.new.objects in
+        IsTrue result → IsWritten store.old.objects id.0 key (value_of value) after }
+    ensures refused { IsFalse result → store.new ≡ store.old }
+    ensures party { store.new.party ≡ store.old.party }
+{
+    let Some(kept) = writable_at(store, id, &key) else {
         return false;
     };
-    store.replace(id, key, Descriptor::Data { value: as_value(value), writable: true, enumerable, configurable })
+    let property = Descriptor::Data {
+        value: as_value(value),
+        writable: true,
+        enumerable: kept.enumerable,
+        configurable: kept.configurable,
+    };
+    store.replace(id, key, property);
+    true
 }
 
+/// Writes the own data property that a form writes at once, if it does, and not in more steps than are left: a property of an object of the party in a slot, at a name or an array index, with a plain value. Where it gives none, nothing is written.
 pub fn put_at(
     code: &Code,
     store: &mut FlatStore,
@@ -40,35 +181,30 @@ pub fn put_at(
     key: u32,
     value: u32,
     left: u64,
-) -> Option<Direct> {
+) -> Option<Direct>
+    ensures put { let sight = seen store.old code.now scopes.now scope in
+        IfSome result (IsPutRow sight (node.Put object key value) store.new.objects) }
+    ensures left { IfSome result (λ d. d.steps ≤ left) }
+    ensures none { IfNone result (store.new ≡ store.old) }
+    ensures party { store.new.party ≡ store.old.party }
+{
     let Some(id) = object_at(code, store, scopes, scope, object) else {
         return None;
     };
-    let Some(direct) = value_at(code, store, scopes, scope, value) else {
+    let Some(given) = value_at(code, store, scopes, scope, value) else {
         return None;
     };
-    let (steps, name) = match code.node(key) {
-        Node::Text(name) => match text_key(code.text(name)) {
-            Some(key) => (1, key),
-            None => return None,
-        },
-        _ => {
-            let index = operand_at(code, store, scopes, scope, key, DEPTH);
-            if index.steps == 0 {
-                return None;
-            }
-            match array_index_key(index.number) {
-                Some(key) => (index.steps, key),
-                None => return None,
-            }
-        }
+    let Some(named) = key_at(code, store, scopes, scope, key) else {
+        return None;
     };
-    let steps = 5 + steps + direct.steps;
-    if u64::from(steps) > left {
+    let Some(steps) = steps_within(named.steps, given.steps, left) else {
+        return None;
+    };
+    if !write_data(store, id, named.key, given.value) {
         return None;
     }
-    if write_data(store, id, name, direct.value) {
-        return Some(Direct { value: direct.value, steps });
-    }
-    None
+    Some(Direct {
+        value: given.value,
+        steps,
+    })
 }
