@@ -1,5 +1,5 @@
 -- Forms that write an own data property at once.
-use Rattle.std.proofs.Common.{◌≡◌, ℕ, suc, ◌+◌, ◌-◌, ◌<◌, Bool, true, false, not, ◌&&◌, ◌||◌, nat_lt, nat_le, cond, List, [], ◌∷◌, length, slice_set, Option, Some, None, ℤ, pos, negsuc, int_lt, refl, sym, ap, ◌∙◌, subst, true≢false, arith, eq-eqb, lt-ltb, if◌then◌else◌}
+use Rattle.std.proofs.Common.{◌≡◌, ℕ, suc, ◌+◌, ◌-◌, ◌<◌, Bool, true, false, not, ◌&&◌, ◌||◌, nat_lt, nat_le, cond, List, [], ◌∷◌, length, Option, Some, None, pos, negsuc, refl, sym, ap, ◌∙◌, subst, true≢false, arith, lt-ltb, if◌then◌else◌}
 use Rattle.std.proofs.lemmas.Bool.{and_parts}
 use Rattle.std.proofs.lemmas.Bool.Decides.{nat_tests}
 use Rattle.std.specs.Bool.{beq}
@@ -13,7 +13,7 @@ use Rattle.lava_base.specs.declared.ids.Ref.{Ref}
 use Rattle.lava_base.specs.declared.ids.Ref.TheVariants as reference
 use Rattle.js_text.specs.Indices.{key_of_text}
 use Rattle.js_text.specs.Length.{is_length, length_key}
-use Rattle.js_text.specs.Naming.{Naming, Foreign, Own, naming_of, origin_of}
+use Rattle.js_text.specs.Naming.{Own, naming_of, origin_of}
 use Rattle.js_text.specs.SameKeys.{same_value_sound}
 use Rattle.js_text.specs.Values.{same_key, same_value}
 use Rattle.js_text.specs.declared.value.Key.{Key}
@@ -26,7 +26,7 @@ use Rattle.js_desc.specs.declared.ask.Ask.TheVariants as ask
 use Rattle.js_desc.specs.declared.descriptor.Change.{Change}
 use Rattle.js_desc.specs.declared.descriptor.Change.TheVariants as change
 use Rattle.js_desc.specs.declared.descriptor.Descriptor.{Descriptor}
-use Rattle.js_desc.specs.declared.descriptor.Descriptor.TheVariants.{Accessor, Data}
+use Rattle.js_desc.specs.declared.descriptor.Descriptor.TheVariants.{Data}
 use Rattle.js_desc.specs.declared.reply.Reply.TheVariants as reply
 use Rattle.js_term.specs.declared.term.Term.{out-Term}
 use Rattle.js_code.specs.Decoded.{layer_of, term_at, text_at}
@@ -56,7 +56,7 @@ use Rattle.js_operation.specs.js_run.Asking.{waits_for}
 use Rattle.js_operation.specs.js_run.Completions as halt
 use Rattle.js_operation.specs.js_run.Completions.{Replied}
 use Rattle.js_operation.specs.js_run.Decisions.{decides, decides_ask, decides_by_slot, decides_collection, follows_with, goes_on}
-use Rattle.js_operation.specs.js_run.Parties.{Shared, deeper, running, shallower}
+use Rattle.js_operation.specs.js_run.Parties.{Shared, deeper, shallower}
 use Rattle.js_operation.specs.js_run.Properties.{has_set, put_property}
 use Rattle.js_operation.specs.js_run.Rows.{put_key, put_object}
 use Rattle.js_operation.specs.js_run.Runs.{Begins, Charged, Decides, Due, Env, Gives, answered, charge, run_for, settle}

@@ -92,10 +92,12 @@ fn is_inside(store: &FlatStore, id: ObjId, key: &Key) -> bool
 {
     match key {
         Key::Index(index) => match store.own(id, store.length_key()) {
-            Some(Descriptor::Data {
-                value: Value::Int(length),
-                ..
-            }) => i64::from(*index) < *length,
+            Some(
+                Descriptor::Data {
+                    value: Value::Int(length),
+                    ..
+                },
+            ) => i64::from(*index) < *length,
             _ => false,
         },
         Key::Text(_) => !is_length(key),
@@ -137,12 +139,14 @@ fn writable_at(store: &FlatStore, id: ObjId, key: &Key) -> Option<Attributes>
     }
     keep_place(store, id, key);
     match store.own(id, key) {
-        Some(Descriptor::Data {
-            writable,
-            enumerable,
-            configurable,
-            ..
-        }) if *writable => Some(Attributes {
+        Some(
+            Descriptor::Data {
+                writable,
+                enumerable,
+                configurable,
+                ..
+            },
+        ) if *writable => Some(Attributes {
             enumerable: *enumerable,
             configurable: *configurable,
         }),
