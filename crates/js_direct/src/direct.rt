@@ -28,7 +28,6 @@ pub struct Direct {
 }
 
 /// How a binary operator compares forms that give numbers at once, as a value.
-#[inline]
 fn comparison_value(
     code: &Code,
     store: &FlatStore,
@@ -236,8 +235,30 @@ pub fn value_at(
     }
 }
 
+/// What a form gives at once that is no number, and how many steps that takes; none where it does not.
+#[inline(never)]
+fn other_into(
+    code: &Code,
+    store: &FlatStore,
+    scopes: &Scopes,
+    scope: u32,
+    at: u32,
+    given: &mut Plain,
+) -> u32
+    ensures { let sight = seen store.now code.now scopes.now scope in
+        0 < result → GivesAtOnce sight at (value_of given.new) result }
+{
+    match other_at(code, store, scopes, scope, at) {
+        Some(direct) => {
+            *given = direct.value;
+            direct.steps
+        }
+        None => 0,
+    }
+}
+
 /// What a form gives at once, and how many steps that takes; none where it does not. (A number wants no `Direct`.)
-#[inline]
+#[inline(always)]
 pub fn value_into(
     code: &Code,
     store: &FlatStore,
@@ -254,11 +275,5 @@ pub fn value_into(
         *given = Plain::Int(number.number);
         return number.steps;
     }
-    match other_at(code, store, scopes, scope, at) {
-        Some(direct) => {
-            *given = direct.value;
-            direct.steps
-        }
-        None => 0,
-    }
+    other_into(code, store, scopes, scope, at, given)
 }

@@ -7,7 +7,7 @@ ghost use Rattle.js_direct.specs.Direct.{seen, value_of};
 ghost use Rattle.js_direct.specs.Puts.{HasWritable, IsPutRow, IsWritten, KeepsPlace, NamesAtOnce, defines_plainly, is_inside};
 
 use crate::direct::{Direct, value_at};
-use crate::numbers::{DEPTH, MOST_STEPS, number_at};
+use crate::numbers::{DEPTH, MOST_STEPS, operand_at};
 use crate::plain::{Plain, as_value};
 use crate::properties::{is_proxy, object_at, text_key};
 use js_code::code::Code;
@@ -42,9 +42,10 @@ fn index_at(code: &Code, store: &FlatStore, scopes: &Scopes, scope: u32, at: u32
     ensures { let sight = seen store.now code.now scopes.now scope in
         IfSome result (λ n. NamesAtOnce sight at n.key n.steps) }
 {
-    let Some(index) = number_at(code, store, scopes, scope, at, DEPTH) else {
+    let index = operand_at(code, store, scopes, scope, at, DEPTH);
+    if index.steps == 0 {
         return None;
-    };
+    }
     match array_index_key(index.number) {
         Some(key) => Some(Named {
             key,

@@ -12,7 +12,7 @@ pub fn back_in_list(machine: &mut Machine, start: u32, count: u32, left: u64) ->
     match newest_frame(machine) {
         Some(Frame::Seq { start: s, count: c }) if s == start && c == count => {
             take_off(machine);
-            went(How::Given, left)
+            went(How::Next, left)
         }
         _ => went(How::Left, left),
     }

@@ -1,7 +1,8 @@
 // Forms that hold others: each is begun, and what it holds is done in place as far as it gets. No form is deeper in another one than `MOST_DEEP`.
 
 use crate::back::{back_from_scope, back_from_turn, back_from_update, back_in_list};
-use crate::here::{choose_one, choose_two, done_here, fresh, starts_loop, truth_here};
+use crate::here::{choose_one, choose_two, fresh, starts_loop, truth_here};
+use crate::leaves::{do_leaf, fresh_item, leaf_item};
 use crate::seat::{How, Seat, Went, given, next, stopped, went};
 use js_code::node::Node;
 use js_direct::plain::Plain;
@@ -61,16 +62,6 @@ fn do_row(machine: &mut Machine, seat: &mut Seat, at: u32, left: u64, depth: u32
     }
 }
 
-/// A form is done at once, or not begun.
-#[inline(always)]
-fn do_leaf(machine: &mut Machine, seat: &mut Seat, at: u32, left: u64) -> Went {
-    let steps = done_here(machine, seat, at, left);
-    if steps == 0 {
-        return stopped(seat, at, left);
-    }
-    went(How::Given, left - u64::from(steps))
-}
-
 /// Forms in their order, but for the last one, which is next (ECMA-262, "Block").
 #[cycle(form)]
 #[inline(never)]
@@ -93,14 +84,14 @@ fn do_items(
         let at = machine.number(start + i);
         let step = do_item(machine, seat, at, start + i + 1, count - i - 1, left, depth);
         match step.how {
-            How::Given => left = step.left,
+            How::Next => left = step.left,
             _ => return step,
         }
     }
     next(seat, machine.number(start + there - 1), left)
 }
 
-/// Whether a form holds others, or changes where the body stands.
+/// Whether a form holds others.
 #[inline(always)]
 fn holds_others(node: Node) -> bool {
     match node {
@@ -108,8 +99,7 @@ fn holds_others(node: Node) -> bool {
         | Node::Scope { .. }
         | Node::Loop { .. }
         | Node::If { .. }
-        | Node::IfElse { .. }
-        | Node::Fresh => true,
+        | Node::IfElse { .. } => true,
         _ => false,
     }
 }
@@ -126,23 +116,19 @@ fn do_item(
     left: u64,
     depth: u32,
 ) -> Went {
-    if !holds_others(machine.code.node(at)) {
-        let steps = done_here(machine, seat, at, left);
-        if steps > 0 {
-            return went(How::Given, left - u64::from(steps));
+    match machine.code.node(at) {
+        Node::Fresh => fresh_item(machine, seat, at, start, count, left),
+        node if holds_others(node) => {
+            if machine.push_frame(Frame::Seq { start, count }).is_err() {
+                return went(How::Failed, left);
+            }
+            let step = do_form(machine, seat, at, left, depth);
+            match step.how {
+                How::Given => back_in_list(machine, start, count, step.left),
+                _ => step,
+            }
         }
-        if machine.push_frame(Frame::Seq { start, count }).is_err() {
-            return went(How::Failed, left);
-        }
-        return stopped(seat, at, left);
-    }
-    if machine.push_frame(Frame::Seq { start, count }).is_err() {
-        return went(How::Failed, left);
-    }
-    let step = do_form(machine, seat, at, left, depth);
-    match step.how {
-        How::Given => back_in_list(machine, start, count, step.left),
-        _ => step,
+        _ => leaf_item(machine, seat, at, start, count, left),
     }
 }
 

@@ -6,11 +6,15 @@ use js_direct::done::done_at;
 use js_direct::plain::Plain;
 use js_direct::truths::{Truth, truth_at};
 use js_machine::frame::Frame;
+use js_machine::js_run::MAX_DEPTH;
 use js_machine::machine::Machine;
 
 /// A form is done at once, where its steps are at most so many: gives the steps, and none where nothing was done.
 #[inline(always)]
 pub fn done_here(machine: &mut Machine, seat: &mut Seat, at: u32, left: u64) -> u32 {
+    if machine.depth >= MAX_DEPTH {
+        return 0;
+    }
     let scope = machine.standing();
     done_at(
         &machine.code,
