@@ -224,6 +224,10 @@ module _ (me : ℕ) (r : Ref) (o : Object Ref MadeSymbol) (k : Key MadeSymbol) (
 
 -- DECISIONS
 
+-- the property that is there
+found_writable : (objects : List (Object Ref MadeSymbol)) (id : ℕ) (k : Key MadeSymbol) (e c : Bool) (w : HasWritable objects id k e c) → own k (object_at objects id).properties ≡ Some (Data w.writable.old true e c)
+found_writable objects id k e c w = w.found ∙ ap Some w.writable.is
+
 module _ (me : ℕ) (shared : Shared) where
   -- an own object that is no proxy decides by the table, if it is asked for nothing that a function or a collection answers
   by_slot : (r : Ref) (x : Ask Ref MadeSymbol) (callable : Bool) (p : MachineParty)
@@ -278,20 +282,20 @@ module _ (me : ℕ) (shared : Shared) where
       sets : p.depth < MAX_DEPTH → decides (naming_of me) shared (own_object me id) (ask.Set k v (own_object me id)) p ≡ Decide (own_object me id) (ask.GetOwnProperty k) (deeper p) (Closes told)
       sets h =
           own_decided (ask.Set k v (own_object me id)) p w.there w.decides (λ callable t. refl) (λ callable es. refl)
-          ∙ ap (λ x. follows_with (naming_of me) shared me_at (as_exotic (ordinary_set_with_own_descriptor k v (own_object me id) (object_at p.objects id).prototype x), p.objects) p) w.found
+          ∙ ap (λ x. follows_with (naming_of me) shared me_at (as_exotic (ordinary_set_with_own_descriptor k v (own_object me id) (object_at p.objects id).prototype x), p.objects) p) (found_writable p.objects id k e c w)
           ∙ waits (ask.GetOwnProperty k) told p h
 
       -- it tells it
-      tells : decides (naming_of me) shared (own_object me id) (ask.GetOwnProperty k) (deeper p) ≡ Give (Replied (reply.Desc (Some (Data w.old true e c)))) (deeper p)
+      tells : decides (naming_of me) shared (own_object me id) (ask.GetOwnProperty k) (deeper p) ≡ Give (Replied (reply.Desc (Some (Data w.writable.old true e c)))) (deeper p)
       tells =
           own_decided (ask.GetOwnProperty k) (deeper p) w.there w.decides (λ callable t. refl) (λ callable es. refl)
-          ∙ ap (λ x. Give (Replied (reply.Desc x)) (deeper p)) w.found
+          ∙ ap (λ x. Give (Replied (reply.Desc x)) (deeper p)) (found_writable p.objects id k e c w)
 
       -- and defines its value
       defines : decides (naming_of me) shared (own_object me id) (ask.DefineOwnProperty k (value_alone v)) (deeper p) ≡ Give (Replied (reply.Flag true)) (record (deeper p) { objects = replaced_objects })
       defines =
           own_decided (ask.DefineOwnProperty k (value_alone v)) (deeper p) w.there w.decides (λ callable t. refl) (λ callable es. refl)
-          ∙ ap (λ d. follows_with (naming_of me) shared me_at (exotic_carried_out p.objects (Own id) d) (deeper p)) (value_defined me me_at (object_at p.objects id) k w.old v e c w.found w.place w.plainly)
+          ∙ ap (λ d. follows_with (naming_of me) shared me_at (exotic_carried_out p.objects (Own id) d) (deeper p)) (value_defined me me_at (object_at p.objects id) k w.writable.old v e c (found_writable p.objects id k e c w) w.place w.plainly)
 
 -- what was open is open no longer
 closed : (p : MachineParty) → shallower (deeper p) ≡ p
@@ -319,7 +323,7 @@ module _ (me id : ℕ) (k : Key MadeSymbol) (v : MachineValue) (e c : Bool) wher
       ∙ ap (λ act. run_for names shared env (suc (suc charges)) limit (steps + 1) (settle names shared env (set ∷ ks) (answered names env act))) (sets me shared id k v e c p w h)
       ∙ one names shared env (suc charges) limit (steps + 1) (Decides o (ask.GetOwnProperty k)) (deeper p) (Closes has_told ∷ set ∷ ks) two_left
       ∙ ap (λ act. run_for names shared env (suc charges) limit (steps + 1 + 1) (settle names shared env (Closes has_told ∷ set ∷ ks) (answered names env act))) (tells me shared id k v e c p w)
-      ∙ ap (λ q. run_for names shared env (suc charges) limit (steps + 1 + 1) (settle names shared env (set ∷ ks) (answered names env (goes_on names shared r (next.Ordinary (wait.Receiver k v r)) (reply.Desc (Some (Data w.old true e c))) q)))) (closed p)
+      ∙ ap (λ q. run_for names shared env (suc charges) limit (steps + 1 + 1) (settle names shared env (set ∷ ks) (answered names env (goes_on names shared r (next.Ordinary (wait.Receiver k v r)) (reply.Desc (Some (Data w.writable.old true e c))) q)))) (closed p)
       ∙ ap (λ act. run_for names shared env (suc charges) limit (steps + 1 + 1) (settle names shared env (set ∷ ks) (answered names env act))) (waits me shared id (ask.DefineOwnProperty k (value_alone v)) has_defined p h)
       ∙ one names shared env charges limit (steps + 1 + 1) (Decides o (ask.DefineOwnProperty k (value_alone v))) (deeper p) (Closes has_defined ∷ set ∷ ks) all_left
       ∙ ap (λ act. run_for names shared env charges limit (steps + 1 + 1 + 1) (settle names shared env (Closes has_defined ∷ set ∷ ks) (answered names env act))) (defines me shared id k v e c p w)

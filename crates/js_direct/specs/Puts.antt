@@ -68,14 +68,20 @@ KeepsPlace (key.Index n) o = IsInOrder same_made_symbol o.properties
 KeepsPlace (key.Text t) o = Unit {0}
 KeepsPlace (key.Symbol s) o = Unit {0}
 
+-- a data property that may be written
+pub record IsWritable (property : Descriptor Ref MadeSymbol) (enumerable configurable : Bool) : Type 0 where
+  pub old : MachineValue
+  pub is : property ≡ Data old Bool.true enumerable configurable
+
 -- an object of the party, which is no proxy, has a data property of its own that is writable, and defines it as any object does
 pub record HasWritable (objects : List (Object Ref MadeSymbol)) (id : ℕ) (key : Key MadeSymbol) (enumerable configurable : Bool) : Type 0 where
   pub there : id < length objects
   pub decides : is_proxy (object_at objects id).slot ≡ Bool.false
   pub plainly : defines_plainly (object_at objects id) key ≡ Bool.true
   pub place : KeepsPlace key (object_at objects id)
-  pub old : MachineValue
-  pub found : ordinary_get_own_property same_made_symbol key (object_at objects id).properties ≡ Some (Data old Bool.true enumerable configurable)
+  pub property : Descriptor Ref MadeSymbol
+  pub found : ordinary_get_own_property same_made_symbol key (object_at objects id).properties ≡ Some property
+  pub writable : IsWritable property enumerable configurable
 
 -- such a property has another value, and nothing else is changed
 pub record IsWritten (objects : List (Object Ref MadeSymbol)) (id : ℕ) (key : Key MadeSymbol) (v : MachineValue) (after : List (Object Ref MadeSymbol)) : Type 0 where

@@ -1,10 +1,10 @@
 // Own data properties, which a form writes at once.
 
-ghost use Rattle.std.specs.Prelude.{◌≡◌, ◌+◌, ◌<◌, ◌≤◌, length, IfNone, IfSome, IsFalse, IsTrue};
+ghost use Rattle.std.specs.Prelude.{◌≡◌, ◌+◌, ◌<◌, ◌≤◌, length, IfNone, IfSome, IsFalse, IsTrue, Some};
 ghost use Rattle.js_code.specs.declared.node.Node.TheVariants as node;
 ghost use Rattle.js_store.specs.Objects.{object_at};
 ghost use Rattle.js_direct.specs.Direct.{seen, value_of};
-ghost use Rattle.js_direct.specs.Puts.{HasWritable, IsPutRow, IsWritten, KeepsPlace, NamesAtOnce, defines_plainly, is_inside};
+ghost use Rattle.js_direct.specs.Puts.{HasWritable, IsPutRow, IsWritable, IsWritten, KeepsPlace, NamesAtOnce, defines_plainly, is_below_length, is_inside};
 
 use crate::direct::{Direct, value_at};
 use crate::numbers::{DEPTH, MOST_STEPS, operand_at};
@@ -85,6 +85,20 @@ fn steps_within(key: u32, value: u32, left: u64) -> Option<u32>
     Some(steps)
 }
 
+/// Whether an index is below the length that a property says.
+#[inline]
+fn is_below_length(index: u32, length: &Descriptor) -> bool
+    ensures { result ≡ is_below_length index (Some length.now) }
+{
+    match length {
+        Descriptor::Data {
+            value: Value::Int(length),
+            ..
+        } => i64::from(index) < *length,
+        _ => false,
+    }
+}
+
 /// Whether a key of an array is neither its length nor an index at or past it.
 #[inline]
 fn is_inside(store: &FlatStore, id: ObjId, key: &Key) -> bool
@@ -93,13 +107,8 @@ fn is_inside(store: &FlatStore, id: ObjId, key: &Key) -> bool
 {
     match key {
         Key::Index(index) => match store.own(id, store.length_key()) {
-            Some(
-                Descriptor::Data {
-                    value: Value::Int(length),
-                    ..
-                },
-            ) => i64::from(*index) < *length,
-            _ => false,
+            Some(length) => is_below_length(*index, length),
+            None => false,
         },
         Key::Text(_) => !is_length(key),
         Key::Symbol(_) => true,
@@ -129,6 +138,25 @@ fn keep_place(store: &FlatStore, id: ObjId, key: &Key)
     }
 }
 
+/// The attributes of a data property that may be written.
+#[inline]
+fn attributes_of(property: &Descriptor) -> Option<Attributes>
+    ensures { IfSome result (λ a. IsWritable property.now a.enumerable a.configurable) }
+{
+    match property {
+        Descriptor::Data {
+            writable: true,
+            enumerable,
+            configurable,
+            ..
+        } => Some(Attributes {
+            enumerable: *enumerable,
+            configurable: *configurable,
+        }),
+        _ => None,
+    }
+}
+
 /// The attributes of an own data property that may be written, of an object that is no proxy.
 #[inline]
 fn writable_at(store: &FlatStore, id: ObjId, key: &Key) -> Option<Attributes>
@@ -140,18 +168,8 @@ fn writable_at(store: &FlatStore, id: ObjId, key: &Key) -> Option<Attributes>
     }
     keep_place(store, id, key);
     match store.own(id, key) {
-        Some(
-            Descriptor::Data {
-                writable,
-                enumerable,
-                configurable,
-                ..
-            },
-        ) if *writable => Some(Attributes {
-            enumerable: *enumerable,
-            configurable: *configurable,
-        }),
-        _ => None,
+        Some(property) => attributes_of(property),
+        None => None,
     }
 }
 
