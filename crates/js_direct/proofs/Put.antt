@@ -61,10 +61,9 @@ use Rattle.js_operation.specs.js_run.Properties.{has_set, put_property}
 use Rattle.js_operation.specs.js_run.Rows.{put_key, put_object}
 use Rattle.js_operation.specs.js_run.Runs.{Begins, Charged, Decides, Due, Env, Gives, answered, charge, run_for, settle}
 use Rattle.js_operation.specs.js_run.declared.TheConstants.{MAX_DEPTH}
-use Rattle.js_direct.specs.Direct.{GivesAtOnce, GivesNumber, IsDirect, Sight, is_proxy, key_named, own_object, value_of}
+use Rattle.js_direct.specs.Direct.{GivesAtOnce, IsDirect, Sight, is_proxy, key_named, own_object, value_of}
 use Rattle.js_direct.specs.Puts.{HasWritable, IsPutRow, IsWritten, KeepsPlace, NamesAtOnce, PutsAtOnce, defines_plainly, is_below_length, is_inside}
 use Rattle.js_direct.specs.declared.direct.Direct.{Direct}
-use Rattle.js_direct.specs.declared.numbers.Counted.{Counted}
 use Rattle.js_direct.proofs.Charges.{one, part}
 use Rattle.js_direct.proofs.Given.{IsRow, begun, name_at, own_asked, own_origin}
 
@@ -381,10 +380,6 @@ module _ (s : Sight) where
   -- a name
   pub text_names : (at t : ℕ) (n : Node) (k : Key MadeSymbol) → out-Term (term_at s.code at) ≡ layer_of s.code (term_at s.code) n → n ≡ node.Text t → k ≡ key_of_text (text_at s.code t) → NamesAtOnce s at k 1
   text_names at t n k e f same = record { name = value.Text (text_at s.code t); gives = name_at s at t n e f; is = ap Some (sym same) }
-
-  -- an array index
-  pub number_names : (at : ℕ) (x : Counted) (k : Key MadeSymbol) → GivesNumber s at x → k ≡ key_of_text (signed_decimal x.number) → NamesAtOnce s at k x.steps
-  number_names at x k gives same = record { name = value.Int x.number; gives = gives; is = ap Some (sym same) }
 
   pub direct_put : (object key form id : ℕ) (k : Key MadeSymbol) (j n : ℕ) (d : Direct) (after : List (Object Ref MadeSymbol))
       → GivesAtOnce s object (own_object s.me id) 1 → IsDirect s form d → NamesAtOnce s key k j → n ≡ 5 + j + d.steps → IsWritten s.objects id k (value_of d.value) after
