@@ -1,8 +1,10 @@
 // Forms that are done at once.
 
-ghost use Rattle.std.specs.Prelude.{◌≡◌, ◌<◌, ◌≤◌};
-ghost use Rattle.js_direct.specs.Done.{DoesAtOnce};
+ghost use Rattle.std.specs.Prelude.{◌≡◌, ◌<◌, ◌≤◌, List};
+ghost use Rattle.js_code.specs.declared.node.Node.TheVariants as node;
+ghost use Rattle.js_direct.specs.Done.{DoesAtOnce, IsDoneRow};
 ghost use Rattle.js_direct.specs.Direct.{seen, value_of};
+ghost use Rattle.js_store.specs.Frozen.{CommonObject};
 
 use crate::direct::value_into;
 use crate::plain::Plain;
@@ -14,7 +16,7 @@ use js_state::scopes::Scopes;
 use js_store::flat::FlatStore;
 
 /// A form that gives a value at once and changes nothing, where its steps are at most so many.
-#[inline(never)]
+#[inline]
 fn only_value(
     code: &Code,
     store: &FlatStore,
@@ -24,6 +26,11 @@ fn only_value(
     left: u64,
     given: &mut Plain,
 ) -> u32
+    ensures does { let sight = seen store.now code.now scopes.now scope in
+        let v = value_of given.new in
+        0 < result → (common : List CommonObject)
+        → DoesAtOnce sight common at v store.now.objects scopes.now result }
+    ensures within { result ≤ left }
 {
     let steps = value_into(code, store, scopes, scope, at, given);
     if u64::from(steps) > left {
@@ -32,7 +39,8 @@ fn only_value(
     steps
 }
 
-/// A property gets what a form gives at once.
+/// A property gets what a form gives at once, where its steps are at most so many.
+#[inline]
 fn put_into(
     code: &Code,
     store: &mut FlatStore,
@@ -43,7 +51,16 @@ fn put_into(
     value: u32,
     left: u64,
     given: &mut Plain,
-) -> u32 {
+) -> u32
+    ensures does { let sight = seen store.old code.now scopes.now scope in
+        let row = node.Put object key value in
+        let v = value_of given.new in
+        0 < result → (common : List CommonObject)
+        → IsDoneRow sight common row v store.new.objects scopes.now result }
+    ensures within { result ≤ left }
+    ensures none { result ≡ 0 → store.new.objects ≡ store.old.objects }
+    ensures party { store.new.party ≡ store.old.party }
+{
     match put_at(code, store, scopes, scope, object, key, value, left) {
         Some(direct) => {
             *given = direct.value;
@@ -65,7 +82,7 @@ pub fn done_at(
     given: &mut Plain,
 ) -> u32
     ensures does { let sight = seen store.old code.now scopes.old scope in
-        0 < result → DoesAtOnce sight at (value_of given.new) store.new.objects scopes.new result }
+        0 < result → (common : List CommonObject) → DoesAtOnce sight common at (value_of given.new) store.new.objects scopes.new result }
     ensures within { result ≤ left }
     ensures none { result ≡ 0 → (store.new.objects ≡ store.old.objects) × (scopes.new ≡ scopes.old) }
     ensures party { store.new.party ≡ store.old.party }

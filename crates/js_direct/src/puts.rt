@@ -208,6 +208,7 @@ pub fn put_at(
     ensures put { let sight = seen store.old code.now scopes.now scope in
         IfSome result (IsPutRow sight (node.Put object key value) store.new.objects) }
     ensures left { IfSome result (λ d. d.steps ≤ left) }
+    ensures some { IfSome result (λ d. 0 < d.steps) }
     ensures none { IfNone result (store.new ≡ store.old) }
     ensures party { store.new.party ≡ store.old.party }
 {

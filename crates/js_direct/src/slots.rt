@@ -1,9 +1,10 @@
 // Slots that a form writes at once.
 
-ghost use Rattle.std.specs.Prelude.{◌≡◌, ◌<◌, ◌≤◌, false, is_some};
+ghost use Rattle.std.specs.Prelude.{◌≡◌, ◌<◌, ◌≤◌, List, false, is_some};
 ghost use Rattle.js_code.specs.declared.node.Node.TheVariants as node;
 ghost use Rattle.js_direct.specs.Done.{IsDoneRow};
 ghost use Rattle.js_direct.specs.Direct.{seen, value_of};
+ghost use Rattle.js_store.specs.Frozen.{CommonObject};
 ghost use Rattle.js_state.specs.Scopes.{outwards, slot_of};
 
 use crate::direct::value_into;
@@ -34,7 +35,7 @@ pub fn set_at(
 ) -> u32
     ensures does { let sight = seen store.now code.now scopes.old scope in
         let row = node.SetLocal hops slot false value in
-        0 < result → IsDoneRow sight row (value_of given.new) store.now.objects scopes.new result }
+        0 < result → (common : List CommonObject) → IsDoneRow sight common row (value_of given.new) store.now.objects scopes.new result }
     ensures within { result ≤ left }
     ensures none { result ≡ 0 → scopes.new ≡ scopes.old }
 {
@@ -64,7 +65,7 @@ pub fn init_at(
 ) -> u32
     ensures does { let sight = seen store.now code.now scopes.old scope in
         let row = node.Init hops slot value in
-        0 < result → IsDoneRow sight row (value_of given.new) store.now.objects scopes.new result }
+        0 < result → (common : List CommonObject) → IsDoneRow sight common row (value_of given.new) store.now.objects scopes.new result }
     ensures within { result ≤ left }
     ensures none { result ≡ 0 → scopes.new ≡ scopes.old }
 {

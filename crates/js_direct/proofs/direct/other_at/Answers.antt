@@ -1,10 +1,8 @@
-use Rattle.std.proofs.Common.{rules, ap, sym, subst, w64, ◌∙◌}
-use Rattle.std.proofs.lemmas.Int.{to_z-of_z}
+use Rattle.std.proofs.Common.{ap, ◌∙◌}
 use Rattle.js_code.specs.Decoded.{layer_of, term_at}
-use Rattle.js_text.specs.declared.value.Value.TheVariants as value
-use Rattle.js_direct.specs.Direct.{GivesAtOnce, seen}
-use Rattle.js_direct.proofs.Given.{literal, null, slot, truth, undefined}
-use Rattle.js_direct.proofs.direct.value_at.Goals as goal
+use Rattle.js_direct.specs.Direct.{seen}
+use Rattle.js_direct.proofs.Given.{null, slot, truth, undefined}
+use Rattle.js_direct.proofs.direct.other_at.Goals as goal
 
 pub returns-in-Undefined : goal.returns-in-Undefined
 returns-in-Undefined c = undefined (seen c.args.store.now c.args.code.now c.args.scopes.now c.args.scope) c.args.at (c.node.ensures.term ∙ ap (layer_of c.args.code.now (term_at c.args.code.now)) c.in-Undefined.is)
@@ -14,12 +12,6 @@ returns-in-Null c = null (seen c.args.store.now c.args.code.now c.args.scopes.no
 
 pub returns-in-Bool : goal.returns-in-Bool
 returns-in-Bool c = truth (seen c.args.store.now c.args.code.now c.args.scopes.now c.args.scope) c.args.at c.in-Bool.truth (c.node.ensures.term ∙ ap (layer_of c.args.code.now (term_at c.args.code.now)) c.in-Bool.is)
-
-pub returns-in-Int : goal.returns-in-Int
-returns-in-Int c =
-    let s = seen c.args.store.now c.args.code.now c.args.scopes.now c.args.scope in
-    subst (λ i. GivesAtOnce s c.args.at (value.Int i) 1) (sym (to_z-of_z w64 c.in-Int.number (search rules)))
-    (literal s c.args.at c.in-Int.number (c.node.ensures.term ∙ ap (layer_of c.args.code.now (term_at c.args.code.now)) c.in-Int.is))
 
 pub returns-in-Some : goal.returns-in-Some
 returns-in-Some c =
