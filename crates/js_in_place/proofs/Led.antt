@@ -9,6 +9,8 @@ use Rattle.js_text.specs.declared.value.Value.TheVariants as value
 use Rattle.js_code.specs.Decoded.{no_turn_row, term_at}
 use Rattle.js_code.specs.Tables.{part_of}
 use Rattle.js_code.specs.declared.node.TurnRow.{TurnRow}
+use Rattle.js_term.specs.declared.term.Jump.TheVariants as jump_kind
+use Rattle.js_term.specs.declared.term.Jump.TheVariants.{outs-Return}
 use Rattle.js_direct.specs.Direct.{value_of}
 use Rattle.js_direct.specs.declared.plain.Plain.{Plain}
 use Rattle.js_direct.specs.declared.plain.Plain.TheVariants as plain
@@ -19,7 +21,7 @@ use Rattle.js_machine.specs.Views.{View, party_of, turns_at, with_copy, with_loc
 use Rattle.js_machine.specs.declared.frame.Frame.{Frame}
 use Rattle.js_machine.specs.declared.frame.Frame.TheVariants as frame
 use Rattle.js_machine.specs.js_run.Acts.{Become, Evaluate, Give, Tested, Turned, give, next_turn, with_value}
-use Rattle.js_machine.specs.js_run.Control.{branch, in_order, inside, loop_begins, otherwise}
+use Rattle.js_machine.specs.js_run.Control.{branch, in_order, inside, jump, jump_at, loop_begins, otherwise}
 use Rattle.js_machine.specs.js_run.Parties.{refreshed}
 use Rattle.js_machine.specs.js_run.Properties.{write_slot}
 use Rattle.js_machine.specs.js_run.Truth.{to_boolean}
@@ -135,6 +137,11 @@ turn_taken (Err x) v b t left old new e y h = tt
 
 pub loop_ends : (v : Plain) (b : Bool) (t left : ℕ) (old : View) (s : Stand) → b ≡ to_boolean (value_of v) → b ≡ false → s ≡ value_stand plain.Undefined left → LedTo (deed_with (frame.Tested t) (value_of v) old) left old old s
 loop_ends v b t left old s e n d = turns_by v t left old old s (subst (λ x. Turns x t left old old s) (sym n ∙ e) (given_in plain.Undefined left old s d))
+
+-- `return` WITH A VALUE
+
+pub return_waits : {E : Type 0} (r : Result Stand E) (at left : ℕ) (old new : View) → IfOk r (WaitsIn frame.Return at left old new) → IfOk r (LedTo (λ a. jump (jump_kind.Return (Some (term_at old.code at))) (party_of a old)) left old new)
+return_waits r at left old new h = subst (λ x. IfOk r (LedTo (λ a. jump_at x (party_of a old)) left old new)) (sym (outs-Return (Some (term_at old.code at)))) h
 
 -- SCOPES
 

@@ -1,4 +1,5 @@
 pub mod Gone
 pub mod Led
 pub mod Newest
+pub mod Parts
 pub mod Placed

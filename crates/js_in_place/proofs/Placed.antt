@@ -9,23 +9,23 @@ use Rattle.js_code.specs.declared.node.Node.{Node}
 use Rattle.js_term.specs.declared.term.Term.{out-Term}
 use Rattle.js_store.specs.Objects.{Object}
 use Rattle.js_state.specs.Scopes.{Scope}
-use Rattle.js_direct.specs.Direct.{GivesAtOnce, GivesTruth, value_of}
+use Rattle.js_direct.specs.Direct.{GivesAtOnce, value_of}
 use Rattle.js_direct.specs.Done.{DoesAtOnce}
 use Rattle.js_direct.specs.declared.plain.Plain.{Plain}
 use Rattle.js_direct.proofs.Charges.{one, part}
 use Rattle.js_machine.specs.Steps.{Deed, Keeps, deed_of_row, deed_with, over, settles, under}
 use Rattle.js_machine.specs.Views.{Around, View, fitting, newest, nexts_of, party_of}
 use Rattle.js_machine.specs.declared.frame.Frame.{Frame}
+use Rattle.js_machine.specs.declared.frame.Frame.TheVariants as frame
 use Rattle.js_machine.specs.js_run.Acts.{Evaluate, Next}
 use Rattle.js_machine.specs.js_run.Going.{go_on}
 use Rattle.js_machine.specs.js_run.Completions.{Replied}
 use Rattle.js_machine.specs.js_run.Rows.{row_at}
 use Rattle.js_machine.specs.js_run.Runs.{Begins, Charged, Due, answered, charge, run_for, settle}
-use Rattle.js_machine.specs.js_run.Truth.{to_boolean}
-use Rattle.js_operation.specs.js_run.declared.TheConstants.{MAX_DEPTH}
+use Rattle.js_machine.specs.js_run.declared.TheConstants.{MAX_DEPTH}
 use Rattle.js_desc.specs.declared.reply.Reply.TheVariants as reply
 use Rattle.js_in_place.specs.InPlace.{sight_of}
-use Rattle.js_in_place.specs.Places.{CameOf, Comes, ComesTo, IsPart, IsWent, PartCameOf, Place, at_deed, at_form, at_value}
+use Rattle.js_in_place.specs.Places.{CameOf, Comes, ComesTo, IsDone, IsPart, IsWent, PartCameOf, Place, at_deed, at_form, at_item, at_list, at_value}
 use Rattle.js_in_place.specs.declared.seat.How.{How}
 use Rattle.js_in_place.specs.declared.seat.How.TheVariants as how
 use Rattle.js_in_place.specs.declared.seat.Seat.{Seat}
@@ -106,6 +106,34 @@ whole_by how.Left left rest old new from to s e h = h
 whole_by how.Stopped left rest old new from to s e h = h
 whole_by how.Failed left rest old new from to s e h = tt
 
+-- a value is given, and a form takes the place of another one
+pub went_given : (left rest : ℕ) (old new : View) (from : Place) (s : Seat) (w : Went) → ComesTo left old new from (at_value s.value new) rest → w ≡ record { how = how.Given; left = rest } → IsWent from left old new s w
+went_given left rest old new from s w h e = subst (λ (x : Went). IsWent from left old new s x) (sym e) h
+
+pub went_next : (left rest : ℕ) (old new : View) (from : Place) (s : Seat) (w : Went) → ComesTo left old new from (at_form s.at new) rest → w ≡ record { how = how.Next; left = rest } → IsWent from left old new s w
+went_next left rest old new from s w h e = subst (λ (x : Went). IsWent from left old new s x) (sym e) h
+
+pub went_stopped : (left rest : ℕ) (old new : View) (from : Place) (s : Seat) (w : Went) → ComesTo left old new from (at_form s.at new) rest → w ≡ record { how = how.Stopped; left = rest } → IsWent from left old new s w
+went_stopped left rest old new from s w h e = subst (λ (x : Went). IsWent from left old new s x) (sym e) h
+
+pub part_next : (left rest : ℕ) (old new : View) (from to : Place) (s : Seat) (w : Went) → ComesTo left old new from to rest → w ≡ record { how = how.Next; left = rest } → IsPart from to left old new s w
+part_next left rest old new from to s w h e = subst (λ (x : Went). IsPart from to left old new s x) (sym e) h
+
+pub part_stopped : (left rest : ℕ) (old new : View) (from to : Place) (s : Seat) (w : Went) → ComesTo left old new from (at_form s.at new) rest → w ≡ record { how = how.Stopped; left = rest } → IsPart from to left old new s w
+part_stopped left rest old new from to s w h e = subst (λ (x : Went). IsPart from to left old new s x) (sym e) h
+
+pub part_left : (left rest : ℕ) (old new : View) (from to : Place) (s : Seat) (w : Went) → ComesTo left old new from (at_value s.value new) rest → w ≡ record { how = how.Left; left = rest } → IsPart from to left old new s w
+part_left left rest old new from to s w h e = subst (λ (x : Went). IsPart from to left old new s x) (sym e) h
+
+pub went_left : (left rest : ℕ) (old new : View) (from : Place) (s : Seat) (w : Went) → ComesTo left old new from (at_value s.value new) rest → w ≡ record { how = how.Left; left = rest } → IsWent from left old new s w
+went_left left rest old new from s w h e = subst (λ (x : Went). IsWent from left old new s x) (sym e) h
+
+pub went_failed : (left rest : ℕ) (old new : View) (from : Place) (s : Seat) (w : Went) → w ≡ record { how = how.Failed; left = rest } → IsWent from left old new s w
+went_failed left rest old new from s w e = subst (λ (x : Went). IsWent from left old new s x) (sym e) tt
+
+pub part_failed : (left rest : ℕ) (old new : View) (from to : Place) (s : Seat) (w : Went) → w ≡ record { how = how.Failed; left = rest } → IsPart from to left old new s w
+part_failed left rest old new from to s w e = subst (λ (x : Went). IsPart from to left old new s x) (sym e) tt
+
 -- nothing is charged, and the run stands where it stood
 pub same_place : (left : ℕ) (old new : View) (from to : Place) → Keeps old new → ((a : Around) → let b = fitting old a in to b ≡ from b) → ComesTo left old new from to left
 same_place left old new from to k e =
@@ -146,43 +174,47 @@ row_done at left rest n w e l d =
       });
     }
 
--- what a form changes that is done at once
-abbrev pub with_done : List (Object Ref MadeSymbol) → List (Scope Ref MadeSymbol) → View → View
-with_done objects scopes w = record w { objects = objects; scopes = scopes }
-
 -- a form is done at once, whatever waits for its value
-pub does_under : (at left k rest : ℕ) (v : Plain) (objects : List (Object Ref MadeSymbol)) (scopes : List (Scope Ref MadeSymbol)) (w : View) (next : Around → Next Ref MadeSymbol)
-    → DoesAtOnce (sight_of w) at (value_of v) objects scopes k → w.depth < MAX_DEPTH → k ≤ left → rest ≡ left - k
-    → (let new = with_done objects scopes w in ComesTo left w new (at_deed (λ a. Evaluate (term_at w.code at) (party_of a w) (next a)) w)
+done_under : (at left k rest : ℕ) (v : Plain) (objects : List (Object Ref MadeSymbol)) (scopes : List (Scope Ref MadeSymbol)) (w : View) (next : Around → Next Ref MadeSymbol)
+    → DoesAtOnce (sight_of w) w.common at (value_of v) objects scopes k → w.depth + 2 < MAX_DEPTH → k ≤ left → rest ≡ left - k
+    → (let new = record w { objects = objects; scopes = scopes } in ComesTo left w new (at_deed (λ a. Evaluate (term_at w.code at) (party_of a w) (next a)) w)
       (at_deed (λ a. go_on (naming_of w.me) a.shared (next a) (Replied (reply.Value (value_of v))) (party_of a new)) new) rest)
-does_under at left k rest v objects scopes w next h d l e =
+done_under at left k rest v objects scopes w next h d l e =
     let price : k ≡ left - rest = omega (arith, l, e) in
-    let new = with_done objects scopes w in
+    let new = record w { objects = objects; scopes = scopes } in
     record {
       within = omega (arith, l, e);
       comes = subst (λ n. Comes n w new (at_deed (λ a. Evaluate (term_at w.code at) (party_of a w) (next a)) w) (at_deed (λ a. go_on (naming_of w.me) a.shared (next a) (Replied (reply.Value (value_of v))) (party_of a new)) new)) price (record {
         comes = λ a charges limit steps c.
             (let b = fitting w a in
-            h.does b.shared b.env (party_of b w) (next b ∷ nexts_of (naming_of w.me) b.shared w.code w.frames w.values w.waits) charges limit steps refl refl refl d c);
+            h.does b.shared b.env (party_of b w) (next b ∷ nexts_of (naming_of w.me) b.shared w.code w.frames w.values w.waits) charges limit steps refl refl refl refl d c);
         keeps = all_kept w;
       });
     }
 
 -- and gives its value to the newest frame
-pub does_here : (at left k rest : ℕ) (v : Plain) (objects : List (Object Ref MadeSymbol)) (scopes : List (Scope Ref MadeSymbol)) (w new : View) → DoesAtOnce (sight_of w) at (value_of v) objects scopes k → w.depth < MAX_DEPTH → k ≤ left → rest ≡ left - k
-    → new ≡ with_done objects scopes w → ComesTo left w new (at_form at w) (at_value v new) rest
-does_here at left k rest v objects scopes w new h d l e i =
+done_alone : (at left k rest : ℕ) (v : Plain) (objects : List (Object Ref MadeSymbol)) (scopes : List (Scope Ref MadeSymbol)) (w : View) → DoesAtOnce (sight_of w) w.common at (value_of v) objects scopes k → w.depth + 2 < MAX_DEPTH → k ≤ left → rest ≡ left - k
+    → (let new = record w { objects = objects; scopes = scopes } in ComesTo left w new (at_form at w) (at_value v new) rest)
+done_alone at left k rest v objects scopes w h d l e =
     let price : k ≡ left - rest = omega (arith, l, e) in
-    subst (λ x. ComesTo left w x (at_form at w) (at_value v x) rest) (sym i)
-    (record {
+    let new = record w { objects = objects; scopes = scopes } in
+    record {
       within = omega (arith, l, e);
-      comes = subst (λ n. Comes n w (with_done objects scopes w) (at_form at w) (at_value v (with_done objects scopes w))) price (record {
+      comes = subst (λ n. Comes n w new (at_form at w) (at_value v new)) price (record {
         comes = λ a charges limit steps c.
             (let b = fitting w a in
-            h.does b.shared b.env (party_of b w) (nexts_of (naming_of w.me) b.shared w.code w.frames w.values w.waits) charges limit steps refl refl refl d c);
+            h.does b.shared b.env (party_of b w) (nexts_of (naming_of w.me) b.shared w.code w.frames w.values w.waits) charges limit steps refl refl refl refl d c);
         keeps = all_kept w;
       });
-    })
+    }
+
+pub done_here : (at left k rest : ℕ) (v : Plain) (w new : View) → IsDone at w new v k → k ≤ left → rest ≡ left - k → ComesTo left w new (at_form at w) (at_value v new) rest
+done_here at left k rest v w new h l e = subst (λ x. ComesTo left w x (at_form at w) (at_value v x) rest) (sym h.is) (done_alone at left k rest v new.objects new.scopes w h.does h.depth l e)
+
+-- of a list
+pub done_in_list : (at s c left k rest : ℕ) (v : Plain) (w new : View) → IsDone at w new v k → k ≤ left → rest ≡ left - k → ComesTo left w new (at_item at s c w) (at_list s c new) rest
+done_in_list at s c left k rest v w new h l e =
+    subst (λ x. ComesTo left w x (at_item at s c w) (at_list s c x) rest) (sym h.is) (done_under at left k rest v new.objects new.scopes w (over (frame.Seq s c) w) h.does h.depth l e)
 
 -- a form gives a value at once, whatever waits for it
 pub gives_under : (at left k rest : ℕ) (v : Value Ref MadeSymbol) (w : View) (next : Around → Next Ref MadeSymbol) → GivesAtOnce (sight_of w) at v k → k ≤ left → rest ≡ left - k

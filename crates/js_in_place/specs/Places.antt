@@ -1,16 +1,22 @@
 -- Where a run stands in place, and how it comes from there to somewhere else.
-use Rattle.std.specs.Prelude.{◌≡◌, ℕ, ◌+◌, ◌-◌, ◌≤◌, None, replicate}
+use Rattle.std.specs.Prelude.{◌≡◌, ℕ, ◌+◌, ◌-◌, ◌≤◌, ◌<◌, None, replicate}
 use Rattle.lava_base.specs.declared.ids.MadeSymbol.{MadeSymbol}
 use Rattle.lava_base.specs.declared.ids.Ref.{Ref}
 use Rattle.js_text.specs.Naming.{naming_of}
 use Rattle.js_code.specs.Decoded.{term_at, terms_of}
+use Rattle.js_text.specs.declared.value.Value.TheVariants as value
+use Rattle.js_direct.specs.Direct.{value_of}
+use Rattle.js_direct.specs.Done.{DoesAtOnce}
 use Rattle.js_direct.specs.declared.plain.Plain.{Plain}
-use Rattle.js_machine.specs.Steps.{Deed, Keeps, settles}
+use Rattle.js_machine.specs.Steps.{Deed, Keeps, over, settles}
 use Rattle.js_machine.specs.Views.{Around, View, fitting, party_of, turns_at}
-use Rattle.js_machine.specs.js_run.Acts.{Evaluate, Give, Tested, Turned, next_turn}
+use Rattle.js_machine.specs.js_run.Acts.{Evaluate, Give, Tested, Turned, give, next_turn}
 use Rattle.js_machine.specs.js_run.Control.{in_order, inside}
+use Rattle.js_machine.specs.js_run.Parties.{refreshed}
+use Rattle.js_machine.specs.js_run.declared.TheConstants.{MAX_DEPTH}
+use Rattle.js_machine.specs.declared.frame.Frame.TheVariants as frame
 use Rattle.js_machine.specs.js_run.Runs.{Charged, Point, answered, charge, run_for}
-use Rattle.js_in_place.specs.InPlace.{point_at}
+use Rattle.js_in_place.specs.InPlace.{point_at, sight_of}
 use Rattle.js_in_place.specs.declared.seat.How.{How}
 use Rattle.js_in_place.specs.declared.seat.How.TheVariants as how
 use Rattle.js_in_place.specs.declared.seat.Seat.{Seat}
@@ -61,6 +67,24 @@ pub record Comes (k : ℕ) (old new : View) (from to : Place) : Type 0 where
 pub record ComesTo (left : ℕ) (old new : View) (from to : Place) (rest : ℕ) : Type 0 where
   pub within : rest ≤ left
   pub comes : Comes (left - rest) old new from to
+
+-- a form of a list begins, and those behind it wait
+abbrev pub at_item : (at start count : ℕ) → View → Place
+at_item at s c w = at_deed (λ a. Evaluate (term_at w.code at) (party_of a w) (over (frame.Seq s c) w a)) w
+
+-- what a loop does after a turn begins
+abbrev pub at_update : (turns at : ℕ) → View → Place
+at_update t at w = at_deed (λ a. Evaluate (term_at w.code at) (party_of a w) (over (frame.Updated t) w a)) w
+
+-- a copy of the innermost scope takes its place
+abbrev pub at_copy : View → Place
+at_copy w = at_deed (λ a. give value.Undefined (refreshed (party_of a w))) w
+
+-- a form was done at once where the machine stands, in so many steps
+pub record IsDone (at : ℕ) (old new : View) (v : Plain) (k : ℕ) : Type 0 where
+  pub does : DoesAtOnce (sight_of old) old.common at (value_of v) new.objects new.scopes k
+  pub depth : old.depth + 2 < MAX_DEPTH
+  pub is : new ≡ record old { objects = new.objects; scopes = new.scopes }
 
 -- by what came of a form
 abbrev pub CameOf : How → (left : ℕ) → (old new : View) → (from : Place) → Seat → (rest : ℕ) → Type 0

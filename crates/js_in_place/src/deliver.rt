@@ -15,27 +15,15 @@ ghost use Rattle.js_machine.specs.js_run.Truth.{to_boolean};
 ghost use Rattle.js_state.specs.Scopes.{outwards, slot_of};
 
 use crate::frames::{newest_frame, take_off};
-use crate::spot::{Spot, Stand, at_form, at_value, stopped_at};
 use crate::scopes::{has_local, write_local};
+use crate::spot::{Spot, Stand, at_form, at_value, stopped_at};
 use crate::waits::{in_order, next_turn, test, turn};
 use js_direct::plain::Plain;
+use js_direct::truths::is_true;
 use js_machine::frame::Frame;
 use js_machine::machine::Machine;
 use js_machine_statements::slots::stand_in;
 use lava_base::memory::OutOfMemory;
-
-/// Whether a plain value counts as true (ECMA-262, ToBoolean).
-#[inline]
-fn is_true(value: Plain) -> bool
-    ensures { result ≡ to_boolean (value_of value) }
-{
-    match value {
-        Plain::Undefined | Plain::Null => false,
-        Plain::Bool(truth) => truth,
-        Plain::Int(number) => number != 0,
-        Plain::Ref(_) => true,
-    }
-}
 
 /// A form in a scope is over.
 #[inline]
@@ -96,7 +84,13 @@ fn init_slot(machine: &mut Machine, hops: u32, slot: u32, value: Plain, left: u6
 
 /// One of two forms follows, by the truth of a value; where there is no second one, undefined is given.
 #[inline]
-fn choose(machine: &Machine, value: Plain, consequent: u32, alternate: Option<u32>, left: u64) -> Stand
+fn choose(
+    machine: &Machine,
+    value: Plain,
+    consequent: u32,
+    alternate: Option<u32>,
+    left: u64,
+) -> Stand
     ensures { let term = term_at machine.now.code in
         LedTo (λ a. branch (value_of value) (term consequent) (option_map term alternate)
         (party_of a machine.now)) left machine.now machine.now result }

@@ -1,9 +1,15 @@
 // Forms that hold others: each is begun, and what it holds is done in place as far as it gets. No form is deeper in another one than `MOST_DEEP`.
 
+ghost use Rattle.std.specs.Prelude.{◌≡◌, ◌<◌};
+ghost use Rattle.js_code.specs.Decoded.{layer_of, term_at};
+ghost use Rattle.js_in_place.specs.Places.{IsPart, IsWent, at_form, at_item, at_list, at_scope, at_test, at_update};
+ghost use Rattle.js_term.specs.declared.term.Term.{out-Term};
+
 use crate::back::{back_from_scope, back_from_turn, back_from_update, back_in_list};
 use crate::here::{choose_one, choose_two, fresh, starts_loop, truth_here};
 use crate::leaves::{do_leaf, fresh_item, leaf_item};
 use crate::seat::{How, Seat, Went, given, next, stopped, went};
+use crate::waits::turn_row;
 use js_code::node::Node;
 use js_direct::plain::Plain;
 use js_machine::frame::Frame;
@@ -19,9 +25,20 @@ pub const MOST_FORMS: u32 = 1000;
 /// How often a loop turns before a run looks up.
 pub const MOST_TURNS: u32 = 1000000;
 
+/// The row of a place.
+#[inline(always)]
+fn node(machine: &Machine, at: u32) -> Node
+    ensures { let low = term_at machine.now.code in
+        out-Term (low at) ≡ layer_of machine.now.code low result }
+{
+    machine.code.node(at)
+}
+
 /// A form, and those that take its place, go as far as they get.
 #[cycle(form)]
-pub fn do_form(machine: &mut Machine, seat: &mut Seat, at: u32, left: u64, depth: u32) -> Went {
+pub fn do_form(machine: &mut Machine, seat: &mut Seat, at: u32, left: u64, depth: u32) -> Went
+    ensures { IsWent (at_form at machine.old) left machine.old machine.new seat.new result }
+{
     let mut at = at;
     let mut left = left;
     for _i in 0..MOST_FORMS {
@@ -43,8 +60,12 @@ pub fn do_form(machine: &mut Machine, seat: &mut Seat, at: u32, left: u64, depth
 /// A form goes as far as it gets, or is done at once.
 #[cycle(form)]
 #[inline(always)]
-fn do_row(machine: &mut Machine, seat: &mut Seat, at: u32, left: u64, depth: u32) -> Went {
-    match machine.code.node(at) {
+fn do_row(machine: &mut Machine, seat: &mut Seat, at: u32, left: u64, depth: u32) -> Went
+    requires some { 0 < left }
+    requires deep { 0 < depth }
+    ensures { IsWent (at_form at machine.old) left machine.old machine.new seat.new result }
+{
+    match node(machine, at) {
         Node::Seq { start, count } => do_items(machine, seat, start, count, left - 1, depth - 1),
         Node::Scope { slots, body } => do_scope(machine, seat, slots, body, left - 1, depth - 1),
         Node::Loop {
@@ -72,7 +93,9 @@ fn do_items(
     count: u32,
     left: u64,
     depth: u32,
-) -> Went {
+) -> Went
+    ensures { IsWent (at_list start count machine.old) left machine.old machine.new seat.new result }
+{
     let Ok(there) = machine.listed(start, count) else {
         return went(How::Failed, left);
     };
@@ -115,8 +138,11 @@ fn do_item(
     count: u32,
     left: u64,
     depth: u32,
-) -> Went {
-    match machine.code.node(at) {
+) -> Went
+    ensures { IsPart (at_item at start count machine.old) (at_list start count machine.new) left machine.old
+        machine.new seat.new result }
+{
+    match node(machine, at) {
         Node::Fresh => fresh_item(machine, seat, at, start, count, left),
         node if holds_others(node) => {
             if machine.push_frame(Frame::Seq { start, count }).is_err() {
@@ -142,7 +168,9 @@ fn do_scope(
     body: u32,
     left: u64,
     depth: u32,
-) -> Went {
+) -> Went
+    ensures { IsWent (at_scope slots body machine.old) left machine.old machine.new seat.new result }
+{
     let scope = machine.standing();
     if enter(machine, slots).is_err() {
         return went(How::Failed, left);
@@ -160,7 +188,9 @@ fn do_scope(
 /// The turns of a loop that begins with its test (ECMA-262, LoopEvaluation).
 #[cycle(form)]
 #[inline(never)]
-fn do_loop(machine: &mut Machine, seat: &mut Seat, turns: u32, left: u64, depth: u32) -> Went {
+fn do_loop(machine: &mut Machine, seat: &mut Seat, turns: u32, left: u64, depth: u32) -> Went
+    ensures { IsWent (at_test turns machine.old) left machine.old machine.new seat.new result }
+{
     let mut left = left;
     for _i in 0..MOST_TURNS {
         let step = do_turn(machine, seat, turns, left, depth);
@@ -175,8 +205,11 @@ fn do_loop(machine: &mut Machine, seat: &mut Seat, turns: u32, left: u64, depth:
 /// The test of a loop, and a turn.
 #[cycle(form)]
 #[inline(always)]
-fn do_turn(machine: &mut Machine, seat: &mut Seat, turns: u32, left: u64, depth: u32) -> Went {
-    let row = machine.code.turn(turns);
+fn do_turn(machine: &mut Machine, seat: &mut Seat, turns: u32, left: u64, depth: u32) -> Went
+    ensures { IsPart (at_test turns machine.old) (at_test turns machine.new) left machine.old
+        machine.new seat.new result }
+{
+    let row = turn_row(machine, turns);
     let truth = truth_here(machine, row.test);
     let price = u64::from(truth.steps);
     if price == 0 || price > left {
@@ -214,7 +247,10 @@ fn do_update(
     update: u32,
     left: u64,
     depth: u32,
-) -> Went {
+) -> Went
+    ensures { IsPart (at_update turns update machine.old) (at_test turns machine.new) left machine.old
+        machine.new seat.new result }
+{
     if machine.push_frame(Frame::Updated { turns }).is_err() {
         return went(How::Failed, left);
     }

@@ -1,7 +1,16 @@
 // What is done at once where the machine stands.
 
+ghost use Rattle.std.specs.Prelude.{◌≡◌, ◌<◌, ◌≤◌};
+ghost use Rattle.js_code.specs.Decoded.{layer_of, term_at};
+ghost use Rattle.js_code.specs.declared.node.Node.TheVariants as node_kind;
+ghost use Rattle.js_direct.specs.Direct.{GivesTruth};
+ghost use Rattle.js_in_place.specs.InPlace.{sight_of};
+ghost use Rattle.js_in_place.specs.Places.{IsDone, IsWent, at_copy, at_form, at_test};
+ghost use Rattle.js_term.specs.declared.term.Term.{out-Term};
+
 use crate::scopes::enter_copy;
 use crate::seat::{How, Seat, Went, given, next, stopped, went};
+use crate::waits::turn_row;
 use js_direct::done::done_at;
 use js_direct::plain::Plain;
 use js_direct::truths::{Truth, truth_at};
@@ -11,8 +20,12 @@ use js_machine::machine::Machine;
 
 /// A form is done at once, where its steps are at most so many: gives the steps, and none where nothing was done.
 #[inline(always)]
-pub fn done_here(machine: &mut Machine, seat: &mut Seat, at: u32, left: u64) -> u32 {
-    if machine.depth >= MAX_DEPTH {
+pub fn done_here(machine: &mut Machine, seat: &mut Seat, at: u32, left: u64) -> u32
+    ensures done { 0 < result → IsDone at machine.old machine.new seat.new.value result }
+    ensures within { result ≤ left }
+    ensures none { result ≡ 0 → machine.new ≡ machine.old }
+{
+    if machine.depth >= MAX_DEPTH - 2 {
         return 0;
     }
     let scope = machine.standing();
@@ -29,7 +42,9 @@ pub fn done_here(machine: &mut Machine, seat: &mut Seat, at: u32, left: u64) -> 
 
 /// Whether what a form gives at once counts as true.
 #[inline(always)]
-pub fn truth_here(machine: &Machine, at: u32) -> Truth {
+pub fn truth_here(machine: &Machine, at: u32) -> Truth
+    ensures { 0 < result.steps → GivesTruth (sight_of machine.now) at result }
+{
     truth_at(
         &machine.code,
         &machine.store,
@@ -48,7 +63,11 @@ pub fn choose_one(
     test: u32,
     consequent: u32,
     left: u64,
-) -> Went {
+) -> Went
+    ensures { let term = term_at machine.now.code in
+        out-Term (term at) ≡ layer_of machine.now.code term (node_kind.If test consequent)
+        → IsWent (at_form at machine.now) left machine.now machine.now seat.new result }
+{
     let truth = truth_here(machine, test);
     let price = u64::from(truth.steps);
     if price == 0 || price >= left {
@@ -71,7 +90,12 @@ pub fn choose_two(
     consequent: u32,
     alternate: u32,
     left: u64,
-) -> Went {
+) -> Went
+    ensures { let term = term_at machine.now.code in
+        let row = node_kind.IfElse test consequent alternate in
+        out-Term (term at) ≡ layer_of machine.now.code term row
+        → IsWent (at_form at machine.now) left machine.now machine.now seat.new result }
+{
     let truth = truth_here(machine, test);
     let price = u64::from(truth.steps);
     if price == 0 || price >= left {
@@ -85,7 +109,9 @@ pub fn choose_two(
 }
 
 /// A copy of the innermost scope takes its place (ECMA-262, CreatePerIterationEnvironment).
-pub fn fresh(machine: &mut Machine, seat: &mut Seat, left: u64) -> Went {
+pub fn fresh(machine: &mut Machine, seat: &mut Seat, left: u64) -> Went
+    ensures { IsWent (at_copy machine.old) left machine.old machine.new seat.new result }
+{
     match enter_copy(machine) {
         Ok(_) => given(seat, Plain::Undefined, left),
         Err(_) => went(How::Failed, left),
@@ -94,8 +120,10 @@ pub fn fresh(machine: &mut Machine, seat: &mut Seat, left: u64) -> Went {
 
 /// The test of a loop's next turn is to begin.
 #[inline(never)]
-pub fn starts_loop(machine: &mut Machine, seat: &mut Seat, turns: u32, left: u64) -> Went {
-    let row = machine.code.turn(turns);
+pub fn starts_loop(machine: &mut Machine, seat: &mut Seat, turns: u32, left: u64) -> Went
+    ensures { IsWent (at_test turns machine.old) left machine.old machine.new seat.new result }
+{
+    let row = turn_row(machine, turns);
     if machine.push_frame(Frame::Tested { turns }).is_err() {
         return went(How::Failed, left);
     }

@@ -21,18 +21,6 @@ use js_machine_statements::blocks::enter;
 use js_machine_statements::slots::stand_in;
 use lava_base::memory::OutOfMemory;
 
-/// A form in a new scope.
-#[inline]
-pub fn begin_scope(machine: &mut Machine, count: u32, body: u32, left: u64) -> Result<Stand, OutOfMemory>
-    ensures { let term = term_at machine.old.code body in
-        IfOk result (LedTo (λ a. inside (replicate count None) term (party_of a machine.old) Give)
-        left machine.old machine.new) }
-{
-    let scope = machine.standing();
-    enter(machine, count)?;
-    wait(machine, Frame::ScopeExit { scope }, body, left)
-}
-
 /// The body that runs enters a copy of the scope where it stands.
 #[inline]
 pub fn enter_copy(machine: &mut Machine) -> Result<(), OutOfMemory>
@@ -42,16 +30,6 @@ pub fn enter_copy(machine: &mut Machine) -> Result<(), OutOfMemory>
     let scope = machine.scopes.open_copy(here)?;
     stand_in(machine, scope);
     Ok(())
-}
-
-/// A copy of the innermost scope takes its place (ECMA-262, CreatePerIterationEnvironment).
-#[inline]
-pub fn refresh(machine: &mut Machine, left: u64) -> Result<Stand, OutOfMemory>
-    ensures { IfOk result (LedTo (λ a. give value_kind.Undefined (refreshed (party_of a
-        machine.old))) left machine.old machine.new) }
-{
-    enter_copy(machine)?;
-    Ok(at_value(Plain::Undefined, left))
 }
 
 /// Whether a slot so many hops outwards is initialised.

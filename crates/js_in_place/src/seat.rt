@@ -35,7 +35,7 @@ pub struct Seat {
     pub value: Plain,
 }
 
-/// A form that so much is left for.
+/// What came of a form, with so much left.
 #[inline(always)]
 pub fn went(how: How, left: u64) -> Went
     ensures { result ≡ record { how = how; left = left } }

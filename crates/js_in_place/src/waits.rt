@@ -1,13 +1,14 @@
 // Forms that others wait for.
 
-ghost use Rattle.std.specs.Prelude.{IfOk};
-ghost use Rattle.js_code.specs.Decoded.{term_at, terms_of};
+ghost use Rattle.std.specs.Prelude.{◌≡◌, IfOk, get_or};
+ghost use Rattle.js_code.specs.Decoded.{no_turn_row, term_at, terms_of};
 ghost use Rattle.js_in_place.specs.InPlace.{LedTo, WaitsIn};
 ghost use Rattle.js_machine.specs.Views.{party_of, turns_at};
 ghost use Rattle.js_machine.specs.js_run.Acts.{Evaluate, Tested, Turned, next_turn};
 ghost use Rattle.js_machine.specs.js_run.Control.{in_order, loop_begins};
 
 use crate::spot::{Stand, at_form, at_value};
+use js_code::node::TurnRow;
 use js_direct::plain::Plain;
 use js_machine::frame::Frame;
 use js_machine::machine::Machine;
@@ -24,9 +25,15 @@ pub fn wait(machine: &mut Machine, frame: Frame, at: u32, left: u64) -> Result<S
 
 /// Forms in their order; the last one takes the place of the list (ECMA-262, "Block").
 #[inline]
-pub fn in_order(machine: &mut Machine, start: u32, count: u32, left: u64) -> Result<Stand, OutOfMemory>
+pub fn in_order(
+    machine: &mut Machine,
+    start: u32,
+    count: u32,
+    left: u64,
+) -> Result<Stand, OutOfMemory>
     ensures { let terms = terms_of machine.old.code (term_at machine.old.code) start count in
-        IfOk result (LedTo (λ a. in_order terms (party_of a machine.old)) left machine.old machine.new) }
+        IfOk result (LedTo (λ a. in_order terms (party_of a machine.old)) left
+        machine.old machine.new) }
 {
     let there = machine.listed(start, count)?;
     if there == 0 {
@@ -43,6 +50,14 @@ pub fn in_order(machine: &mut Machine, start: u32, count: u32, left: u64) -> Res
     wait(machine, rest, first, left)
 }
 
+/// What a loop does each turn.
+#[inline]
+pub fn turn_row(machine: &Machine, turns: u32) -> TurnRow
+    ensures { result ≡ get_or machine.now.code.turns turns no_turn_row }
+{
+    machine.code.turn(turns)
+}
+
 /// The test of a loop's next turn.
 #[inline]
 pub fn test(machine: &mut Machine, turns: u32, left: u64) -> Result<Stand, OutOfMemory>
@@ -50,7 +65,7 @@ pub fn test(machine: &mut Machine, turns: u32, left: u64) -> Result<Stand, OutOf
         IfOk result (LedTo (λ a. Evaluate turn.test (party_of a machine.old) (Tested turn)) left
         machine.old machine.new) }
 {
-    let row = machine.code.turn(turns);
+    let row = turn_row(machine, turns);
     wait(machine, Frame::Tested { turns }, row.test, left)
 }
 
@@ -61,21 +76,8 @@ pub fn turn(machine: &mut Machine, turns: u32, left: u64) -> Result<Stand, OutOf
         IfOk result (LedTo (λ a. Evaluate turn.body (party_of a machine.old) (Turned turn)) left
         machine.old machine.new) }
 {
-    let row = machine.code.turn(turns);
+    let row = turn_row(machine, turns);
     wait(machine, Frame::Turned { turns }, row.body, left)
-}
-
-/// A loop begins with its test or with its first turn.
-#[inline]
-pub fn begin_loop(machine: &mut Machine, turns: u32, tests_first: bool, left: u64) -> Result<Stand, OutOfMemory>
-    ensures { let turn = turns_at machine.old.code turns in
-        IfOk result (LedTo (λ a. loop_begins tests_first turn (party_of a machine.old)) left
-        machine.old machine.new) }
-{
-    if tests_first {
-        return test(machine, turns, left);
-    }
-    turn(machine, turns, left)
 }
 
 /// What a loop does after a turn, and then the next one.
@@ -85,7 +87,7 @@ pub fn next_turn(machine: &mut Machine, turns: u32, left: u64) -> Result<Stand, 
         IfOk result (LedTo (λ a. next_turn turn turn.update (party_of a machine.old)) left
         machine.old machine.new) }
 {
-    match machine.code.turn(turns).update {
+    match turn_row(machine, turns).update {
         None => test(machine, turns, left),
         Some(update) => wait(machine, Frame::Updated { turns }, update, left),
     }

@@ -3,7 +3,8 @@ use Rattle.js_state.specs.Scopes.{outwards, slot_of}
 use Rattle.js_machine.specs.Bodies.{scope_of}
 use Rattle.js_machine.specs.Views.{View}
 use Rattle.js_machine.specs.declared.frame.Frame.TheVariants as frame
-use Rattle.js_in_place.proofs.Gone.{comes_in, comes_to}
+use Rattle.js_in_place.specs.declared.spot.Spot.TheVariants as spot
+use Rattle.js_in_place.proofs.Gone.{comes_in, comes_to, still}
 use Rattle.js_in_place.proofs.deliver.deliver.Goals as goal
 
 pub returns-in-Seq : goal.returns-in-Seq
@@ -38,10 +39,22 @@ pub returns-in-IfElse : goal.returns-in-IfElse
 returns-in-IfElse c =
     comes_to c.newest_frame.result c.in-Some.frame (frame.IfElse c.in-IfElse.consequent c.in-IfElse.alternate) c.args.value c.args.left c.args.machine.now c.take_off-in-IfElse.new.machine c.take_off-in-IfElse.new.machine c.choose-in-IfElse.result c.newest_frame.ensures c.in-Some.is c.in-IfElse.is c.take_off-in-IfElse.ensures c.choose-in-IfElse.ensures
 
-pub returns-in-SetLocal : goal.returns-in-SetLocal
-returns-in-SetLocal c =
+pub returns-else-not-can_set : goal.returns-else-not-can_set
+returns-else-not-can_set c =
     let can : c.can_set.result ≡ true = grind (arith, c.if-not-can_set.false) in
     let low : is_some (slot_of c.take_off-in-SetLocal.new.machine.scopes (outwards c.take_off-in-SetLocal.new.machine.scopes c.in-SetLocal.hops (scope_of c.take_off-in-SetLocal.new.machine.bodies)) c.in-SetLocal.slot) ≡ true =
     ap (λ (w : View). is_some (slot_of w.scopes (outwards w.scopes c.in-SetLocal.hops (scope_of w.bodies)) c.in-SetLocal.slot)) c.take_off-in-SetLocal.ensures ∙ c.can_set.ensures.there can in
     comes_to c.newest_frame.result c.in-Some.frame (frame.SetLocal c.in-SetLocal.hops c.in-SetLocal.slot false) c.args.value c.args.left c.args.machine.now c.take_off-in-SetLocal.new.machine c.set_slot.new.machine c.set_slot.result c.newest_frame.ensures c.in-Some.is
     (c.in-SetLocal.is ∙ ap (λ b. frame.SetLocal c.in-SetLocal.hops c.in-SetLocal.slot b) (c.can_set.ensures.changes can)) c.take_off-in-SetLocal.ensures (c.set_slot.ensures low)
+
+pub returns-then-not-can_set : goal.returns-then-not-can_set
+returns-then-not-can_set c =
+    still (spot.Given c.args.value) c.args.left c.args.machine.now c.stopped_at-then-not-can_set.result c.stopped_at-then-not-can_set.ensures.spot c.stopped_at-then-not-can_set.ensures.left
+
+pub returns-in_default-frame : goal.returns-in_default-frame
+returns-in_default-frame c =
+    still (spot.Given c.args.value) c.args.left c.args.machine.now c.stopped_at-in_default-frame.result c.stopped_at-in_default-frame.ensures.spot c.stopped_at-in_default-frame.ensures.left
+
+pub returns-in_default : goal.returns-in_default
+returns-in_default c =
+    still (spot.Given c.args.value) c.args.left c.args.machine.now c.stopped_at.result c.stopped_at.ensures.spot c.stopped_at.ensures.left

@@ -3,8 +3,8 @@ use Rattle.js_in_place.proofs.waits.next_turn.Goals as goal
 
 pub returns-in-None : goal.returns-in-None
 returns-in-None c =
-    test_follows c.test.result c.args.turns c.args.left c.turn.result c.args.machine.now c.test.new.machine c.turn.ensures c.in-None.is c.test.ensures
+    test_follows c.test.result c.args.turns c.args.left c.turn_row.result c.args.machine.now c.test.new.machine c.turn_row.ensures c.in-None.is c.test.ensures
 
 pub returns-in-Some : goal.returns-in-Some
 returns-in-Some c =
-    update_follows c.wait.result c.args.turns c.in-Some.update c.args.left c.turn.result c.args.machine.now c.wait.new.machine c.turn.ensures c.in-Some.is c.wait.ensures
+    update_follows c.wait.result c.args.turns c.in-Some.update c.args.left c.turn_row.result c.args.machine.now c.wait.new.machine c.turn_row.ensures c.in-Some.is c.wait.ensures

@@ -3,4 +3,4 @@ use Rattle.js_in_place.proofs.waits.turn.Goals as goal
 
 pub returns : goal.returns
 returns c =
-    turn_waits c.wait.result c.args.turns c.args.left c.turn-row.result c.args.machine.now c.wait.new.machine c.turn-row.ensures c.wait.ensures
+    turn_waits c.wait.result c.args.turns c.args.left c.turn_row-row.result c.args.machine.now c.wait.new.machine c.turn_row-row.ensures c.wait.ensures

@@ -17,8 +17,8 @@ returns-in_default c =
 pub loop-left-preserved : goal.loop-left-preserved
 loop-left-preserved c =
     let on = goes_on_to c.args.meter c.args.charges c.args.limit c.args.steps c.args.mode c.args.machine.now c.loop-left.left c.loop-left.left c.loop-left.spent c.loop-left.spent c.in_ok-went.went.used c.loop-left.mode c.in_ok-went.went.mode c.loop-left.machine c.advance.new.machine c.loop-left.invariant c.in_ok-went.ensures.goes (omega (arith, c.if-went-gt0.false)) (omega (arith, c.if-went-gt0.false)) in
-    works_on c.args.meter c.args.charges c.args.limit c.args.steps c.args.mode c.args.machine.now c.loop-left.left (c.loop-left.left - 1) c.loop-left.spent _ c.in-Some.cost (c.from-price.result + 1) c.charge_steps.result c.in_ok-went.went.mode c.in_ok-mode.mode c.advance.new.machine c.work.new.machine on
-    (sym c.cost.ensures ∙ c.in-Some.is) (omega (arith, c.from-price.ensures)) (omega (arith, c.loop-left-test.true)) refl c.charge_steps.ensures.charge c.in-Charged.is c.in_ok-mode.ensures
+    works_on c.args.meter c.args.charges c.args.limit c.args.steps c.args.mode c.args.machine.now c.loop-left.left (c.loop-left.left - 1) c.loop-left.spent _ c.in-Some.cost (c.from-price.result + 1) c.charge_steps.result c.in_ok-went.went.mode c.in_ok-mode-in-Charged.mode c.advance.new.machine c.work.new.machine on
+    (sym c.cost.ensures ∙ c.in-Some.is) (omega (arith, c.from-price.ensures)) (omega (arith, c.loop-left-test.true)) refl c.charge_steps.ensures.charge c.in-Charged.is c.in_ok-mode-in-Charged.ensures
 
 pub returns-in-Lacks : goal.returns-in-Lacks
 returns-in-Lacks c =
@@ -34,6 +34,6 @@ returns-in-Stops c =
 
 pub returns : goal.returns
 returns c =
-    last_there c.args.meter c.args.charges c.args.limit c.args.steps c.args.mode c.args.machine.now c.loop-left.left c.loop-left.spent c.stop_at-2.result c.in_ok-mode-2.mode c.settle.new.machine
-    (settles_on c.args.meter c.args.charges c.args.limit c.args.steps c.args.mode c.args.machine.now c.loop-left.left c.loop-left.spent c.loop-left.mode c.in_ok-mode-2.mode c.loop-left.machine c.settle.new.machine c.loop-left.invariant c.in_ok-mode-2.ensures.stays)
-    c.in_ok-mode-2.ensures.settled (omega (arith, c.loop-left-test.false)) (c.stop_at-2.ensures ∙ ap (stop_at c.settle.new.machine c.in_ok-mode-2.mode) c.paused-2.ensures)
+    last_there c.args.meter c.args.charges c.args.limit c.args.steps c.args.mode c.args.machine.now c.loop-left.left c.loop-left.spent c.stop_at-2.result c.in_ok-mode.mode c.settle.new.machine
+    (settles_on c.args.meter c.args.charges c.args.limit c.args.steps c.args.mode c.args.machine.now c.loop-left.left c.loop-left.spent c.loop-left.mode c.in_ok-mode.mode c.loop-left.machine c.settle.new.machine c.loop-left.invariant c.in_ok-mode.ensures.stays)
+    c.in_ok-mode.ensures.settled (omega (arith, c.loop-left-test.false)) (c.stop_at-2.ensures ∙ ap (stop_at c.settle.new.machine c.in_ok-mode.mode) c.paused-2.ensures)

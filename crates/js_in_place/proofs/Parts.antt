@@ -1,0 +1,192 @@
+-- Lists, loops and choices, by the places where a run stands in them.
+use Rattle.std.proofs.Common.{◌≡◌, ℕ, suc, ◌+◌, ◌-◌, ◌≤◌, ◌<◌, Bool, true, false, List, [], ◌∷◌, get_or, length, map, replicate, drop, Option, Some, None, refl, sym, ap, ◌∙◌, subst, arith, if◌then◌else◌}
+use Rattle.std.specs.Option.{option_map}
+use Rattle.lava_base.specs.declared.ids.MadeSymbol.{MadeSymbol}
+use Rattle.lava_base.specs.declared.ids.Ref.{Ref}
+use Rattle.js_text.specs.Naming.{naming_of}
+use Rattle.js_text.specs.declared.value.Value.{Value}
+use Rattle.js_text.specs.declared.value.Value.TheVariants as value
+use Rattle.js_code.specs.Decoded.{layer_of, no_turn_row, term_at}
+use Rattle.js_code.specs.Tables.{part_of}
+use Rattle.js_code.specs.declared.node.Node.{Node}
+use Rattle.js_code.specs.declared.node.Node.TheVariants as node
+use Rattle.js_code.specs.declared.node.TurnRow.{TurnRow}
+use Rattle.js_term.specs.declared.term.Term.{out-Term}
+use Rattle.js_direct.specs.Direct.{GivesTruth, value_of}
+use Rattle.js_direct.specs.declared.plain.Plain.{Plain}
+use Rattle.js_direct.specs.declared.plain.Plain.TheVariants as plain
+use Rattle.js_direct.specs.declared.truths.Truth.{Truth}
+use Rattle.js_machine.specs.Bodies.{scope_of, stood_in}
+use Rattle.js_machine.specs.Steps.{deed_with, over, under}
+use Rattle.js_machine.specs.Views.{View, newest, party_of, turns_at, with_copy, with_scope}
+use Rattle.js_machine.specs.declared.frame.Frame.{Frame}
+use Rattle.js_machine.specs.declared.frame.Frame.TheVariants as frame
+use Rattle.js_machine.specs.js_run.Acts.{Become, Evaluate, Give, Tested, Turned, give, next_turn, with_value}
+use Rattle.js_machine.specs.js_run.Control.{branch, in_order, otherwise}
+use Rattle.js_machine.specs.js_run.Rows.{if_test}
+use Rattle.js_machine.specs.js_run.Truth.{to_boolean}
+use Rattle.js_machine.proofs.Listed.{part_first, part_within}
+use Rattle.js_in_place.specs.InPlace.{sight_of}
+use Rattle.js_in_place.specs.Places.{ComesTo, Place, after_turn, at_copy, at_deed, at_form, at_item, at_list, at_scope, at_test, at_turn, at_update, at_value}
+use Rattle.js_in_place.proofs.Placed.{all_kept, gives_under, popped, pushed, row_done, same_place, still, then_to}
+
+-- LISTS
+
+abbrev listed : List ℕ → View → Place
+listed ns w = at_deed (λ a. in_order (map (term_at w.code) ns) (party_of a w)) w
+
+none_by : (ns : List ℕ) (left : ℕ) (w : View) → 0 ≡ length ns → ComesTo left w w (listed ns w) (at_value plain.Undefined w) left
+none_by [] left w e = same_place left w w (listed [] w) (at_value plain.Undefined w) (all_kept w) (λ a. refl)
+none_by (n ∷ ns) left w e = cc
+
+one_by : (n : ℕ) (ns : List ℕ) (left : ℕ) (w : View) → 1 ≡ length (n ∷ ns) → ComesTo left w w (listed (n ∷ ns) w) (at_form n w) left
+one_by n [] left w e = same_place left w w (listed (n ∷ []) w) (at_form n w) (all_kept w) (λ a. refl)
+one_by n (k ∷ ns) left w e = cc
+
+abbrev first_of : ℕ → List ℕ → View → Place
+first_of n ns w = at_deed (λ a. Evaluate (term_at w.code n) (party_of a w) (with_value (λ v p. in_order (map (term_at w.code) ns) p))) w
+
+more_by : (n : ℕ) (ns : List ℕ) (left : ℕ) (w : View) → 2 ≤ length (n ∷ ns) → ComesTo left w w (listed (n ∷ ns) w) (first_of n ns w) left
+more_by n [] left w l = absurd (omega (arith, l))
+more_by n (k ∷ ns) left w l = still left w (first_of n (k ∷ ns) w)
+
+pub list_empty : (n s c left : ℕ) (w : View) → n ≡ length (part_of s c w.code.numbers) → n ≡ 0 → ComesTo left w w (at_list s c w) (at_value plain.Undefined w) left
+list_empty n s c left w e z = none_by (part_of s c w.code.numbers) left w (sym z ∙ e)
+
+-- the last form takes the place of the list
+pub list_ends : (n s c left : ℕ) (w : View) → n ≡ length (part_of s c w.code.numbers) → n ≡ 1 → n ≤ c → ComesTo left w w (at_list s c w) (at_form (get_or w.code.numbers s 0) w) left
+list_ends n s c left w e z l =
+    let ns = w.code.numbers in
+    let first = part_first ns s c (suc s) (c - 1) (omega (arith, z, l)) refl (part_within ns s c (omega (arith, e, z))) in
+    let one : 1 ≡ length (get_or ns s 0 ∷ part_of (suc s) (c - 1) ns) = sym z ∙ e ∙ ap (λ xs. length xs) first in
+    subst (λ xs. ComesTo left w w (listed xs w) (at_form (get_or ns s 0) w) left) (sym first) (one_by (get_or ns s 0) (part_of (suc s) (c - 1) ns) left w one)
+
+-- the first of several begins
+pub list_begins : (n s c s' c' left : ℕ) (w : View) → n ≡ length (part_of s c w.code.numbers) → 2 ≤ n → n ≤ c → s' ≡ s + 1 → c' ≡ c - 1 → ComesTo left w w (at_list s c w) (at_item (get_or w.code.numbers s 0) s' c' w) left
+list_begins n s c s' c' left w e z l p q =
+    let ns = w.code.numbers in
+    let first = part_first ns s c s' c' (omega (arith, z, l, q)) (omega (arith, p)) (part_within ns s c (omega (arith, e, z))) in
+    let two : 2 ≤ length (get_or ns s 0 ∷ part_of s' c' ns) = subst (λ k. 2 ≤ k) (e ∙ ap (λ xs. length xs) first) z in
+    subst (λ xs. ComesTo left w w (listed xs w) (at_item (get_or ns s 0) s' c' w) left) (sym first) (more_by (get_or ns s 0) (part_of s' c' ns) left w two)
+
+-- so many are left then
+pub list_shorter : (ns : List ℕ) (n s c s' c' : ℕ) → n ≡ length (part_of s c ns) → 1 ≤ n → n ≤ c → s' ≡ s + 1 → c' ≡ c - 1 → n - 1 ≡ length (part_of s' c' ns)
+list_shorter ns n s c s' c' e z l p q =
+    let first = part_first ns s c s' c' (omega (arith, z, l, q)) (omega (arith, p)) (part_within ns s c (omega (arith, e, z))) in
+    let same : n ≡ suc (length (part_of s' c' ns)) = e ∙ ap (λ xs. length xs) first in
+    omega (arith, same)
+
+-- a form of a list begins over its frame, and comes back to it
+pub item_waits : (at s c left : ℕ) (w : View) → ComesTo left w (record w { frames = frame.Seq s c ∷ w.frames }) (at_item at s c w) (at_form at (record w { frames = frame.Seq s c ∷ w.frames })) left
+item_waits at s c left w = pushed (frame.Seq s c) at left w
+
+pub list_follows : (s c left : ℕ) (v : Plain) (old low : View) → newest old.frames ≡ Some (frame.Seq s c) → low ≡ record old { frames = drop 1 old.frames } → ComesTo left old low (at_value v old) (at_list s c low) left
+list_follows s c left v old low e d = popped (frame.Seq s c) v left old low e d
+
+-- SCOPES
+
+pub scope_entered : (n at left : ℕ) (w : View) → (let inner = with_scope (replicate n None) w in let new = record inner { frames = frame.ScopeExit (scope_of w.bodies) ∷ inner.frames } in ComesTo left w new (at_scope n at w) (at_form at new) left)
+scope_entered n at left w =
+    let inner = with_scope (replicate n None) w in
+    let new = record inner { frames = frame.ScopeExit (scope_of w.bodies) ∷ inner.frames } in
+    same_place left w new (at_scope n at w) (at_form at new) (all_kept w) (λ a. refl)
+
+pub scope_left : (back left : ℕ) (v : Plain) (old low new : View) → newest old.frames ≡ Some (frame.ScopeExit back) → low ≡ record old { frames = drop 1 old.frames } → new ≡ record low { bodies = stood_in back low.bodies } → ComesTo left old new (at_value v old) (at_value v new) left
+scope_left back left v old low new e d f =
+    then_to left left left old low new (at_value v old) (at_deed (deed_with (frame.ScopeExit back) (value_of v) low) low) (at_value v new) (popped (frame.ScopeExit back) v left old low e d)
+    (subst (λ x. ComesTo left low x (at_deed (deed_with (frame.ScopeExit back) (value_of v) low) low) (at_value v x) left) (sym f)
+      (same_place left low (record low { bodies = stood_in back low.bodies }) (at_deed (deed_with (frame.ScopeExit back) (value_of v) low) low) (at_value v (record low { bodies = stood_in back low.bodies })) (all_kept low) (λ a. refl)))
+
+pub copy_entered : (left : ℕ) (old new : View) → new ≡ with_copy old → ComesTo left old new (at_copy old) (at_value plain.Undefined new) left
+copy_entered left old new e = subst (λ x. ComesTo left old x (at_copy old) (at_value plain.Undefined x) left) (sym e) (same_place left old (with_copy old) (at_copy old) (at_value plain.Undefined (with_copy old)) (all_kept old) (λ a. refl))
+
+-- LOOPS
+
+-- a turn begins over its frame, and comes back to it
+pub turn_waits : (t left : ℕ) (row : TurnRow) (w : View) → row ≡ get_or w.code.turns t no_turn_row → ComesTo left w (record w { frames = frame.Turned t ∷ w.frames }) (at_turn t w) (at_form row.body (record w { frames = frame.Turned t ∷ w.frames })) left
+turn_waits t left row w e =
+    let new = record w { frames = frame.Turned t ∷ w.frames } in
+    subst (λ (x : TurnRow). ComesTo left w new (at_turn t w) (at_form x.body new) left) (sym e) (pushed (frame.Turned t) (get_or w.code.turns t no_turn_row).body left w)
+
+pub test_waits : (t left : ℕ) (row : TurnRow) (w : View) → row ≡ get_or w.code.turns t no_turn_row → ComesTo left w (record w { frames = frame.Tested t ∷ w.frames }) (at_test t w) (at_form row.test (record w { frames = frame.Tested t ∷ w.frames })) left
+test_waits t left row w e =
+    let new = record w { frames = frame.Tested t ∷ w.frames } in
+    subst (λ (x : TurnRow). ComesTo left w new (at_test t w) (at_form x.test new) left) (sym e) (pushed (frame.Tested t) (get_or w.code.turns t no_turn_row).test left w)
+
+pub turn_over : (t left : ℕ) (v : Plain) (old low : View) → newest old.frames ≡ Some (frame.Turned t) → low ≡ record old { frames = drop 1 old.frames } → ComesTo left old low (at_value v old) (after_turn t low) left
+turn_over t left v old low e d = popped (frame.Turned t) v left old low e d
+
+pub update_over : (t left : ℕ) (v : Plain) (old low : View) → newest old.frames ≡ Some (frame.Updated t) → low ≡ record old { frames = drop 1 old.frames } → ComesTo left old low (at_value v old) (at_test t low) left
+update_over t left v old low e d = popped (frame.Updated t) v left old low e d
+
+pub update_waits : (t at left : ℕ) (w : View) → ComesTo left w (record w { frames = frame.Updated t ∷ w.frames }) (at_update t at w) (at_form at (record w { frames = frame.Updated t ∷ w.frames })) left
+update_waits t at left w = pushed (frame.Updated t) at left w
+
+abbrev after_by : Option ℕ → (turns : ℕ) → View → Place
+after_by o t w = at_deed (λ a. next_turn (turns_at w.code t) (option_map (term_at w.code) o) (party_of a w)) w
+
+-- what a loop does after a turn, by its row
+pub updates : (t at left : ℕ) (row : TurnRow) (w : View) → row ≡ get_or w.code.turns t no_turn_row → row.update ≡ Some at → ComesTo left w w (after_turn t w) (at_update t at w) left
+updates t at left row w e n = subst (λ o. ComesTo left w w (after_by o t w) (at_update t at w) left) (sym n ∙ ap (λ (x : TurnRow). x.update) e) (still left w (at_update t at w))
+
+pub updates_nothing : (t left : ℕ) (row : TurnRow) (w : View) → row ≡ get_or w.code.turns t no_turn_row → row.update ≡ None → ComesTo left w w (after_turn t w) (at_test t w) left
+updates_nothing t left row w e n = subst (λ o. ComesTo left w w (after_by o t w) (at_test t w) left) (sym n ∙ ap (λ (x : TurnRow). x.update) e) (still left w (at_test t w))
+
+-- a test that gives its truth value at once
+abbrev tested_by : Bool → (turns : ℕ) → View → Place
+tested_by b t w = at_deed (λ a. if b then Evaluate (turns_at w.code t).body (party_of a w) (Turned (turns_at w.code t)) else give value.Undefined (party_of a w)) w
+
+tests : (t at left rest : ℕ) (row : TurnRow) (x : Truth) (w : View) → row ≡ get_or w.code.turns t no_turn_row → GivesTruth (sight_of w) row.test x → x.steps ≤ left → rest ≡ left - x.steps → ComesTo left w w (at_test t w) (tested_by x.truth t w) rest
+tests t at left rest row x w e h l d =
+    let g = subst (λ (y : TurnRow). GivesTruth (sight_of w) y.test x) e h in
+    subst (λ b. ComesTo left w w (at_test t w) (tested_by b t w) rest) g.truth (gives_under (get_or w.code.turns t no_turn_row).test left x.steps rest g.value w (λ a. Tested (turns_at w.code t)) g.gives l d)
+
+pub turns : (t left rest : ℕ) (row : TurnRow) (x : Truth) (w : View) → row ≡ get_or w.code.turns t no_turn_row → GivesTruth (sight_of w) row.test x → x.steps ≤ left → rest ≡ left - x.steps → x.truth ≡ true → ComesTo left w w (at_test t w) (at_turn t w) rest
+turns t left rest row x w e h l d y = subst (λ b. ComesTo left w w (at_test t w) (tested_by b t w) rest) y (tests t 0 left rest row x w e h l d)
+
+pub loop_ends : (t left rest : ℕ) (row : TurnRow) (x : Truth) (w : View) → row ≡ get_or w.code.turns t no_turn_row → GivesTruth (sight_of w) row.test x → x.steps ≤ left → rest ≡ left - x.steps → x.truth ≡ false → ComesTo left w w (at_test t w) (at_value plain.Undefined w) rest
+loop_ends t left rest row x w e h l d y =
+    then_to left rest rest w w w (at_test t w) (tested_by false t w) (at_value plain.Undefined w) (subst (λ b. ComesTo left w w (at_test t w) (tested_by b t w) rest) y (tests t 0 left rest row x w e h l d))
+    (same_place rest w w (tested_by false t w) (at_value plain.Undefined w) (all_kept w) (λ a. refl))
+
+-- CHOICES
+
+abbrev chosen_by : Bool → (consequent : ℕ) → Option ℕ → View → Place
+chosen_by b c o w = at_deed (λ a. if b then Become (term_at w.code c) (party_of a w) else otherwise (option_map (term_at w.code) o) (party_of a w)) w
+
+abbrev choice : (test consequent : ℕ) → Option ℕ → View → Place
+choice t c o w = at_deed (λ a. Evaluate (term_at w.code t) (party_of a w) (with_value (if_test (naming_of w.me) a.shared (term_at w.code c) (option_map (term_at w.code) o)))) w
+
+chooses : (t c left rest : ℕ) (o : Option ℕ) (x : Truth) (w : View) → GivesTruth (sight_of w) t x → x.steps ≤ left → rest ≡ left - x.steps → ComesTo left w w (choice t c o w) (chosen_by x.truth c o w) rest
+chooses t c left rest o x w h l d =
+    subst (λ b. ComesTo left w w (choice t c o w) (chosen_by b c o w) rest) h.truth
+    (gives_under t left x.steps rest h.value w (λ a. with_value (if_test (naming_of w.me) a.shared (term_at w.code c) (option_map (term_at w.code) o))) h.gives l d)
+
+abbrev pub if_row : Option ℕ → (test consequent : ℕ) → Node
+if_row None t c = node.If t c
+if_row (Some a) t c = node.IfElse t c a
+
+begins_choice : (at t c left : ℕ) (o : Option ℕ) (n : Node) (w : View) → n ≡ (if_row o t c) → out-Term (term_at w.code at) ≡ layer_of w.code (term_at w.code) n → 0 < left → ComesTo left w w (at_form at w) (choice t c o w) (left - 1)
+begins_choice at t c left None n w i e l = row_done at left (left - 1) (node.If t c) w (e ∙ ap (layer_of w.code (term_at w.code)) i) l refl
+begins_choice at t c left (Some x) n w i e l = row_done at left (left - 1) (node.IfElse t c x) w (e ∙ ap (layer_of w.code (term_at w.code)) i) l refl
+
+-- a form or none, by a test that gives its truth value at once
+pub first_chosen : (at t c left rest : ℕ) (o : Option ℕ) (n : Node) (x : Truth) (w : View) → n ≡ if_row o t c → out-Term (term_at w.code at) ≡ layer_of w.code (term_at w.code) n → x.steps < left → rest ≡ left - 1 - x.steps → GivesTruth (sight_of w) t x → x.truth ≡ true
+    → ComesTo left w w (at_form at w) (at_form c w) rest
+first_chosen at t c left rest o n x w i e l d h y =
+    then_to left (left - 1) rest w w w (at_form at w) (choice t c o w) (at_form c w) (begins_choice at t c left o n w i e (omega (arith, l)))
+    (subst (λ b. ComesTo (left - 1) w w (choice t c o w) (chosen_by b c o w) rest) y (chooses t c (left - 1) rest o x w h (omega (arith, l)) d))
+
+pub second_chosen : (at t c k left rest : ℕ) (n : Node) (x : Truth) (w : View) → n ≡ node.IfElse t c k → out-Term (term_at w.code at) ≡ layer_of w.code (term_at w.code) n → x.steps < left → rest ≡ left - 1 - x.steps → GivesTruth (sight_of w) t x → x.truth ≡ false
+    → ComesTo left w w (at_form at w) (at_form k w) rest
+second_chosen at t c k left rest n x w i e l d h y =
+    then_to left (left - 1) rest w w w (at_form at w) (choice t c (Some k) w) (at_form k w) (begins_choice at t c left (Some k) n w i e (omega (arith, l)))
+    (subst (λ b. ComesTo (left - 1) w w (choice t c (Some k) w) (chosen_by b c (Some k) w) rest) y (chooses t c (left - 1) rest (Some k) x w h (omega (arith, l)) d))
+
+pub none_chosen : (at t c left rest : ℕ) (n : Node) (x : Truth) (w : View) → n ≡ node.If t c → out-Term (term_at w.code at) ≡ layer_of w.code (term_at w.code) n → x.steps < left → rest ≡ left - 1 - x.steps → GivesTruth (sight_of w) t x → x.truth ≡ false
+    → ComesTo left w w (at_form at w) (at_value plain.Undefined w) rest
+none_chosen at t c left rest n x w i e l d h y =
+    then_to left (left - 1) rest w w w (at_form at w) (choice t c None w) (at_value plain.Undefined w) (begins_choice at t c left None n w i e (omega (arith, l)))
+    (then_to (left - 1) rest rest w w w (choice t c None w) (chosen_by false c None w) (at_value plain.Undefined w)
+      (subst (λ b. ComesTo (left - 1) w w (choice t c None w) (chosen_by b c None w) rest) y (chooses t c (left - 1) rest None x w h (omega (arith, l)) d))
+      (same_place rest w w (chosen_by false c None w) (at_value plain.Undefined w) (all_kept w) (λ a. refl)))
