@@ -1,5 +1,5 @@
 -- Lists, loops and choices, by the places where a run stands in them.
-use Rattle.std.proofs.Common.{◌≡◌, ℕ, suc, ◌+◌, ◌-◌, ◌≤◌, ◌<◌, Bool, true, false, List, [], ◌∷◌, get_or, length, map, replicate, drop, Option, Some, None, refl, sym, ap, ◌∙◌, subst, arith, if◌then◌else◌}
+use Rattle.std.proofs.Common.{◌≡◌, ℕ, suc, ◌+◌, ◌-◌, ◌≤◌, ◌<◌, Bool, true, false, not, List, [], ◌∷◌, get_or, length, map, replicate, drop, Option, Some, None, refl, sym, ap, ◌∙◌, subst, arith, if◌then◌else◌}
 use Rattle.std.specs.Option.{option_map}
 use Rattle.lava_base.specs.declared.ids.MadeSymbol.{MadeSymbol}
 use Rattle.lava_base.specs.declared.ids.Ref.{Ref}
@@ -17,18 +17,22 @@ use Rattle.js_direct.specs.declared.plain.Plain.{Plain}
 use Rattle.js_direct.specs.declared.plain.Plain.TheVariants as plain
 use Rattle.js_direct.specs.declared.truths.Truth.{Truth}
 use Rattle.js_machine.specs.Bodies.{scope_of, stood_in}
-use Rattle.js_machine.specs.Steps.{deed_with, over, under}
-use Rattle.js_machine.specs.Views.{View, newest, party_of, turns_at, with_copy, with_scope}
+use Rattle.js_machine.specs.Steps.{deed_of_row, deed_with, over}
+use Rattle.js_machine.specs.Views.{View, newest, nexts_of, party_of, turns_at, with_copy, with_scope}
 use Rattle.js_machine.specs.declared.frame.Frame.{Frame}
 use Rattle.js_machine.specs.declared.frame.Frame.TheVariants as frame
 use Rattle.js_machine.specs.js_run.Acts.{Become, Evaluate, Give, Tested, Turned, give, next_turn, with_value}
 use Rattle.js_machine.specs.js_run.Control.{branch, in_order, otherwise}
 use Rattle.js_machine.specs.js_run.Rows.{if_test}
+use Rattle.js_machine.specs.js_run.Runs.{answered, settle}
 use Rattle.js_machine.specs.js_run.Truth.{to_boolean}
 use Rattle.js_machine.proofs.Listed.{part_first, part_within}
 use Rattle.js_in_place.specs.InPlace.{sight_of}
-use Rattle.js_in_place.specs.Places.{ComesTo, Place, after_turn, at_copy, at_deed, at_form, at_item, at_list, at_scope, at_test, at_turn, at_update, at_value}
-use Rattle.js_in_place.proofs.Placed.{all_kept, gives_under, popped, pushed, row_done, same_place, still, then_to}
+use Rattle.js_in_place.specs.Places.{ComesTo, IsPart, IsWent, Place, after_turn, at_copy, at_deed, at_form, at_item, at_list, at_scope, at_test, at_turn, at_update, at_value}
+use Rattle.js_in_place.specs.declared.seat.How.TheVariants as how
+use Rattle.js_in_place.specs.declared.seat.Seat.{Seat}
+use Rattle.js_in_place.specs.declared.seat.Went.{Went}
+use Rattle.js_in_place.proofs.Placed.{all_kept, gives_under, next_part, popped, pushed, row_done, row_under, same_place, still, then_part, then_to, whole_ends}
 
 -- LISTS
 
@@ -76,20 +80,58 @@ list_shorter ns n s c s' c' e z l p q =
     let same : n ≡ suc (length (part_of s' c' ns)) = e ∙ ap (λ xs. length xs) first in
     omega (arith, same)
 
+-- the list with a form that went so far
+module _ (os oc i n s c at whole left : ℕ) (first old new : View) (seat : Seat) (w : Went) (so_far : ComesTo whole first old (at_list os oc first) (at_list (os + i) (oc - i) old) left)
+    (many : n - i ≡ length (part_of (os + i) (oc - i) old.code.numbers)) (fewer : n ≤ oc) where
+  module _ (more : i < n - 1) (e : s ≡ os + i + 1) (d : c ≡ oc - i - 1) (is : at ≡ get_or old.code.numbers (os + i) 0) (goes : IsPart (at_item at s c old) (at_list s c new) left old new seat w) where
+    begins : ComesTo left old old (at_list (os + i) (oc - i) old) (at_item at s c old) left
+    begins = subst (λ k. ComesTo left old old (at_list (os + i) (oc - i) old) (at_item k s c old) left) (sym is) (list_begins (n - i) (os + i) (oc - i) s c left old many (omega (arith, more)) (omega (arith, more, fewer)) e (omega (arith, d)))
+
+    goes_so : IsPart (at_list os oc first) (at_list s c new) whole first new seat w
+    goes_so =
+        then_part whole left first old new (at_list os oc first) (at_list (os + i) (oc - i) old) (at_list s c new) seat w so_far
+        (then_part left left old old new (at_list (os + i) (oc - i) old) (at_item at s c old) (at_list s c new) seat w begins goes)
+
+    pub list_goes_on : w.how ≡ how.Next → (ComesTo whole first new (at_list os oc first) (at_list (os + (i + 1)) (oc - (i + 1)) new) w.left) × (n - (i + 1) ≡ length (part_of (os + (i + 1)) (oc - (i + 1)) new.code.numbers))
+    list_goes_on next =
+        let there = next_part left old new (at_item at s c old) (at_list s c new) seat w next goes in
+        let start : s ≡ os + (i + 1) = omega (arith, e) in
+        let count : c ≡ oc - (i + 1) = omega (arith, d) in
+        let less : n - i - 1 ≡ length (part_of s c old.code.numbers) = list_shorter old.code.numbers (n - i) (os + i) (oc - i) s c many (omega (arith, more)) (omega (arith, more, fewer)) e (omega (arith, d)) in
+        let left_over : n - (i + 1) ≡ n - i - 1 = omega arith in
+        (subst (λ x. ComesTo whole first new (at_list os oc first) (at_list x (oc - (i + 1)) new) w.left) start (subst (λ x. ComesTo whole first new (at_list os oc first) (at_list s x new) w.left) count (next_part whole first new (at_list os oc first) (at_list s c new) seat w next goes_so)),
+         left_over ∙ less ∙ (λ j. length (part_of (start j) (count j) (sym there.comes.keeps.1.0 j).numbers)))
+
+    pub list_stops : (w.how ≡ how.Next → ⊥) → IsWent (at_list os oc first) whole first new seat w
+    list_stops ends = whole_ends whole first new (at_list os oc first) (at_list s c new) seat w ends goes_so
+
+  pub list_last : i ≡ n - 1 → 0 < n → at ≡ get_or old.code.numbers (os + i) 0 → ComesTo whole first old (at_list os oc first) (at_form at old) left
+  list_last last some is =
+      then_to whole left left first old old (at_list os oc first) (at_list (os + i) (oc - i) old) (at_form at old) so_far
+      (subst (λ k. ComesTo left old old (at_list (os + i) (oc - i) old) (at_form k old) left) (sym is) (list_ends (n - i) (os + i) (oc - i) left old many (omega (arith, last, some)) (omega (arith, last, some, fewer))))
+
 -- a form of a list begins over its frame, and comes back to it
-pub item_waits : (at s c left : ℕ) (w : View) → ComesTo left w (record w { frames = frame.Seq s c ∷ w.frames }) (at_item at s c w) (at_form at (record w { frames = frame.Seq s c ∷ w.frames })) left
+item_waits : (at s c left : ℕ) (w : View) → ComesTo left w (record w { frames = frame.Seq s c ∷ w.frames }) (at_item at s c w) (at_form at (record w { frames = frame.Seq s c ∷ w.frames })) left
 item_waits at s c left w = pushed (frame.Seq s c) at left w
+
+pub item_begins : (at s c left : ℕ) (w new : View) → new ≡ record w { frames = frame.Seq s c ∷ w.frames } → ComesTo left w new (at_item at s c w) (at_form at new) left
+item_begins at s c left w new e = subst (λ x. ComesTo left w x (at_item at s c w) (at_form at x) left) (sym e) (item_waits at s c left w)
 
 pub list_follows : (s c left : ℕ) (v : Plain) (old low : View) → newest old.frames ≡ Some (frame.Seq s c) → low ≡ record old { frames = drop 1 old.frames } → ComesTo left old low (at_value v old) (at_list s c low) left
 list_follows s c left v old low e d = popped (frame.Seq s c) v left old low e d
 
 -- SCOPES
 
-pub scope_entered : (n at left : ℕ) (w : View) → (let inner = with_scope (replicate n None) w in let new = record inner { frames = frame.ScopeExit (scope_of w.bodies) ∷ inner.frames } in ComesTo left w new (at_scope n at w) (at_form at new) left)
+scope_entered : (n at left : ℕ) (w : View) → (let inner = with_scope (replicate n None) w in let new = record inner { frames = frame.ScopeExit (scope_of w.bodies) ∷ inner.frames } in ComesTo left w new (at_scope n at w) (at_form at new) left)
 scope_entered n at left w =
     let inner = with_scope (replicate n None) w in
     let new = record inner { frames = frame.ScopeExit (scope_of w.bodies) ∷ inner.frames } in
     same_place left w new (at_scope n at w) (at_form at new) (all_kept w) (λ a. refl)
+
+pub scope_begins : (n at back left : ℕ) (w inner new : View) → back ≡ scope_of w.bodies → inner ≡ with_scope (replicate n None) w → new ≡ record inner { frames = frame.ScopeExit back ∷ inner.frames } → ComesTo left w new (at_scope n at w) (at_form at new) left
+scope_begins n at back left w inner new b i e =
+    let same : new ≡ (let x = with_scope (replicate n None) w in record x { frames = frame.ScopeExit (scope_of w.bodies) ∷ x.frames }) = e ∙ (λ j. record (i j) { frames = frame.ScopeExit (b j) ∷ (i j).frames }) in
+    subst (λ x. ComesTo left w x (at_scope n at w) (at_form at x) left) (sym same) (scope_entered n at left w)
 
 pub scope_left : (back left : ℕ) (v : Plain) (old low new : View) → newest old.frames ≡ Some (frame.ScopeExit back) → low ≡ record old { frames = drop 1 old.frames } → new ≡ record low { bodies = stood_in back low.bodies } → ComesTo left old new (at_value v old) (at_value v new) left
 scope_left back left v old low new e d f =
@@ -100,10 +142,18 @@ scope_left back left v old low new e d f =
 pub copy_entered : (left : ℕ) (old new : View) → new ≡ with_copy old → ComesTo left old new (at_copy old) (at_value plain.Undefined new) left
 copy_entered left old new e = subst (λ x. ComesTo left old x (at_copy old) (at_value plain.Undefined x) left) (sym e) (same_place left old (with_copy old) (at_copy old) (at_value plain.Undefined (with_copy old)) (all_kept old) (λ a. refl))
 
+-- a copy takes the place of the innermost scope, and a list follows
+pub copy_in_list : (at s c left rest : ℕ) (old new : View) → out-Term (term_at old.code at) ≡ layer_of old.code (term_at old.code) node.Fresh → 0 < left → rest ≡ left - 1 → new ≡ with_copy old → ComesTo left old new (at_item at s c old) (at_list s c new) rest
+copy_in_list at s c left rest old new e l d f =
+    then_to left rest rest old old new (at_item at s c old) (λ b. settle (naming_of old.me) b.shared b.env (over (frame.Seq s c) old b ∷ nexts_of (naming_of old.me) b.shared old.code old.frames old.values old.waits) (answered (naming_of old.me) b.env (deed_of_row node.Fresh old b))) (at_list s c new)
+    (row_under at left rest node.Fresh old (over (frame.Seq s c) old) e l d)
+    (subst (λ x. ComesTo rest old x (λ b. settle (naming_of old.me) b.shared b.env (over (frame.Seq s c) old b ∷ nexts_of (naming_of old.me) b.shared old.code old.frames old.values old.waits) (answered (naming_of old.me) b.env (deed_of_row node.Fresh old b))) (at_list s c x) rest) (sym f)
+      (same_place rest old (with_copy old) (λ b. settle (naming_of old.me) b.shared b.env (over (frame.Seq s c) old b ∷ nexts_of (naming_of old.me) b.shared old.code old.frames old.values old.waits) (answered (naming_of old.me) b.env (deed_of_row node.Fresh old b))) (at_list s c (with_copy old)) (all_kept old) (λ a. refl)))
+
 -- LOOPS
 
 -- a turn begins over its frame, and comes back to it
-pub turn_waits : (t left : ℕ) (row : TurnRow) (w : View) → row ≡ get_or w.code.turns t no_turn_row → ComesTo left w (record w { frames = frame.Turned t ∷ w.frames }) (at_turn t w) (at_form row.body (record w { frames = frame.Turned t ∷ w.frames })) left
+turn_waits : (t left : ℕ) (row : TurnRow) (w : View) → row ≡ get_or w.code.turns t no_turn_row → ComesTo left w (record w { frames = frame.Turned t ∷ w.frames }) (at_turn t w) (at_form row.body (record w { frames = frame.Turned t ∷ w.frames })) left
 turn_waits t left row w e =
     let new = record w { frames = frame.Turned t ∷ w.frames } in
     subst (λ (x : TurnRow). ComesTo left w new (at_turn t w) (at_form x.body new) left) (sym e) (pushed (frame.Turned t) (get_or w.code.turns t no_turn_row).body left w)
@@ -119,8 +169,11 @@ turn_over t left v old low e d = popped (frame.Turned t) v left old low e d
 pub update_over : (t left : ℕ) (v : Plain) (old low : View) → newest old.frames ≡ Some (frame.Updated t) → low ≡ record old { frames = drop 1 old.frames } → ComesTo left old low (at_value v old) (at_test t low) left
 update_over t left v old low e d = popped (frame.Updated t) v left old low e d
 
-pub update_waits : (t at left : ℕ) (w : View) → ComesTo left w (record w { frames = frame.Updated t ∷ w.frames }) (at_update t at w) (at_form at (record w { frames = frame.Updated t ∷ w.frames })) left
+update_waits : (t at left : ℕ) (w : View) → ComesTo left w (record w { frames = frame.Updated t ∷ w.frames }) (at_update t at w) (at_form at (record w { frames = frame.Updated t ∷ w.frames })) left
 update_waits t at left w = pushed (frame.Updated t) at left w
+
+pub update_begins : (t at left : ℕ) (w new : View) → new ≡ record w { frames = frame.Updated t ∷ w.frames } → ComesTo left w new (at_update t at w) (at_form at new) left
+update_begins t at left w new e = subst (λ x. ComesTo left w x (at_update t at w) (at_form at x) left) (sym e) (update_waits t at left w)
 
 abbrev after_by : Option ℕ → (turns : ℕ) → View → Place
 after_by o t w = at_deed (λ a. next_turn (turns_at w.code t) (option_map (term_at w.code) o) (party_of a w)) w
@@ -141,11 +194,27 @@ tests t at left rest row x w e h l d =
     let g = subst (λ (y : TurnRow). GivesTruth (sight_of w) y.test x) e h in
     subst (λ b. ComesTo left w w (at_test t w) (tested_by b t w) rest) g.truth (gives_under (get_or w.code.turns t no_turn_row).test left x.steps rest g.value w (λ a. Tested (turns_at w.code t)) g.gives l d)
 
-pub turns : (t left rest : ℕ) (row : TurnRow) (x : Truth) (w : View) → row ≡ get_or w.code.turns t no_turn_row → GivesTruth (sight_of w) row.test x → x.steps ≤ left → rest ≡ left - x.steps → x.truth ≡ true → ComesTo left w w (at_test t w) (at_turn t w) rest
+turns : (t left rest : ℕ) (row : TurnRow) (x : Truth) (w : View) → row ≡ get_or w.code.turns t no_turn_row → GivesTruth (sight_of w) row.test x → x.steps ≤ left → rest ≡ left - x.steps → x.truth ≡ true → ComesTo left w w (at_test t w) (at_turn t w) rest
 turns t left rest row x w e h l d y = subst (λ b. ComesTo left w w (at_test t w) (tested_by b t w) rest) y (tests t 0 left rest row x w e h l d)
 
-pub loop_ends : (t left rest : ℕ) (row : TurnRow) (x : Truth) (w : View) → row ≡ get_or w.code.turns t no_turn_row → GivesTruth (sight_of w) row.test x → x.steps ≤ left → rest ≡ left - x.steps → x.truth ≡ false → ComesTo left w w (at_test t w) (at_value plain.Undefined w) rest
-loop_ends t left rest row x w e h l d y =
+negated : (b : Bool) → not b ≡ true → b ≡ false
+negated true e = cc
+negated false e = refl
+
+affirmed : (b : Bool) → not b ≡ false → b ≡ true
+affirmed true e = refl
+affirmed false e = cc
+
+-- a turn begins over its frame
+pub turn_begins : (t left rest : ℕ) (row : TurnRow) (x : Truth) (w new : View) → row ≡ get_or w.code.turns t no_turn_row → GivesTruth (sight_of w) row.test x → x.steps ≤ left → rest ≡ left - x.steps → not x.truth ≡ false → new ≡ record w { frames = frame.Turned t ∷ w.frames }
+    → ComesTo left w new (at_test t w) (at_form row.body new) rest
+turn_begins t left rest row x w new e h l d y f =
+    then_to left rest rest w w new (at_test t w) (at_turn t w) (at_form row.body new) (turns t left rest row x w e h l d (affirmed x.truth y))
+    (subst (λ v. ComesTo rest w v (at_turn t w) (at_form row.body v) rest) (sym f) (turn_waits t rest row w e))
+
+pub loop_ends : (t left rest : ℕ) (row : TurnRow) (x : Truth) (w : View) → row ≡ get_or w.code.turns t no_turn_row → GivesTruth (sight_of w) row.test x → x.steps ≤ left → rest ≡ left - x.steps → not x.truth ≡ true → ComesTo left w w (at_test t w) (at_value plain.Undefined w) rest
+loop_ends t left rest row x w e h l d n =
+    let y = negated x.truth n in
     then_to left rest rest w w w (at_test t w) (tested_by false t w) (at_value plain.Undefined w) (subst (λ b. ComesTo left w w (at_test t w) (tested_by b t w) rest) y (tests t 0 left rest row x w e h l d))
     (same_place rest w w (tested_by false t w) (at_value plain.Undefined w) (all_kept w) (λ a. refl))
 

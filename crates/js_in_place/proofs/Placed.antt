@@ -24,7 +24,9 @@ use Rattle.js_machine.specs.js_run.Rows.{row_at}
 use Rattle.js_machine.specs.js_run.Runs.{Begins, Charged, Due, answered, charge, run_for, settle}
 use Rattle.js_machine.specs.js_run.declared.TheConstants.{MAX_DEPTH}
 use Rattle.js_desc.specs.declared.reply.Reply.TheVariants as reply
-use Rattle.js_in_place.specs.InPlace.{sight_of}
+use Rattle.js_in_place.specs.InPlace.{GoesTo, RunsTo, point_at, sight_of}
+use Rattle.js_in_place.specs.declared.spot.Spot.{Spot}
+use Rattle.js_in_place.specs.declared.spot.Stand.{Stand}
 use Rattle.js_in_place.specs.Places.{CameOf, Comes, ComesTo, IsDone, IsPart, IsWent, PartCameOf, Place, at_deed, at_form, at_item, at_list, at_value}
 use Rattle.js_in_place.specs.declared.seat.How.{How}
 use Rattle.js_in_place.specs.declared.seat.How.TheVariants as how
@@ -90,7 +92,8 @@ then_part_by how.Failed left mid_left rest old mid new from there to s h g = tt
 pub then_part : (left mid_left : ℕ) (old mid new : View) (from there to : Place) (s : Seat) (w : Went) → ComesTo left old mid from there mid_left → IsPart there to mid_left mid new s w → IsPart from to left old new s w
 then_part left mid_left old mid new from there to s w h g = then_part_by w.how left mid_left w.left old mid new from there to s h g
 
--- what went as a whole, but is not next, went so as a part
+-- WHAT CAME OF IT
+
 part_by : (x : How) (left rest : ℕ) (old new : View) (from to : Place) (s : Seat) → (x ≡ how.Next → ComesTo left old new from to rest) → CameOf x left old new from s rest → PartCameOf x left old new from to s rest
 part_by how.Next left rest old new from to s e h = e refl
 part_by how.Given left rest old new from to s e h = h
@@ -98,13 +101,53 @@ part_by how.Left left rest old new from to s e h = h
 part_by how.Stopped left rest old new from to s e h = h
 part_by how.Failed left rest old new from to s e h = tt
 
--- and what is a part, but is not next, went so as a whole
 whole_by : (x : How) (left rest : ℕ) (old new : View) (from to : Place) (s : Seat) → (x ≡ how.Next → CameOf how.Next left old new from s rest) → PartCameOf x left old new from to s rest → CameOf x left old new from s rest
 whole_by how.Next left rest old new from to s e h = e refl
 whole_by how.Given left rest old new from to s e h = h
 whole_by how.Left left rest old new from to s e h = h
 whole_by how.Stopped left rest old new from to s e h = h
 whole_by how.Failed left rest old new from to s e h = tt
+
+-- what is not next is a part as it is a whole
+pub part_ends : (left : ℕ) (old new : View) (from to : Place) (s : Seat) (w : Went) → (w.how ≡ how.Next → ⊥) → IsWent from left old new s w → IsPart from to left old new s w
+part_ends left old new from to s w e h = part_by w.how left w.left old new from to s (λ n. absurd (e n)) h
+
+pub whole_ends : (left : ℕ) (old new : View) (from to : Place) (s : Seat) (w : Went) → (w.how ≡ how.Next → ⊥) → IsPart from to left old new s w → IsWent from left old new s w
+whole_ends left old new from to s w e h = whole_by w.how left w.left old new from to s (λ n. absurd (e n)) h
+
+pub other_part : (left : ℕ) (old new : View) (from to there : Place) (s : Seat) (w : Went) → (w.how ≡ how.Next → ⊥) → IsPart from to left old new s w → IsPart from there left old new s w
+other_part left old new from to there s w e h = part_ends left old new from there s w e (whole_ends left old new from to s w e h)
+
+-- and what is
+pub next_went : (left : ℕ) (old new : View) (from : Place) (s : Seat) (w : Went) → w.how ≡ how.Next → IsWent from left old new s w → ComesTo left old new from (at_form s.at new) w.left
+next_went left old new from s w e h = subst (λ x. CameOf x left old new from s w.left) e h
+
+pub next_part : (left : ℕ) (old new : View) (from to : Place) (s : Seat) (w : Went) → w.how ≡ how.Next → IsPart from to left old new s w → ComesTo left old new from to w.left
+next_part left old new from to s w e h = subst (λ x. PartCameOf x left old new from to s w.left) e h
+
+pub part_goes : (left : ℕ) (old new : View) (from to : Place) (s : Seat) (w : Went) → w.how ≡ how.Next → ComesTo left old new from to w.left → IsPart from to left old new s w
+part_goes left old new from to s w e h = subst (λ x. PartCameOf x left old new from to s w.left) (sym e) h
+
+pub given_went : (left : ℕ) (old new : View) (from : Place) (s : Seat) (w : Went) → w.how ≡ how.Given → IsWent from left old new s w → ComesTo left old new from (at_value s.value new) w.left
+given_went left old new from s w e h = subst (λ x. CameOf x left old new from s w.left) e h
+
+pub left_went : (left : ℕ) (old new : View) (from : Place) (s : Seat) (w : Went) → w.how ≡ how.Left → IsWent from left old new s w → ComesTo left old new from (at_value s.value new) w.left
+left_went left old new from s w e h = subst (λ x. CameOf x left old new from s w.left) e h
+
+pub stopped_went : (left : ℕ) (old new : View) (from : Place) (s : Seat) (w : Went) → w.how ≡ how.Stopped → IsWent from left old new s w → ComesTo left old new from (at_form s.at new) w.left
+stopped_went left old new from s w e h = subst (λ x. CameOf x left old new from s w.left) e h
+
+-- so a run goes on from another spot
+pub runs : (left rest : ℕ) (old new : View) (p q : Spot) (s : Stand) → ComesTo left old new (λ a. point_at a old p) (λ a. point_at a new q) rest → s.spot ≡ q → s.left ≡ rest → RunsTo p left old new s
+runs left rest old new p q s h e d =
+    let gone : GoesTo (left - rest) p old new q = record { goes = h.comes.comes; keeps = h.comes.keeps } in
+    record {
+      within = omega (arith, d, h.within);
+      goes = subst (λ x. GoesTo (left - s.left) p old new x) (sym e) (subst (λ k. GoesTo (left - k) p old new q) (sym d) gone);
+    }
+
+pub part_given : (left rest : ℕ) (old new : View) (from to : Place) (s : Seat) (w : Went) → ComesTo left old new from (at_value s.value new) rest → w ≡ record { how = how.Given; left = rest } → IsPart from to left old new s w
+part_given left rest old new from to s w h e = subst (λ (x : Went). IsPart from to left old new s x) (sym e) h
 
 -- a value is given, and a form takes the place of another one
 pub went_given : (left rest : ℕ) (old new : View) (from : Place) (s : Seat) (w : Went) → ComesTo left old new from (at_value s.value new) rest → w ≡ record { how = how.Given; left = rest } → IsWent from left old new s w
@@ -133,6 +176,13 @@ went_failed left rest old new from s w e = subst (λ (x : Went). IsWent from lef
 
 pub part_failed : (left rest : ℕ) (old new : View) (from to : Place) (s : Seat) (w : Went) → w ≡ record { how = how.Failed; left = rest } → IsPart from to left old new s w
 part_failed left rest old new from to s w e = subst (λ (x : Went). IsPart from to left old new s x) (sym e) tt
+
+-- the seat has the form, or the value
+pub stands_at : (left rest at : ℕ) (old mid new : View) (from : Place) (s : Seat) → new ≡ mid → s.at ≡ at → ComesTo left old mid from (at_form at mid) rest → ComesTo left old new from (at_form s.at new) rest
+stands_at left rest at old mid new from s e d h = subst (λ k. ComesTo left old new from (at_form k new) rest) (sym d) (subst (λ w. ComesTo left old w from (at_form at w) rest) (sym e) h)
+
+pub gives_at : (left rest : ℕ) (v : Plain) (old mid new : View) (from : Place) (s : Seat) → new ≡ mid → s.value ≡ v → ComesTo left old mid from (at_value v mid) rest → ComesTo left old new from (at_value s.value new) rest
+gives_at left rest v old mid new from s e d h = subst (λ x. ComesTo left old new from (at_value x new) rest) (sym d) (subst (λ w. ComesTo left old w from (at_value v w) rest) (sym e) h)
 
 -- nothing is charged, and the run stands where it stood
 pub same_place : (left : ℕ) (old new : View) (from to : Place) → Keeps old new → ((a : Around) → let b = fitting old a in to b ≡ from b) → ComesTo left old new from to left
@@ -166,6 +216,28 @@ row_done at left rest n w e l d =
             (let b = fitting w a in
             let names = naming_of w.me in
             let ks = nexts_of names b.shared w.code w.frames w.values w.waits in
+            let count : 1 + charges ≡ suc charges = omega arith in
+            ap (λ m. run_for names b.shared b.env m limit steps (Due 0 (Begins (term_at w.code at)) (party_of b w) ks)) count
+            ∙ one names b.shared b.env charges limit steps (Begins (term_at w.code at)) (party_of b w) ks c
+            ∙ ap (λ l. run_for names b.shared b.env charges limit (steps + 1) (settle names b.shared b.env ks (answered names b.env (row_at names b.shared l (party_of b w))))) e);
+        keeps = all_kept w;
+      });
+    }
+
+-- so it is where something waits for the form
+pub row_under : (at left rest : ℕ) (n : Node) (w : View) (next : Around → Next Ref MadeSymbol) → out-Term (term_at w.code at) ≡ layer_of w.code (term_at w.code) n → 0 < left → rest ≡ left - 1
+    → ComesTo left w w (at_deed (λ a. Evaluate (term_at w.code at) (party_of a w) (next a)) w)
+      (λ b. settle (naming_of w.me) b.shared b.env (next b ∷ nexts_of (naming_of w.me) b.shared w.code w.frames w.values w.waits) (answered (naming_of w.me) b.env (deed_of_row n w b))) rest
+row_under at left rest n w next e l d =
+    let price : 1 ≡ left - rest = omega (arith, l, d) in
+    record {
+      within = omega (arith, d);
+      comes = subst (λ k. Comes k w w (at_deed (λ a. Evaluate (term_at w.code at) (party_of a w) (next a)) w)
+        (λ b. settle (naming_of w.me) b.shared b.env (next b ∷ nexts_of (naming_of w.me) b.shared w.code w.frames w.values w.waits) (answered (naming_of w.me) b.env (deed_of_row n w b)))) price (record {
+        comes = λ a charges limit steps c.
+            (let b = fitting w a in
+            let names = naming_of w.me in
+            let ks = next b ∷ nexts_of names b.shared w.code w.frames w.values w.waits in
             let count : 1 + charges ≡ suc charges = omega arith in
             ap (λ m. run_for names b.shared b.env m limit steps (Due 0 (Begins (term_at w.code at)) (party_of b w) ks)) count
             ∙ one names b.shared b.env charges limit steps (Begins (term_at w.code at)) (party_of b w) ks c

@@ -5,7 +5,7 @@ ghost use Rattle.js_in_place.specs.Places.{IsPart, IsWent, after_turn, at_list, 
 ghost use Rattle.js_in_place.specs.declared.seat.Seat.{Seat};
 
 use crate::frames::{newest_frame, take_off};
-use crate::seat::{How, Went, went};
+use crate::seat::{How, Went, came};
 use js_machine::frame::Frame;
 use js_machine::machine::Machine;
 use js_machine_statements::slots::stand_in;
@@ -19,9 +19,9 @@ pub fn back_in_list(machine: &mut Machine, start: u32, count: u32, left: u64) ->
     match newest_frame(machine) {
         Some(Frame::Seq { start: s, count: c }) if s == start && c == count => {
             take_off(machine);
-            went(How::Next, left)
+            came(How::Next, left)
         }
-        _ => went(How::Left, left),
+        _ => came(How::Left, left),
     }
 }
 
@@ -35,9 +35,9 @@ pub fn back_from_scope(machine: &mut Machine, left: u64) -> Went
         Some(Frame::ScopeExit { scope }) => {
             take_off(machine);
             stand_in(machine, scope);
-            went(How::Given, left)
+            came(How::Given, left)
         }
-        _ => went(How::Left, left),
+        _ => came(How::Left, left),
     }
 }
 
@@ -50,9 +50,9 @@ pub fn back_from_turn(machine: &mut Machine, turns: u32, left: u64) -> Went
     match newest_frame(machine) {
         Some(Frame::Turned { turns: t }) if t == turns => {
             take_off(machine);
-            went(How::Next, left)
+            came(How::Next, left)
         }
-        _ => went(How::Left, left),
+        _ => came(How::Left, left),
     }
 }
 
@@ -65,8 +65,8 @@ pub fn back_from_update(machine: &mut Machine, turns: u32, left: u64) -> Went
     match newest_frame(machine) {
         Some(Frame::Updated { turns: t }) if t == turns => {
             take_off(machine);
-            went(How::Next, left)
+            came(How::Next, left)
         }
-        _ => went(How::Left, left),
+        _ => came(How::Left, left),
     }
 }

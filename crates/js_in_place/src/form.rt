@@ -3,12 +3,13 @@
 ghost use Rattle.std.specs.Prelude.{◌≡◌, ◌<◌};
 ghost use Rattle.js_code.specs.Decoded.{layer_of, term_at};
 ghost use Rattle.js_in_place.specs.Places.{IsPart, IsWent, at_form, at_item, at_list, at_scope, at_test, at_update};
+ghost use Rattle.js_in_place.specs.declared.seat.How.TheVariants as how_kind;
 ghost use Rattle.js_term.specs.declared.term.Term.{out-Term};
 
 use crate::back::{back_from_scope, back_from_turn, back_from_update, back_in_list};
 use crate::here::{choose_one, choose_two, fresh, starts_loop, truth_here};
 use crate::leaves::{do_leaf, fresh_item, leaf_item};
-use crate::seat::{How, Seat, Went, given, next, stopped, went};
+use crate::seat::{How, Seat, Went, came, given, next, stopped};
 use crate::waits::turn_row;
 use js_code::node::Node;
 use js_direct::plain::Plain;
@@ -37,7 +38,8 @@ fn node(machine: &Machine, at: u32) -> Node
 /// A form, and those that take its place, go as far as they get.
 #[cycle(form)]
 pub fn do_form(machine: &mut Machine, seat: &mut Seat, at: u32, left: u64, depth: u32) -> Went
-    ensures { IsWent (at_form at machine.old) left machine.old machine.new seat.new result }
+    ensures ends { ¬ (result.how ≡ how_kind.Next) }
+    ensures went { IsWent (at_form at machine.old) left machine.old machine.new seat.new result }
 {
     let mut at = at;
     let mut left = left;
@@ -97,7 +99,7 @@ fn do_items(
     ensures { IsWent (at_list start count machine.old) left machine.old machine.new seat.new result }
 {
     let Ok(there) = machine.listed(start, count) else {
-        return went(How::Failed, left);
+        return came(How::Failed, left);
     };
     if there == 0 {
         return given(seat, Plain::Undefined, left);
@@ -111,7 +113,7 @@ fn do_items(
             _ => return step,
         }
     }
-    next(seat, machine.number(start + there - 1), left)
+    next(seat, machine.number(start + (there - 1)), left)
 }
 
 /// Whether a form holds others.
@@ -145,9 +147,9 @@ fn do_item(
     match node(machine, at) {
         Node::Fresh => fresh_item(machine, seat, at, start, count, left),
         node if holds_others(node) => {
-            if machine.push_frame(Frame::Seq { start, count }).is_err() {
-                return went(How::Failed, left);
-            }
+            let Ok(_) = machine.push_frame(Frame::Seq { start, count }) else {
+                return came(How::Failed, left);
+            };
             let step = do_form(machine, seat, at, left, depth);
             match step.how {
                 How::Given => back_in_list(machine, start, count, step.left),
@@ -172,12 +174,12 @@ fn do_scope(
     ensures { IsWent (at_scope slots body machine.old) left machine.old machine.new seat.new result }
 {
     let scope = machine.standing();
-    if enter(machine, slots).is_err() {
-        return went(How::Failed, left);
-    }
-    if machine.push_frame(Frame::ScopeExit { scope }).is_err() {
-        return went(How::Failed, left);
-    }
+    let Ok(_) = enter(machine, slots) else {
+        return came(How::Failed, left);
+    };
+    let Ok(_) = machine.push_frame(Frame::ScopeExit { scope }) else {
+        return came(How::Failed, left);
+    };
     let step = do_form(machine, seat, body, left, depth);
     match step.how {
         How::Given => back_from_scope(machine, step.left),
@@ -218,9 +220,9 @@ fn do_turn(machine: &mut Machine, seat: &mut Seat, turns: u32, left: u64, depth:
     if !truth.truth {
         return given(seat, Plain::Undefined, left - price);
     }
-    if machine.push_frame(Frame::Turned { turns }).is_err() {
-        return went(How::Failed, left);
-    }
+    let Ok(_) = machine.push_frame(Frame::Turned { turns }) else {
+        return came(How::Failed, left);
+    };
     let step = do_form(machine, seat, row.body, left - price, depth);
     match step.how {
         How::Given => (),
@@ -251,9 +253,9 @@ fn do_update(
     ensures { IsPart (at_update turns update machine.old) (at_test turns machine.new) left machine.old
         machine.new seat.new result }
 {
-    if machine.push_frame(Frame::Updated { turns }).is_err() {
-        return went(How::Failed, left);
-    }
+    let Ok(_) = machine.push_frame(Frame::Updated { turns }) else {
+        return came(How::Failed, left);
+    };
     let step = do_form(machine, seat, update, left, depth);
     match step.how {
         How::Given => back_from_update(machine, turns, step.left),

@@ -6,10 +6,11 @@ ghost use Rattle.js_code.specs.declared.node.Node.TheVariants as node_kind;
 ghost use Rattle.js_direct.specs.Direct.{GivesTruth};
 ghost use Rattle.js_in_place.specs.InPlace.{sight_of};
 ghost use Rattle.js_in_place.specs.Places.{IsDone, IsWent, at_copy, at_form, at_test};
+ghost use Rattle.js_in_place.specs.declared.seat.How.TheVariants as how_kind;
 ghost use Rattle.js_term.specs.declared.term.Term.{out-Term};
 
 use crate::scopes::enter_copy;
-use crate::seat::{How, Seat, Went, given, next, stopped, went};
+use crate::seat::{How, Seat, Went, came, given, next, stopped};
 use crate::waits::turn_row;
 use js_direct::done::done_at;
 use js_direct::plain::Plain;
@@ -114,18 +115,19 @@ pub fn fresh(machine: &mut Machine, seat: &mut Seat, left: u64) -> Went
 {
     match enter_copy(machine) {
         Ok(_) => given(seat, Plain::Undefined, left),
-        Err(_) => went(How::Failed, left),
+        Err(_) => came(How::Failed, left),
     }
 }
 
 /// The test of a loop's next turn is to begin.
 #[inline(never)]
 pub fn starts_loop(machine: &mut Machine, seat: &mut Seat, turns: u32, left: u64) -> Went
-    ensures { IsWent (at_test turns machine.old) left machine.old machine.new seat.new result }
+    ensures ends { ¬ (result.how ≡ how_kind.Next) }
+    ensures went { IsWent (at_test turns machine.old) left machine.old machine.new seat.new result }
 {
     let row = turn_row(machine, turns);
-    if machine.push_frame(Frame::Tested { turns }).is_err() {
-        return went(How::Failed, left);
-    }
+    let Ok(_) = machine.push_frame(Frame::Tested { turns }) else {
+        return came(How::Failed, left);
+    };
     stopped(seat, row.test, left)
 }

@@ -8,7 +8,7 @@ ghost use Rattle.js_term.specs.declared.term.Term.{out-Term};
 
 use crate::here::done_here;
 use crate::scopes::enter_copy;
-use crate::seat::{How, Seat, Went, stopped, went};
+use crate::seat::{How, Seat, Went, came, stopped};
 use js_machine::frame::Frame;
 use js_machine::machine::Machine;
 
@@ -21,7 +21,7 @@ pub fn do_leaf(machine: &mut Machine, seat: &mut Seat, at: u32, left: u64) -> We
     if steps == 0 {
         return stopped(seat, at, left);
     }
-    went(How::Given, left - u64::from(steps))
+    came(How::Given, left - u64::from(steps))
 }
 
 /// A form of a list is to begin, and those behind it wait.
@@ -37,9 +37,9 @@ fn wait_in_list(
     ensures { IsPart (at_item at start count machine.old) (at_list start count machine.new) left
         machine.old machine.new seat.new result }
 {
-    if machine.push_frame(Frame::Seq { start, count }).is_err() {
-        return went(How::Failed, left);
-    }
+    let Ok(_) = machine.push_frame(Frame::Seq { start, count }) else {
+        return came(How::Failed, left);
+    };
     stopped(seat, at, left)
 }
 
@@ -60,7 +60,7 @@ pub fn leaf_item(
     if steps == 0 {
         return wait_in_list(machine, seat, at, start, count, left);
     }
-    went(How::Next, left - u64::from(steps))
+    came(How::Next, left - u64::from(steps))
 }
 
 /// A copy of the innermost scope takes its place, and a list goes on.
@@ -82,7 +82,7 @@ pub fn fresh_item(
         return wait_in_list(machine, seat, at, start, count, left);
     }
     match enter_copy(machine) {
-        Ok(_) => went(How::Next, left - 1),
-        Err(_) => went(How::Failed, left),
+        Ok(_) => came(How::Next, left - 1),
+        Err(_) => came(How::Failed, left),
     }
 }

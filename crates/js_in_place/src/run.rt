@@ -1,7 +1,8 @@
 // Runs that go on in place.
 
-ghost use Rattle.std.specs.Prelude.{IfOk};
-ghost use Rattle.js_in_place.specs.InPlace.{RunsTo};
+ghost use Rattle.std.specs.Prelude.{◌<◌, IfOk};
+ghost use Rattle.js_direct.specs.Direct.{GivesAtOnce, value_of};
+ghost use Rattle.js_in_place.specs.InPlace.{RunsTo, sight_of};
 ghost use Rattle.js_in_place.specs.declared.spot.Spot.TheVariants as spot_kind;
 
 use crate::deliver::deliver;
@@ -17,20 +18,28 @@ use lava_base::memory::OutOfMemory;
 /// How much a run does in place at most before it looks up.
 pub const EVENTS: u32 = 1000000;
 
+/// What a form gives at once where the machine stands, and how many steps that takes; none where it does not.
+#[inline]
+fn value_from(machine: &Machine, at: u32, given: &mut Plain) -> u32
+    ensures { 0 < result → GivesAtOnce (sight_of machine.now) at (value_of given.new) result }
+{
+    value_into(
+        &machine.code,
+        &machine.store,
+        &machine.scopes,
+        machine.standing(),
+        at,
+        given,
+    )
+}
+
 /// A form that gives a value at once, where its steps can be paid; else it is to begin still.
 #[inline]
 fn value_here(machine: &Machine, at: u32, left: u64) -> Stand
     ensures { RunsTo (spot_kind.Form at) left machine.now machine.now result }
 {
     let mut given = Plain::Undefined;
-    let steps = value_into(
-        &machine.code,
-        &machine.store,
-        &machine.scopes,
-        machine.standing(),
-        at,
-        &mut given,
-    );
+    let steps = value_from(machine, at, &mut given);
     let price = u64::from(steps);
     if price == 0 || price > left {
         return stopped_at(Spot::Form(at), left);

@@ -37,7 +37,7 @@ pub struct Seat {
 
 /// What came of a form, with so much left.
 #[inline(always)]
-pub fn went(how: How, left: u64) -> Went
+pub fn came(how: How, left: u64) -> Went
     ensures { result ≡ record { how = how; left = left } }
 {
     Went { how, left }
@@ -50,7 +50,7 @@ pub fn given(seat: &mut Seat, value: Plain, left: u64) -> Went
     ensures value { seat.new ≡ record seat.old { value = value } }
 {
     seat.value = value;
-    went(How::Given, left)
+    came(How::Given, left)
 }
 
 /// Another form is next.
@@ -60,7 +60,7 @@ pub fn next(seat: &mut Seat, at: u32, left: u64) -> Went
     ensures form { seat.new ≡ record seat.old { at = at } }
 {
     seat.at = at;
-    went(How::Next, left)
+    came(How::Next, left)
 }
 
 /// A form is to begin, and no more is done in place.
@@ -70,5 +70,5 @@ pub fn stopped(seat: &mut Seat, at: u32, left: u64) -> Went
     ensures form { seat.new ≡ record seat.old { at = at } }
 {
     seat.at = at;
-    went(How::Stopped, left)
+    came(How::Stopped, left)
 }

@@ -27,12 +27,12 @@ decreases-do_loop c = 8 * c.depth + 3
 abbrev pub decreases-do_row : goal.decreases-do_row
 decreases-do_row c = 8 * c.depth - 1
 
-abbrev pub invariant-do_form-loop-_i : goal.invariant-do_form-loop-_i
-invariant-do_form-loop-_i l = ComesTo l.fn.left l.fn.machine l.machine (at_form l.fn.at l.fn.machine) (at_form l.at l.machine) l.left
+abbrev pub invariant-do_form-loop-i : goal.invariant-do_form-loop-i
+invariant-do_form-loop-i l = ComesTo l.fn.left l.fn.machine l.machine (at_form l.fn.at l.fn.machine) (at_form l.at l.machine) l.left
 
 abbrev pub invariant-do_items-loop-i : goal.invariant-do_items-loop-i
 invariant-do_items-loop-i l = ComesTo l.fn.left l.fn.machine l.machine (at_list l.fn.start l.fn.count l.fn.machine) (at_list (l.fn.start + l.i) (l.fn.count - l.i) l.machine) l.left
     × (l.there - l.i ≡ length (part_of (l.fn.start + l.i) (l.fn.count - l.i) l.machine.code.numbers))
 
-abbrev pub invariant-do_loop-loop-_i : goal.invariant-do_loop-loop-_i
-invariant-do_loop-loop-_i l = ComesTo l.fn.left l.fn.machine l.machine (at_test l.fn.turns l.fn.machine) (at_test l.fn.turns l.machine) l.left
+abbrev pub invariant-do_loop-loop-i : goal.invariant-do_loop-loop-i
+invariant-do_loop-loop-i l = ComesTo l.fn.left l.fn.machine l.machine (at_test l.fn.turns l.fn.machine) (at_test l.fn.turns l.machine) l.left

@@ -1,0 +1,216 @@
+use Rattle.std.proofs.Common.{◌≡◌, ◌+◌, ◌-◌, ◌∙◌, true, ap, arith, get_or, refl, sym}
+use Rattle.js_code.specs.Decoded.{layer_of, no_turn_row, term_at}
+use Rattle.js_code.specs.declared.node.Node.TheVariants as node
+use Rattle.js_direct.specs.declared.plain.Plain.TheVariants as plain
+use Rattle.js_in_place.specs.Places.{after_turn, at_copy, at_form, at_item, at_list, at_scope, at_test, at_turn, at_update, at_value}
+use Rattle.js_in_place.proofs.Parts.{item_begins, list_goes_on, list_last, list_stops, loop_ends, scope_begins, turn_begins, update_begins, updates, updates_nothing}
+use Rattle.js_in_place.proofs.Placed.{given_went, gives_at, next_part, next_went, other_part, part_ends, part_failed, part_given, part_goes, row_done, stands_at, then_part, then_to, then_went, went_failed, went_next, went_stopped, whole_ends}
+use Rattle.js_in_place.proofs.form.+form.Goals as goal
+
+-- FORMS THAT TAKE ONE ANOTHER'S PLACE
+
+pub do_form-returns-in_default-clause-went : goal.do_form-returns-in_default-clause-went
+do_form-returns-in_default-clause-went t c =
+    then_went c.args.left c.loop-i.left c.args.machine.now c.loop-i.machine c.do_row-step.new.machine (at_form c.args.at c.args.machine.now) (at_form c.loop-i.at c.loop-i.machine) c.do_row-step.new.seat c.do_row-step.result c.loop-i.invariant c.do_row-step.ensures
+
+pub do_form-returns-in_default-clause-ends : goal.do_form-returns-in_default-clause-ends
+do_form-returns-in_default-clause-ends t c = c.in_default.not-Next
+
+pub do_form-loop-i-preserved : goal.do_form-loop-i-preserved
+do_form-loop-i-preserved t c =
+    then_to c.args.left c.loop-i.left c.do_row-step.result.left c.args.machine.now c.loop-i.machine c.do_row-step.new.machine (at_form c.args.at c.args.machine.now) (at_form c.loop-i.at c.loop-i.machine) (at_form c.do_row-step.new.seat.at c.do_row-step.new.machine) c.loop-i.invariant
+    (next_went c.loop-i.left c.loop-i.machine c.do_row-step.new.machine (at_form c.loop-i.at c.loop-i.machine) c.do_row-step.new.seat c.do_row-step.result c.in-Next.is c.do_row-step.ensures)
+
+pub do_form-returns-clause-went : goal.do_form-returns-clause-went
+do_form-returns-clause-went t c =
+    went_stopped c.args.left c.loop-i.left c.args.machine.now c.loop-i.machine (at_form c.args.at c.args.machine.now) c.stopped.new.seat c.stopped.result
+    (stands_at c.args.left c.loop-i.left c.loop-i.at c.args.machine.now c.loop-i.machine c.loop-i.machine (at_form c.args.at c.args.machine.now) c.stopped.new.seat refl (ap (λ s. s.at) c.stopped.ensures.form) c.loop-i.invariant)
+    c.stopped.ensures.went
+
+-- ROWS
+
+pub do_row-returns-in-Seq : goal.do_row-returns-in-Seq
+do_row-returns-in-Seq t c =
+    then_went c.args.left (c.args.left - 1) c.args.machine.now c.args.machine.now c.do_items.new.machine (at_form c.args.at c.args.machine.now) (at_list c.in-Seq.start c.in-Seq.count c.args.machine.now) c.do_items.new.seat c.do_items.result
+    (row_done c.args.at c.args.left (c.args.left - 1) (node.Seq c.in-Seq.start c.in-Seq.count) c.args.machine.now (c.node.ensures ∙ ap (layer_of c.args.machine.now.code (term_at c.args.machine.now.code)) c.in-Seq.is) c.requires.some refl) c.do_items.ensures
+
+pub do_row-returns-in-Scope : goal.do_row-returns-in-Scope
+do_row-returns-in-Scope t c =
+    then_went c.args.left (c.args.left - 1) c.args.machine.now c.args.machine.now c.do_scope.new.machine (at_form c.args.at c.args.machine.now) (at_scope c.in-Scope.slots c.in-Scope.body c.args.machine.now) c.do_scope.new.seat c.do_scope.result
+    (row_done c.args.at c.args.left (c.args.left - 1) (node.Scope c.in-Scope.slots c.in-Scope.body) c.args.machine.now (c.node.ensures ∙ ap (layer_of c.args.machine.now.code (term_at c.args.machine.now.code)) c.in-Scope.is) c.requires.some refl) c.do_scope.ensures
+
+pub do_row-returns-in-Loop-default-true : goal.do_row-returns-in-Loop-default-true
+do_row-returns-in-Loop-default-true t c =
+    let it = c.in-Loop-default-true in
+    then_went c.args.left (c.args.left - 1) c.args.machine.now c.args.machine.now c.do_loop.new.machine (at_form c.args.at c.args.machine.now) (at_test it.turns c.args.machine.now) c.do_loop.new.seat c.do_loop.result
+    (row_done c.args.at c.args.left (c.args.left - 1) (node.Loop it.turns true) c.args.machine.now (c.node.ensures ∙ ap (layer_of c.args.machine.now.code (term_at c.args.machine.now.code)) (it.is ∙ ap (node.Loop it.turns) it.tests_first-test)) c.requires.some refl) c.do_loop.ensures
+
+pub do_row-returns-in-Fresh : goal.do_row-returns-in-Fresh
+do_row-returns-in-Fresh t c =
+    then_went c.args.left (c.args.left - 1) c.args.machine.now c.args.machine.now c.fresh.new.machine (at_form c.args.at c.args.machine.now) (at_copy c.args.machine.now) c.fresh.new.seat c.fresh.result
+    (row_done c.args.at c.args.left (c.args.left - 1) node.Fresh c.args.machine.now (c.node.ensures ∙ ap (layer_of c.args.machine.now.code (term_at c.args.machine.now.code)) c.in-Fresh.is) c.requires.some refl) c.fresh.ensures
+
+-- LISTS
+
+pub do_items-returns-in_default-how : goal.do_items-returns-in_default-how
+do_items-returns-in_default-how t c =
+    list_stops c.args.start c.args.count c.loop-i.i c.in-Ok.there (c.args.start + c.loop-i.i + 1) (c.args.count - c.loop-i.i - 1) c.number-at.result c.args.left c.loop-i.left c.args.machine.now c.loop-i.machine c.do_item-step.new.machine c.do_item-step.new.seat c.do_item-step.result
+    c.loop-i.invariant.0 c.loop-i.invariant.1 c.in-Ok.ensures.most (omega (arith, c.loop-i-test.true)) refl refl c.number-at.ensures c.do_item-step.ensures c.in_default-how.not-Next
+
+pub do_items-loop-i-preserved : goal.do_items-loop-i-preserved
+do_items-loop-i-preserved t c =
+    list_goes_on c.args.start c.args.count c.loop-i.i c.in-Ok.there (c.args.start + c.loop-i.i + 1) (c.args.count - c.loop-i.i - 1) c.number-at.result c.args.left c.loop-i.left c.args.machine.now c.loop-i.machine c.do_item-step.new.machine c.do_item-step.new.seat c.do_item-step.result
+    c.loop-i.invariant.0 c.loop-i.invariant.1 c.in-Ok.ensures.most (omega (arith, c.loop-i-test.true)) refl refl c.number-at.ensures c.do_item-step.ensures c.in-Next.is
+
+pub do_items-returns : goal.do_items-returns
+do_items-returns t c =
+    let from = at_list c.args.start c.args.count c.args.machine.now in
+    let last : c.loop-i.i ≡ c.in-Ok.there - 1 = omega (arith, c.loop-i-test.false, c.loop-i.auto.i-end) in
+    went_next c.args.left c.loop-i.left c.args.machine.now c.loop-i.machine from c.next.new.seat c.next.result
+    (stands_at c.args.left c.loop-i.left c.number.result c.args.machine.now c.loop-i.machine c.loop-i.machine from c.next.new.seat refl (ap (λ s. s.at) c.next.ensures.form)
+      (list_last c.args.start c.args.count c.loop-i.i c.in-Ok.there 0 0 c.number.result c.args.left c.loop-i.left c.args.machine.now c.loop-i.machine c.loop-i.machine c.next.new.seat c.next.result c.loop-i.invariant.0 c.loop-i.invariant.1 c.in-Ok.ensures.most
+        last (omega (arith, c.if-there-eq0.false)) (c.number.ensures ∙ ap (λ k. get_or c.loop-i.machine.code.numbers (c.args.start + k) 0) (sym last))))
+    c.next.ensures.went
+
+pub do_item-returns-in-Given : goal.do_item-returns-in-Given
+do_item-returns-in-Given t c =
+    let from = at_item c.args.at c.args.start c.args.count c.args.machine.now in
+    let begun = item_begins c.args.at c.args.start c.args.count c.args.left c.args.machine.now c.push_frame.new.self c.in-Ok.ensures in
+    let s = c.do_form-step.new.seat in
+    then_part c.args.left c.do_form-step.result.left c.args.machine.now c.do_form-step.new.machine c.back_in_list.new.machine from (at_value s.value c.do_form-step.new.machine) (at_list c.args.start c.args.count c.back_in_list.new.machine) s c.back_in_list.result
+    (then_to c.args.left c.args.left c.do_form-step.result.left c.args.machine.now c.push_frame.new.self c.do_form-step.new.machine from (at_form c.args.at c.push_frame.new.self) (at_value s.value c.do_form-step.new.machine) begun
+      (given_went c.args.left c.push_frame.new.self c.do_form-step.new.machine (at_form c.args.at c.push_frame.new.self) s c.do_form-step.result c.in-Given.is c.do_form-step.ensures.went))
+    (c.back_in_list.ensures s)
+
+pub do_item-returns-in_default-how : goal.do_item-returns-in_default-how
+do_item-returns-in_default-how t c =
+    let from = at_item c.args.at c.args.start c.args.count c.args.machine.now in
+    let begun = item_begins c.args.at c.args.start c.args.count c.args.left c.args.machine.now c.push_frame.new.self c.in-Ok.ensures in
+    part_ends c.args.left c.args.machine.now c.do_form-step.new.machine from (at_list c.args.start c.args.count c.do_form-step.new.machine) c.do_form-step.new.seat c.do_form-step.result c.do_form-step.ensures.ends
+    (then_went c.args.left c.args.left c.args.machine.now c.push_frame.new.self c.do_form-step.new.machine from (at_form c.args.at c.push_frame.new.self) c.do_form-step.new.seat c.do_form-step.result begun c.do_form-step.ensures.went)
+
+-- SCOPES
+
+pub do_scope-returns-in-Given : goal.do_scope-returns-in-Given
+do_scope-returns-in-Given t c =
+    let from = at_scope c.args.slots c.args.body c.args.machine.now in
+    let begun = scope_begins c.args.slots c.args.body c.standing-scope.result c.args.left c.args.machine.now c.enter.new.machine c.push_frame.new.self c.standing-scope.ensures c.in-Ok.ensures c.in-Ok-push_frame.ensures in
+    let s = c.do_form-step.new.seat in
+    then_went c.args.left c.do_form-step.result.left c.args.machine.now c.do_form-step.new.machine c.back_from_scope.new.machine from (at_value s.value c.do_form-step.new.machine) s c.back_from_scope.result
+    (then_to c.args.left c.args.left c.do_form-step.result.left c.args.machine.now c.push_frame.new.self c.do_form-step.new.machine from (at_form c.args.body c.push_frame.new.self) (at_value s.value c.do_form-step.new.machine) begun
+      (given_went c.args.left c.push_frame.new.self c.do_form-step.new.machine (at_form c.args.body c.push_frame.new.self) s c.do_form-step.result c.in-Given.is c.do_form-step.ensures.went))
+    (c.back_from_scope.ensures s)
+
+pub do_scope-returns-in_default : goal.do_scope-returns-in_default
+do_scope-returns-in_default t c = went_failed c.args.left c.args.left c.args.machine.now _ (at_scope c.args.slots c.args.body c.args.machine.now) _ c.came.result c.came.ensures
+
+pub do_scope-returns-in_default-how : goal.do_scope-returns-in_default-how
+do_scope-returns-in_default-how t c =
+    let from = at_scope c.args.slots c.args.body c.args.machine.now in
+    let begun = scope_begins c.args.slots c.args.body c.standing-scope.result c.args.left c.args.machine.now c.enter.new.machine c.push_frame.new.self c.standing-scope.ensures c.in-Ok.ensures c.in-Ok-push_frame.ensures in
+    then_went c.args.left c.args.left c.args.machine.now c.push_frame.new.self c.do_form-step.new.machine from (at_form c.args.body c.push_frame.new.self) c.do_form-step.new.seat c.do_form-step.result begun c.do_form-step.ensures.went
+
+-- LOOPS
+
+pub do_loop-returns-in_default : goal.do_loop-returns-in_default
+do_loop-returns-in_default t c =
+    then_went c.args.left c.loop-i.left c.args.machine.now c.loop-i.machine c.do_turn-step.new.machine (at_test c.args.turns c.args.machine.now) (at_test c.args.turns c.loop-i.machine) c.do_turn-step.new.seat c.do_turn-step.result c.loop-i.invariant
+    (whole_ends c.loop-i.left c.loop-i.machine c.do_turn-step.new.machine (at_test c.args.turns c.loop-i.machine) (at_test c.args.turns c.do_turn-step.new.machine) c.do_turn-step.new.seat c.do_turn-step.result c.in_default.not-Next c.do_turn-step.ensures)
+
+pub do_loop-loop-i-preserved : goal.do_loop-loop-i-preserved
+do_loop-loop-i-preserved t c =
+    then_to c.args.left c.loop-i.left c.do_turn-step.result.left c.args.machine.now c.loop-i.machine c.do_turn-step.new.machine (at_test c.args.turns c.args.machine.now) (at_test c.args.turns c.loop-i.machine) (at_test c.args.turns c.do_turn-step.new.machine) c.loop-i.invariant
+    (next_part c.loop-i.left c.loop-i.machine c.do_turn-step.new.machine (at_test c.args.turns c.loop-i.machine) (at_test c.args.turns c.do_turn-step.new.machine) c.do_turn-step.new.seat c.do_turn-step.result c.in-Next.is c.do_turn-step.ensures)
+
+pub do_loop-returns : goal.do_loop-returns
+do_loop-returns t c =
+    then_went c.args.left c.loop-i.left c.args.machine.now c.loop-i.machine c.starts_loop.new.machine (at_test c.args.turns c.args.machine.now) (at_test c.args.turns c.loop-i.machine) c.starts_loop.new.seat c.starts_loop.result c.loop-i.invariant c.starts_loop.ensures.went
+
+pub do_turn-returns-then-price-eq0 : goal.do_turn-returns-then-price-eq0
+do_turn-returns-then-price-eq0 t c =
+    part_ends c.args.left c.args.machine.now c.starts_loop.new.machine (at_test c.args.turns c.args.machine.now) (at_test c.args.turns c.starts_loop.new.machine) c.starts_loop.new.seat c.starts_loop.result c.starts_loop.ensures.ends c.starts_loop.ensures.went
+
+pub do_turn-returns-then-not-truth : goal.do_turn-returns-then-not-truth
+do_turn-returns-then-not-truth t c =
+    let rest = c.args.left - c.from-price.result in
+    let from = at_test c.args.turns c.args.machine.now in
+    part_given c.args.left rest c.args.machine.now c.args.machine.now from from c.given.new.seat c.given.result
+    (gives_at c.args.left rest plain.Undefined c.args.machine.now c.args.machine.now c.args.machine.now from c.given.new.seat refl (ap (λ s. s.value) c.given.ensures.value)
+      (loop_ends c.args.turns c.args.left rest c.turn_row-row.result c.truth_here-truth.result c.args.machine.now c.turn_row-row.ensures (c.truth_here-truth.ensures (omega (arith, c.if-price-eq0.false, c.from-price.ensures)))
+        (omega (arith, c.if-price-left.false, c.from-price.ensures)) (omega (arith, c.from-price.ensures)) c.if-not-truth.true))
+    c.given.ensures.went
+
+pub do_turn-returns-in_default : goal.do_turn-returns-in_default
+do_turn-returns-in_default t c = part_failed c.args.left _ c.args.machine.now _ (at_test c.args.turns c.args.machine.now) _ _ c.came.result c.came.ensures
+
+pub do_turn-returns-in_default-how : goal.do_turn-returns-in_default-how
+do_turn-returns-in_default-how t c =
+    let from = at_test c.args.turns c.args.machine.now in
+    let begun = turn_begins c.args.turns c.args.left (c.args.left - c.from-price.result) c.turn_row-row.result c.truth_here-truth.result c.args.machine.now c.push_frame.new.self c.turn_row-row.ensures (c.truth_here-truth.ensures (omega (arith, c.if-price-eq0.false, c.from-price.ensures)))
+      (omega (arith, c.if-price-left.false, c.from-price.ensures)) (omega (arith, c.from-price.ensures)) c.if-not-truth.false c.in-Ok.ensures in
+    part_ends c.args.left c.args.machine.now c.do_form-step.new.machine from (at_test c.args.turns c.do_form-step.new.machine) c.do_form-step.new.seat c.do_form-step.result c.do_form-step.ensures.ends
+    (then_went c.args.left (c.args.left - c.from-price.result) c.args.machine.now c.push_frame.new.self c.do_form-step.new.machine from (at_form c.turn_row-row.result.body c.push_frame.new.self) c.do_form-step.new.seat c.do_form-step.result begun c.do_form-step.ensures.went)
+
+pub do_turn-returns-in_default-how-2 : goal.do_turn-returns-in_default-how-2
+do_turn-returns-in_default-how-2 t c =
+    let from = at_test c.args.turns c.args.machine.now in
+    let begun = turn_begins c.args.turns c.args.left (c.args.left - c.from-price.result) c.turn_row-row.result c.truth_here-truth.result c.args.machine.now c.push_frame.new.self c.turn_row-row.ensures (c.truth_here-truth.ensures (omega (arith, c.if-price-eq0.false, c.from-price.ensures)))
+      (omega (arith, c.if-price-left.false, c.from-price.ensures)) (omega (arith, c.from-price.ensures)) c.if-not-truth.false c.in-Ok.ensures in
+    let s = c.do_form-step.new.seat in
+    other_part c.args.left c.args.machine.now c.back_from_turn-step.new.machine from (after_turn c.args.turns c.back_from_turn-step.new.machine) (at_test c.args.turns c.back_from_turn-step.new.machine) s c.back_from_turn-step.result c.in_default-how-2.not-Next
+    (then_part c.args.left c.do_form-step.result.left c.args.machine.now c.do_form-step.new.machine c.back_from_turn-step.new.machine from (at_value s.value c.do_form-step.new.machine) (after_turn c.args.turns c.back_from_turn-step.new.machine) s c.back_from_turn-step.result
+      (then_to c.args.left (c.args.left - c.from-price.result) c.do_form-step.result.left c.args.machine.now c.push_frame.new.self c.do_form-step.new.machine from (at_form c.turn_row-row.result.body c.push_frame.new.self) (at_value s.value c.do_form-step.new.machine) begun
+      (given_went (c.args.left - c.from-price.result) c.push_frame.new.self c.do_form-step.new.machine (at_form c.turn_row-row.result.body c.push_frame.new.self) s c.do_form-step.result c.in-Given.is c.do_form-step.ensures.went)) (c.back_from_turn-step.ensures s))
+
+pub do_turn-returns-in-Some : goal.do_turn-returns-in-Some
+do_turn-returns-in-Some t c =
+    let from = at_test c.args.turns c.args.machine.now in
+    let begun = turn_begins c.args.turns c.args.left (c.args.left - c.from-price.result) c.turn_row-row.result c.truth_here-truth.result c.args.machine.now c.push_frame.new.self c.turn_row-row.ensures (c.truth_here-truth.ensures (omega (arith, c.if-price-eq0.false, c.from-price.ensures)))
+      (omega (arith, c.if-price-left.false, c.from-price.ensures)) (omega (arith, c.from-price.ensures)) c.if-not-truth.false c.in-Ok.ensures in
+    let s = c.do_form-step.new.seat in
+    let turned = next_part c.args.left c.args.machine.now c.back_from_turn-step.new.machine from (after_turn c.args.turns c.back_from_turn-step.new.machine) s c.back_from_turn-step.result c.in-Next.is
+      (then_part c.args.left c.do_form-step.result.left c.args.machine.now c.do_form-step.new.machine c.back_from_turn-step.new.machine from (at_value s.value c.do_form-step.new.machine) (after_turn c.args.turns c.back_from_turn-step.new.machine) s c.back_from_turn-step.result
+      (then_to c.args.left (c.args.left - c.from-price.result) c.do_form-step.result.left c.args.machine.now c.push_frame.new.self c.do_form-step.new.machine from (at_form c.turn_row-row.result.body c.push_frame.new.self) (at_value s.value c.do_form-step.new.machine) begun
+      (given_went (c.args.left - c.from-price.result) c.push_frame.new.self c.do_form-step.new.machine (at_form c.turn_row-row.result.body c.push_frame.new.self) s c.do_form-step.result c.in-Given.is c.do_form-step.ensures.went)) (c.back_from_turn-step.ensures s)) in
+    let row = c.turn_row-row.ensures ∙ ap (λ x. get_or x.turns c.args.turns no_turn_row) (sym turned.comes.keeps.1.0) in
+    let there = c.back_from_turn-step.new.machine in
+    let left = c.back_from_turn-step.result.left in
+    then_part c.args.left left c.args.machine.now there c.do_update.new.machine from (at_update c.args.turns c.in-Some.update there) (at_test c.args.turns c.do_update.new.machine) c.do_update.new.seat c.do_update.result
+    (then_to c.args.left left left c.args.machine.now there there from (after_turn c.args.turns there) (at_update c.args.turns c.in-Some.update there) turned (updates c.args.turns c.in-Some.update left c.turn_row-row.result there row c.in-Some.is))
+    c.do_update.ensures
+
+pub do_turn-returns-in-None : goal.do_turn-returns-in-None
+do_turn-returns-in-None t c =
+    let from = at_test c.args.turns c.args.machine.now in
+    let begun = turn_begins c.args.turns c.args.left (c.args.left - c.from-price.result) c.turn_row-row.result c.truth_here-truth.result c.args.machine.now c.push_frame.new.self c.turn_row-row.ensures (c.truth_here-truth.ensures (omega (arith, c.if-price-eq0.false, c.from-price.ensures)))
+      (omega (arith, c.if-price-left.false, c.from-price.ensures)) (omega (arith, c.from-price.ensures)) c.if-not-truth.false c.in-Ok.ensures in
+    let s = c.do_form-step.new.seat in
+    let turned = next_part c.args.left c.args.machine.now c.back_from_turn-step.new.machine from (after_turn c.args.turns c.back_from_turn-step.new.machine) s c.back_from_turn-step.result c.in-Next.is
+      (then_part c.args.left c.do_form-step.result.left c.args.machine.now c.do_form-step.new.machine c.back_from_turn-step.new.machine from (at_value s.value c.do_form-step.new.machine) (after_turn c.args.turns c.back_from_turn-step.new.machine) s c.back_from_turn-step.result
+      (then_to c.args.left (c.args.left - c.from-price.result) c.do_form-step.result.left c.args.machine.now c.push_frame.new.self c.do_form-step.new.machine from (at_form c.turn_row-row.result.body c.push_frame.new.self) (at_value s.value c.do_form-step.new.machine) begun
+      (given_went (c.args.left - c.from-price.result) c.push_frame.new.self c.do_form-step.new.machine (at_form c.turn_row-row.result.body c.push_frame.new.self) s c.do_form-step.result c.in-Given.is c.do_form-step.ensures.went)) (c.back_from_turn-step.ensures s)) in
+    let row = c.turn_row-row.ensures ∙ ap (λ x. get_or x.turns c.args.turns no_turn_row) (sym turned.comes.keeps.1.0) in
+    let there = c.back_from_turn-step.new.machine in
+    let left = c.back_from_turn-step.result.left in
+    part_goes c.args.left c.args.machine.now there from (at_test c.args.turns there) s c.back_from_turn-step.result c.in-Next.is
+    (then_to c.args.left left left c.args.machine.now there there from (after_turn c.args.turns there) (at_test c.args.turns there) turned (updates_nothing c.args.turns left c.turn_row-row.result there row c.in-None.is))
+
+pub do_update-returns-in-Given : goal.do_update-returns-in-Given
+do_update-returns-in-Given t c =
+    let from = at_update c.args.turns c.args.update c.args.machine.now in
+    let begun = update_begins c.args.turns c.args.update c.args.left c.args.machine.now c.push_frame.new.self c.in-Ok.ensures in
+    let s = c.do_form-step.new.seat in
+    then_part c.args.left c.do_form-step.result.left c.args.machine.now c.do_form-step.new.machine c.back_from_update.new.machine from (at_value s.value c.do_form-step.new.machine) (at_test c.args.turns c.back_from_update.new.machine) s c.back_from_update.result
+    (then_to c.args.left c.args.left c.do_form-step.result.left c.args.machine.now c.push_frame.new.self c.do_form-step.new.machine from (at_form c.args.update c.push_frame.new.self) (at_value s.value c.do_form-step.new.machine) begun
+      (given_went c.args.left c.push_frame.new.self c.do_form-step.new.machine (at_form c.args.update c.push_frame.new.self) s c.do_form-step.result c.in-Given.is c.do_form-step.ensures.went))
+    (c.back_from_update.ensures s)
+
+pub do_update-returns-in_default : goal.do_update-returns-in_default
+do_update-returns-in_default t c = part_failed c.args.left c.args.left c.args.machine.now _ (at_update c.args.turns c.args.update c.args.machine.now) _ _ c.came.result c.came.ensures
+
+pub do_update-returns-in_default-how : goal.do_update-returns-in_default-how
+do_update-returns-in_default-how t c =
+    let from = at_update c.args.turns c.args.update c.args.machine.now in
+    let begun = update_begins c.args.turns c.args.update c.args.left c.args.machine.now c.push_frame.new.self c.in-Ok.ensures in
+    part_ends c.args.left c.args.machine.now c.do_form-step.new.machine from (at_test c.args.turns c.do_form-step.new.machine) c.do_form-step.new.seat c.do_form-step.result c.do_form-step.ensures.ends
+    (then_went c.args.left c.args.left c.args.machine.now c.push_frame.new.self c.do_form-step.new.machine from (at_form c.args.update c.push_frame.new.self) c.do_form-step.new.seat c.do_form-step.result begun c.do_form-step.ensures.went)
