@@ -17,3 +17,6 @@ pub mod scopes;
 pub mod seat;
 pub mod spot;
 pub mod waits;
+
+pub use js_direct;
+pub use js_machine_statements;

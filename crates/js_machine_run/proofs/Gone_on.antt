@@ -4,10 +4,10 @@ use Rattle.lava_base.specs.declared.ids.MadeSymbol.{MadeSymbol}
 use Rattle.lava_base.specs.declared.ids.Ref.{Ref}
 use Rattle.js_text.specs.Naming.{naming_of}
 use Rattle.js_text.specs.declared.value.Value.{Value}
-use Rattle.js_direct.specs.Direct.{value_of}
-use Rattle.js_direct.specs.declared.plain.Plain.{Plain}
-use Rattle.js_direct.proofs.Charges.{part}
-use Rattle.js_machine.specs.Steps.{Keeps, point_of}
+use Rattle.js_in_place.specs.js_direct.Direct.{value_of}
+use Rattle.js_in_place.specs.js_direct.declared.plain.Plain.{Plain}
+use Rattle.js_in_place.proofs.of_js_direct.Charges.{part}
+use Rattle.js_machine.specs.Steps.{point_of}
 use Rattle.js_machine.specs.Stops.{Stays}
 use Rattle.js_machine.specs.Views.{Around, View, fitting}
 use Rattle.js_machine.specs.declared.frame.Mode.{Mode}

@@ -10,12 +10,12 @@ ghost use Rattle.js_machine.specs.declared.frame.Mode.TheVariants as mode_kind;
 
 use crate::decisions::resume_answered;
 use crate::supers::deliver_prototype;
+use js_in_place::js_machine_statements::slots::stand_in;
 use js_machine::asked::Answer;
 use js_machine::frame::{Frame, Mode};
 use js_machine::machine::Machine;
 use js_machine_operators::globals::global_found;
 use js_machine_operators::properties::{delete_done, set_done};
-use js_machine_statements::slots::stand_in;
 use js_text::value::Value;
 use lava_base::ids::Ref;
 use lava_base::memory::OutOfMemory;

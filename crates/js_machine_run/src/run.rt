@@ -9,9 +9,9 @@ ghost use Rattle.js_machine_run.specs.Going.{GoesOnTo, IsNext};
 
 use crate::steps::{settle, work};
 use crate::stop::{charge_steps, cost, stop_at};
-use js_direct::plain::as_value;
-use js_in_place::spot::Spot;
+use js_in_place::js_direct::plain::as_value;
 use js_in_place::run::begin_in_place;
+use js_in_place::spot::Spot;
 use js_machine::frame::{Halt, Mode};
 use js_machine::machine::Machine;
 use js_machine::stop::{Charge, Pause, Stop};

@@ -14,18 +14,18 @@ use crate::deliver::deliver_value;
 use crate::newest::deliver_newest;
 use crate::wakes::resume_jumped;
 use js_in_place::frames::take_frame;
+use js_in_place::js_machine_statements::blocks::{deliver_label, exit_scope};
+use js_in_place::js_machine_statements::returns::{
+    deliver_built, deliver_called, deliver_constructed, deliver_derived,
+};
+use js_in_place::js_machine_statements::tries::{deliver_guarded, deliver_handled};
+use js_in_place::js_machine_statements::turns::deliver_turn;
 use js_machine::frame::{Frame, Mode};
 use js_machine::machine::Machine;
 use js_machine_modules::modules::{deliver_module_body, deliver_module_ends};
 use js_machine_natives::natives::{deliver_charged, deliver_made};
 use js_machine_natives::slot_asks::{deliver_refused, deliver_slot};
 use js_machine_operators::operators::deliver_paid;
-use js_machine_statements::blocks::{deliver_label, exit_scope};
-use js_machine_statements::returns::{
-    deliver_built, deliver_called, deliver_constructed, deliver_derived,
-};
-use js_machine_statements::tries::{deliver_guarded, deliver_handled};
-use js_machine_statements::turns::deliver_turn;
 use js_text::value::Value;
 use lava_base::memory::OutOfMemory;
 
