@@ -1,5 +1,5 @@
 -- Forms that are done at once.
-use Rattle.std.proofs.Common.{◌≡◌, ℕ, suc, ◌+◌, ◌≤◌, ◌<◌, Bool, true, false, is_some, List, ◌∷◌, Option, Some, None, IfSome, refl, sym, ap, ◌∙◌, subst, arith}
+use Rattle.std.proofs.Common.{◌≡◌, ℕ, suc, ◌+◌, true, false, is_some, List, ◌∷◌, Option, Some, None, refl, ap, ◌∙◌, arith}
 use Rattle.lava_base.specs.declared.ids.MadeSymbol.{MadeSymbol}
 use Rattle.lava_base.specs.declared.ids.Ref.{Ref}
 use Rattle.js_text.specs.Naming.{naming_of}
@@ -16,14 +16,13 @@ use Rattle.js_operation.specs.Deeds.{MachineParty}
 use Rattle.js_operation.specs.Operating.{MachineValue}
 use Rattle.js_operation.specs.js_run.Acts.{Next, with_value}
 use Rattle.js_operation.specs.js_run.Completions.{Replied}
-use Rattle.js_operation.specs.js_run.Parties.{Shared, running}
+use Rattle.js_operation.specs.js_run.Parties.{running}
 use Rattle.js_operation.specs.js_run.Properties as properties
-use Rattle.js_operation.specs.js_run.Runs.{Begins, Charged, Due, Env, Gives, answered, charge, run_for, settle}
+use Rattle.js_operation.specs.js_run.Runs.{Begins, Charged, Due, Gives, answered, charge, run_for, settle}
 use Rattle.js_direct.specs.Appends.{AppendsAtOnce, IsAppendRow}
 use Rattle.js_direct.specs.Direct.{GivesAtOnce, Sight, value_of}
 use Rattle.js_direct.specs.Done.{DoesAtOnce, IsDoneRow}
 use Rattle.js_direct.specs.declared.direct.Direct.{Direct}
-use Rattle.js_direct.specs.declared.plain.Plain.{Plain}
 use Rattle.js_direct.proofs.Charges.{part}
 use Rattle.js_direct.proofs.Given.{begun}
 
