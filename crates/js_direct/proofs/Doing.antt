@@ -1,5 +1,5 @@
 -- Forms that are done at once.
-use Rattle.std.proofs.Common.{◌≡◌, ℕ, suc, ◌+◌, ◌≤◌, ◌<◌, Bool, true, false, is_some, List, ◌∷◌, Option, Some, None, IfSome, refl, sym, ap, ◌∙◌, subst, arith}
+use Rattle.std.proofs.Common.{◌≡◌, ℕ, suc, ◌+◌, true, false, is_some, List, ◌∷◌, Option, Some, None, refl, ap, ◌∙◌, arith}
 use Rattle.lava_base.specs.declared.ids.MadeSymbol.{MadeSymbol}
 use Rattle.lava_base.specs.declared.ids.Ref.{Ref}
 use Rattle.js_text.specs.Naming.{naming_of}
@@ -16,14 +16,13 @@ use Rattle.js_operation.specs.Deeds.{MachineParty}
 use Rattle.js_operation.specs.Operating.{MachineValue}
 use Rattle.js_operation.specs.js_run.Acts.{Next, with_value}
 use Rattle.js_operation.specs.js_run.Completions.{Replied}
-use Rattle.js_operation.specs.js_run.Parties.{Shared, running}
+use Rattle.js_operation.specs.js_run.Parties.{running}
 use Rattle.js_operation.specs.js_run.Properties as properties
-use Rattle.js_operation.specs.js_run.Runs.{Begins, Charged, Due, Env, Gives, answered, charge, run_for, settle}
+use Rattle.js_operation.specs.js_run.Runs.{Begins, Charged, Due, Gives, answered, charge, run_for, settle}
+use Rattle.js_direct.specs.Appends.{AppendsAtOnce, IsAppendRow}
 use Rattle.js_direct.specs.Direct.{GivesAtOnce, Sight, value_of}
 use Rattle.js_direct.specs.Done.{DoesAtOnce, IsDoneRow}
-use Rattle.js_direct.specs.Puts.{IsPutRow, PutsAtOnce}
 use Rattle.js_direct.specs.declared.direct.Direct.{Direct}
-use Rattle.js_direct.specs.declared.plain.Plain.{Plain}
 use Rattle.js_direct.proofs.Charges.{part}
 use Rattle.js_direct.proofs.Given.{begun}
 
@@ -37,17 +36,17 @@ module _ (s : Sight) (common : List CommonObject) where
             ∙ (λ j. run_for (naming_of s.me) shared env charges limit (steps + k) (settle (naming_of s.me) shared env ks (Gives (Replied (reply.Value v)) (record p { objects = o j; scopes = t j }))));
       }
 
-  -- what writes a property
-  pub put_does : (at : ℕ) (v : MachineValue) (after : List (Object Ref MadeSymbol)) (k : ℕ) → PutsAtOnce s at v after k → DoesAtOnce s common at v after s.scopes k
-  put_does at v after k h =
+  -- what writes a property, or appends an element
+  pub write_does : (at : ℕ) (v : MachineValue) (after : List (Object Ref MadeSymbol)) (k : ℕ) → AppendsAtOnce s common at v after k → DoesAtOnce s common at v after s.scopes k
+  write_does at v after k h =
       record {
         does = λ shared env p ks charges limit steps f o t u d a.
-            h.puts shared env p ks charges limit steps o t u (omega (arith, d)) a
+            h.appends shared env p ks charges limit steps f o t u d a
             ∙ (λ j. run_for (naming_of s.me) shared env charges limit (steps + k) (settle (naming_of s.me) shared env ks (Gives (Replied (reply.Value v)) (record p { objects = after; scopes = t j }))));
       }
 
-  pub put_row_does : (n : Node) (after : List (Object Ref MadeSymbol)) (d : Direct) → IsPutRow s n after d → IsDoneRow s common n (value_of d.value) after s.scopes d.steps
-  put_row_does n after d h = λ at e. put_does at (value_of d.value) after d.steps (h at e)
+  pub write_row_does : (n : Node) (after : List (Object Ref MadeSymbol)) (d : Direct) → IsAppendRow s common n after d → IsDoneRow s common n (value_of d.value) after s.scopes d.steps
+  write_row_does n after d h = λ at e. write_does at (value_of d.value) after d.steps (h at e)
 
   module _ (at h i : ℕ) (v : MachineValue) (k all : ℕ) where
     abbrev scopes_after : List (Scope Ref MadeSymbol)

@@ -1,3 +1,4 @@
+pub mod Append
 pub mod Charges
 pub mod Doing
 pub mod Given

@@ -229,7 +229,7 @@ found_writable objects id k e c w = w.found ∙ ap Some w.writable.is
 
 module _ (me : ℕ) (shared : Shared) where
   -- an own object that is no proxy decides by the table, if it is asked for nothing that a function or a collection answers
-  by_slot : (r : Ref) (x : Ask Ref MadeSymbol) (callable : Bool) (p : MachineParty)
+  pub by_slot : (r : Ref) (x : Ask Ref MadeSymbol) (callable : Bool) (p : MachineParty)
       → ((t : Slot Ref MadeSymbol) → decides_ask (naming_of me) shared r t callable x p ≡ follows_with (naming_of me) shared r (decided (naming_of me) p.objects shared.objects r x) p)
       → ((es : List (Entry Ref MadeSymbol)) → decides_collection (naming_of me) shared r es callable x p ≡ follows_with (naming_of me) shared r (decided (naming_of me) p.objects shared.objects r x) p)
       → (t : Slot Ref MadeSymbol) → is_proxy t ≡ false → decides_by_slot (naming_of me) shared r t callable x p ≡ follows_with (naming_of me) shared r (decided (naming_of me) p.objects shared.objects r x) p
@@ -247,7 +247,7 @@ module _ (me : ℕ) (shared : Shared) where
     abbrev me_at : Ref
     me_at = reference.Own (record { 0 = me }) (record { 0 = id })
 
-    own_decided : (x : Ask Ref MadeSymbol) (p : MachineParty) → id < length p.objects → is_proxy (object_at p.objects id).slot ≡ false
+    pub own_decided : (x : Ask Ref MadeSymbol) (p : MachineParty) → id < length p.objects → is_proxy (object_at p.objects id).slot ≡ false
         → ((callable : Bool) (t : Slot Ref MadeSymbol) → decides_ask (naming_of me) shared me_at t callable x p ≡ follows_with (naming_of me) shared me_at (decided (naming_of me) p.objects shared.objects me_at x) p)
         → ((callable : Bool) (es : List (Entry Ref MadeSymbol)) → decides_collection (naming_of me) shared me_at es callable x p ≡ follows_with (naming_of me) shared me_at (decided (naming_of me) p.objects shared.objects me_at x) p)
         → decides (naming_of me) shared (own_object me id) x p ≡ follows_with (naming_of me) shared me_at (decided_at (naming_of me) p.objects shared.objects me_at (Own id) x) p
@@ -262,7 +262,7 @@ module _ (me : ℕ) (shared : Shared) where
         ∙ ap (λ b. decided_there names p.objects shared.objects me_at x (if b then Some (Own id) else None)) (lt-ltb id (length p.objects) is_there))
 
     -- what waits for the answer of an own object is open meanwhile
-    waits : (x : Ask Ref MadeSymbol) (n : Next Ref MadeSymbol) (p : MachineParty) → p.depth < MAX_DEPTH → waits_for (naming_of me) me_at x p n ≡ Decide (own_object me id) x (deeper p) (Closes n)
+    pub waits : (x : Ask Ref MadeSymbol) (n : Next Ref MadeSymbol) (p : MachineParty) → p.depth < MAX_DEPTH → waits_for (naming_of me) me_at x p n ≡ Decide (own_object me id) x (deeper p) (Closes n)
     waits x n p h =
         ap (λ b. if b then asks_value (naming_of me) (own_object me id) x (deeper p) (Closes n) else acts.End halt.Depth) (lt-ltb p.depth MAX_DEPTH h)
         ∙ own_asked me id x (deeper p) (Closes n)
@@ -297,7 +297,7 @@ module _ (me : ℕ) (shared : Shared) where
           ∙ ap (λ d. follows_with (naming_of me) shared me_at (exotic_carried_out p.objects (Own id) d) (deeper p)) (value_defined me me_at (object_at p.objects id) k w.writable.old v e c (found_writable p.objects id k e c w) w.place w.plainly)
 
 -- what was open is open no longer
-closed : (p : MachineParty) → shallower (deeper p) ≡ p
+pub closed : (p : MachineParty) → shallower (deeper p) ≡ p
 closed p = let same : suc p.depth - 1 ≡ p.depth = omega arith in ap (λ d. record p { depth = d }) same
 
 -- the three decisions of a Set
@@ -332,7 +332,7 @@ module _ (me id : ℕ) (k : Key MadeSymbol) (v : MachineValue) (e c : Bool) wher
 -- FORMS
 
 -- a number or a text is a key at once
-puts : (me id : ℕ) (shared : Shared) (w v : MachineValue) (k : Key MadeSymbol) (p : MachineParty) → key_named w ≡ Some k
+pub puts : (me id : ℕ) (shared : Shared) (w v : MachineValue) (k : Key MadeSymbol) (p : MachineParty) → key_named w ≡ Some k
     → put_property (naming_of me) shared (own_object me id) w v p ≡ asks_value (naming_of me) (own_object me id) (ask.Set k v (own_object me id)) p (has_set (naming_of me) v)
 puts me id shared (value.Int n) v k p e = let same : key_of_text (signed_decimal n) ≡ k = cc in ap (λ x. asks_value (naming_of me) (own_object me id) (ask.Set x v (own_object me id)) p (has_set (naming_of me) v)) same
 puts me id shared (value.Text t) v k p e = let same : key_of_text t ≡ k = cc in ap (λ x. asks_value (naming_of me) (own_object me id) (ask.Set x v (own_object me id)) p (has_set (naming_of me) v)) same

@@ -1,3 +1,4 @@
+pub mod Appends
 pub mod Direct
 pub mod Done
 pub mod Puts

@@ -8,12 +8,13 @@ ghost use Rattle.js_store.specs.Frozen.{CommonObject};
 
 use crate::direct::value_into;
 use crate::plain::Plain;
-use crate::puts::put_at;
 use crate::slots::{init_at, set_at};
+use crate::writes::write_at;
 use js_code::code::Code;
 use js_code::node::Node;
 use js_state::scopes::Scopes;
 use js_store::flat::FlatStore;
+use js_store::frozen::FrozenStore;
 
 /// A form that gives a value at once and changes nothing, where its steps are at most so many.
 #[inline]
@@ -39,11 +40,12 @@ fn only_value(
     steps
 }
 
-/// A property gets what a form gives at once, where its steps are at most so many.
+/// A property, or a new element of an array, gets what a form gives at once, where its steps are at most so many.
 #[inline]
 fn put_into(
     code: &Code,
     store: &mut FlatStore,
+    common: &FrozenStore,
     scopes: &Scopes,
     scope: u32,
     object: u32,
@@ -55,13 +57,12 @@ fn put_into(
     ensures does { let sight = seen store.old code.now scopes.now scope in
         let row = node.Put object key value in
         let v = value_of given.new in
-        0 < result → (common : List CommonObject)
-        → IsDoneRow sight common row v store.new.objects scopes.now result }
+        0 < result → IsDoneRow sight common.now row v store.new.objects scopes.now result }
     ensures within { result ≤ left }
     ensures none { result ≡ 0 → store.new.objects ≡ store.old.objects }
     ensures party { store.new.party ≡ store.old.party }
 {
-    match put_at(code, store, scopes, scope, object, key, value, left) {
+    match write_at(code, store, common, scopes, scope, object, key, value, left) {
         Some(direct) => {
             *given = direct.value;
             direct.steps
@@ -75,6 +76,7 @@ fn put_into(
 pub fn done_at(
     code: &Code,
     store: &mut FlatStore,
+    common: &FrozenStore,
     scopes: &mut Scopes,
     scope: u32,
     at: u32,
@@ -82,7 +84,8 @@ pub fn done_at(
     given: &mut Plain,
 ) -> u32
     ensures does { let sight = seen store.old code.now scopes.old scope in
-        0 < result → (common : List CommonObject) → DoesAtOnce sight common at (value_of given.new) store.new.objects scopes.new result }
+        let v = value_of given.new in
+        0 < result → DoesAtOnce sight common.now at v store.new.objects scopes.new result }
     ensures within { result ≤ left }
     ensures none { result ≡ 0 → (store.new.objects ≡ store.old.objects) × (scopes.new ≡ scopes.old) }
     ensures party { store.new.party ≡ store.old.party }
@@ -98,7 +101,7 @@ pub fn done_at(
             code, store, scopes, scope, hops, slot, value, left, given,
         ),
         Node::Put { object, key, value } => put_into(
-            code, store, scopes, scope, object, key, value, left, given,
+            code, store, common, scopes, scope, object, key, value, left, given,
         ),
         _ => only_value(code, store, scopes, scope, at, left, given),
     }

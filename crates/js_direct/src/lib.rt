@@ -4,8 +4,10 @@
 // - `plain` has values that are no text and no symbol.
 // - `properties` has own data properties.
 // - `slots` writes slots, `puts` properties; `done` does what a form does at once.
+// - `appends` appends elements to arrays; `writes` does this, or what `puts` does.
 #![tactic(auto)]
 
+pub mod appends;
 pub mod direct;
 pub mod done;
 pub mod numbers;
@@ -14,3 +16,4 @@ pub mod properties;
 pub mod puts;
 pub mod slots;
 pub mod truths;
+pub mod writes;

@@ -24,21 +24,27 @@ use lava_base::marks::Class;
 
 /// A property key, and how many steps the form takes that gives it.
 #[derive(Drop)]
-struct Named {
-    key: Key,
-    steps: u32,
+pub(crate) struct Named {
+    pub(crate) key: Key,
+    pub(crate) steps: u32,
 }
 
 /// The attributes that a property keeps when its value is written.
 #[derive(Clone, Copy)]
-struct Attributes {
-    enumerable: bool,
-    configurable: bool,
+pub(crate) struct Attributes {
+    pub(crate) enumerable: bool,
+    pub(crate) configurable: bool,
 }
 
 /// The key of a form that gives an array index at once.
 #[inline]
-fn index_at(code: &Code, store: &FlatStore, scopes: &Scopes, scope: u32, at: u32) -> Option<Named>
+pub(crate) fn index_at(
+    code: &Code,
+    store: &FlatStore,
+    scopes: &Scopes,
+    scope: u32,
+    at: u32,
+) -> Option<Named>
     ensures { let sight = seen store.now code.now scopes.now scope in
         IfSome result (λ n. NamesAtOnce sight at n.key n.steps) }
 {
@@ -72,7 +78,7 @@ fn key_at(code: &Code, store: &FlatStore, scopes: &Scopes, scope: u32, at: u32) 
 
 /// The steps of a Put, of its key and its value, where these are not too many.
 #[inline]
-fn steps_within(key: u32, value: u32, left: u64) -> Option<u32>
+pub(crate) fn steps_within(key: u32, value: u32, left: u64) -> Option<u32>
     ensures { IfSome result (λ n. (n ≡ 5 + key + value) × (n ≤ left)) }
 {
     if key > MOST_STEPS || value > MOST_STEPS {
@@ -129,7 +135,7 @@ fn defines_plainly(store: &FlatStore, id: ObjId, key: &Key) -> bool
 
 /// A property that is written keeps its place: those at array indices stand in order.
 #[inline]
-fn keep_place(store: &FlatStore, id: ObjId, key: &Key)
+pub(crate) fn keep_place(store: &FlatStore, id: ObjId, key: &Key)
     requires { id.0 < length store.now.objects }
     ensures { KeepsPlace key.now (object_at store.now.objects id.0) }
 {
@@ -140,7 +146,7 @@ fn keep_place(store: &FlatStore, id: ObjId, key: &Key)
 
 /// The attributes of a data property that may be written.
 #[inline]
-fn attributes_of(property: &Descriptor) -> Option<Attributes>
+pub(crate) fn attributes_of(property: &Descriptor) -> Option<Attributes>
     ensures { IfSome result (λ a. IsWritable property.now a.enumerable a.configurable) }
 {
     match property {

@@ -5,7 +5,7 @@ use Rattle.js_text.specs.declared.value.Value.TheVariants as value
 use Rattle.js_code.specs.declared.node.Node.TheVariants as node
 use Rattle.js_tree.specs.declared.operator.UnaryOperator.TheVariants.{Plus}
 use Rattle.js_direct.specs.Direct.{GivesAtOnce, HasData, IsNumberRow, seen}
-use Rattle.js_direct.proofs.Given.{number_binary, number_indexed, number_literal, number_named, number_plus, number_row, number_slot}
+use Rattle.js_direct.proofs.Given.{number_binary, number_indexed, number_literal, number_named, number_plus, number_slot}
 use Rattle.js_direct.proofs.numbers.+number.Goals as goal
 
 -- LITERALS AND SLOTS
