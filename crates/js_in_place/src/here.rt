@@ -33,6 +33,7 @@ pub fn done_here(machine: &mut Machine, seat: &mut Seat, at: u32, left: u64) -> 
     done_at(
         &machine.code,
         &mut machine.store,
+        &machine.common,
         &mut machine.scopes,
         scope,
         at,
