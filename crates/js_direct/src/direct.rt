@@ -183,13 +183,7 @@ fn property_at(
 
 /// What a form gives at once that is no number, if it does.
 #[tactic(auto, using(crate::proofs::Given::at_row))]
-fn other_at(
-    code: &Code,
-    store: &FlatStore,
-    scopes: &Scopes,
-    scope: u32,
-    at: u32,
-) -> Option<Direct>
+fn other_at(code: &Code, store: &FlatStore, scopes: &Scopes, scope: u32, at: u32) -> Option<Direct>
     ensures { IfSome result (IsDirect (seen store.now code.now scopes.now scope) at) }
 {
     match code.node(at) {

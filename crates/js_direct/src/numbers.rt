@@ -240,16 +240,7 @@ pub fn number_at(
             operator,
             left,
             right,
-        } => binary_number(
-            code,
-            store,
-            scopes,
-            scope,
-            operator,
-            left,
-            right,
-            depth - 1,
-        ),
+        } => binary_number(code, store, scopes, scope, operator, left, right, depth - 1),
         Node::Get { object, key } => property_number(
             code,
             store,

@@ -117,7 +117,7 @@ fn write_element(
     }
 }
 
-/// Writes the own data property that a form writes at once, or appends the element that it appends, as `put_at` and `append_at`. Where it gives none, nothing is written.
+/// Writes the own data property that a form writes at once, or appends the element that it appends, as `put_at` does a property. Where it gives none, nothing is written.
 #[tactic(auto, using(crate::proofs::Append::put_appends))]
 pub fn write_at(
     code: &Code,

@@ -1,5 +1,5 @@
 -- The newest frame.
-use Rattle.std.proofs.Common.{◌≡◌, ℕ, ◌<◌, ◌-◌, List, [], ◌∷◌, drop, get_or, length, reverse, Option, Some, None, refl, sym, ap, ◌∙◌, arith}
+use Rattle.std.proofs.Common.{◌≡◌, ◌<◌, ◌-◌, List, [], ◌∷◌, drop, get_or, length, reverse, Some, None, refl, sym, ap, ◌∙◌, arith}
 use Rattle.std.proofs.lemmas.List.{get_or-reverse, length-reverse}
 use Rattle.js_machine.specs.Views.{newest}
 use Rattle.js_machine.specs.declared.frame.Frame.{Frame}

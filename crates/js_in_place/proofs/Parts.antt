@@ -1,10 +1,7 @@
 -- Lists, loops and choices, by the places where a run stands in them.
 use Rattle.std.proofs.Common.{◌≡◌, ℕ, suc, ◌+◌, ◌-◌, ◌≤◌, ◌<◌, Bool, true, false, not, List, [], ◌∷◌, get_or, length, map, replicate, drop, Option, Some, None, refl, sym, ap, ◌∙◌, subst, arith, if◌then◌else◌}
 use Rattle.std.specs.Option.{option_map}
-use Rattle.lava_base.specs.declared.ids.MadeSymbol.{MadeSymbol}
-use Rattle.lava_base.specs.declared.ids.Ref.{Ref}
 use Rattle.js_text.specs.Naming.{naming_of}
-use Rattle.js_text.specs.declared.value.Value.{Value}
 use Rattle.js_text.specs.declared.value.Value.TheVariants as value
 use Rattle.js_code.specs.Decoded.{layer_of, no_turn_row, term_at}
 use Rattle.js_code.specs.Tables.{part_of}
@@ -19,13 +16,11 @@ use Rattle.js_direct.specs.declared.truths.Truth.{Truth}
 use Rattle.js_machine.specs.Bodies.{scope_of, stood_in}
 use Rattle.js_machine.specs.Steps.{deed_of_row, deed_with, over}
 use Rattle.js_machine.specs.Views.{View, newest, nexts_of, party_of, turns_at, with_copy, with_scope}
-use Rattle.js_machine.specs.declared.frame.Frame.{Frame}
 use Rattle.js_machine.specs.declared.frame.Frame.TheVariants as frame
-use Rattle.js_machine.specs.js_run.Acts.{Become, Evaluate, Give, Tested, Turned, give, next_turn, with_value}
-use Rattle.js_machine.specs.js_run.Control.{branch, in_order, otherwise}
+use Rattle.js_machine.specs.js_run.Acts.{Become, Evaluate, Tested, Turned, give, next_turn, with_value}
+use Rattle.js_machine.specs.js_run.Control.{in_order, otherwise}
 use Rattle.js_machine.specs.js_run.Rows.{if_test}
 use Rattle.js_machine.specs.js_run.Runs.{answered, settle}
-use Rattle.js_machine.specs.js_run.Truth.{to_boolean}
 use Rattle.js_machine.proofs.Listed.{part_first, part_within}
 use Rattle.js_in_place.specs.InPlace.{sight_of}
 use Rattle.js_in_place.specs.Places.{ComesTo, IsPart, IsWent, Place, after_turn, at_copy, at_deed, at_form, at_item, at_list, at_scope, at_test, at_turn, at_update, at_value}
@@ -98,9 +93,10 @@ module _ (os oc i n s c at whole left : ℕ) (first old new : View) (seat : Seat
         let start : s ≡ os + (i + 1) = omega (arith, e) in
         let count : c ≡ oc - (i + 1) = omega (arith, d) in
         let less : n - i - 1 ≡ length (part_of s c old.code.numbers) = list_shorter old.code.numbers (n - i) (os + i) (oc - i) s c many (omega (arith, more)) (omega (arith, more, fewer)) e (omega (arith, d)) in
-        let left_over : n - (i + 1) ≡ n - i - 1 = omega arith in
-        (subst (λ x. ComesTo whole first new (at_list os oc first) (at_list x (oc - (i + 1)) new) w.left) start (subst (λ x. ComesTo whole first new (at_list os oc first) (at_list s x new) w.left) count (next_part whole first new (at_list os oc first) (at_list s c new) seat w next goes_so)),
-         left_over ∙ less ∙ (λ j. length (part_of (start j) (count j) (sym there.comes.keeps.1.0 j).numbers)))
+        let left_over : n - (i + 1) ≡ n - i - 1 = omega arith in (
+          subst (λ x. ComesTo whole first new (at_list os oc first) (at_list x (oc - (i + 1)) new) w.left) start (subst (λ x. ComesTo whole first new (at_list os oc first) (at_list s x new) w.left) count (next_part whole first new (at_list os oc first) (at_list s c new) seat w next goes_so)),
+          left_over ∙ less ∙ (λ j. length (part_of (start j) (count j) (sym there.comes.keeps.1.0 j).numbers)),
+        )
 
     pub list_stops : (w.how ≡ how.Next → ⊥) → IsWent (at_list os oc first) whole first new seat w
     list_stops ends = whole_ends whole first new (at_list os oc first) (at_list s c new) seat w ends goes_so
@@ -137,7 +133,7 @@ pub scope_left : (back left : ℕ) (v : Plain) (old low new : View) → newest o
 scope_left back left v old low new e d f =
     then_to left left left old low new (at_value v old) (at_deed (deed_with (frame.ScopeExit back) (value_of v) low) low) (at_value v new) (popped (frame.ScopeExit back) v left old low e d)
     (subst (λ x. ComesTo left low x (at_deed (deed_with (frame.ScopeExit back) (value_of v) low) low) (at_value v x) left) (sym f)
-      (same_place left low (record low { bodies = stood_in back low.bodies }) (at_deed (deed_with (frame.ScopeExit back) (value_of v) low) low) (at_value v (record low { bodies = stood_in back low.bodies })) (all_kept low) (λ a. refl)))
+    (same_place left low (record low { bodies = stood_in back low.bodies }) (at_deed (deed_with (frame.ScopeExit back) (value_of v) low) low) (at_value v (record low { bodies = stood_in back low.bodies })) (all_kept low) (λ a. refl)))
 
 pub copy_entered : (left : ℕ) (old new : View) → new ≡ with_copy old → ComesTo left old new (at_copy old) (at_value plain.Undefined new) left
 copy_entered left old new e = subst (λ x. ComesTo left old x (at_copy old) (at_value plain.Undefined x) left) (sym e) (same_place left old (with_copy old) (at_copy old) (at_value plain.Undefined (with_copy old)) (all_kept old) (λ a. refl))
@@ -148,7 +144,7 @@ copy_in_list at s c left rest old new e l d f =
     then_to left rest rest old old new (at_item at s c old) (λ b. settle (naming_of old.me) b.shared b.env (over (frame.Seq s c) old b ∷ nexts_of (naming_of old.me) b.shared old.code old.frames old.values old.waits) (answered (naming_of old.me) b.env (deed_of_row node.Fresh old b))) (at_list s c new)
     (row_under at left rest node.Fresh old (over (frame.Seq s c) old) e l d)
     (subst (λ x. ComesTo rest old x (λ b. settle (naming_of old.me) b.shared b.env (over (frame.Seq s c) old b ∷ nexts_of (naming_of old.me) b.shared old.code old.frames old.values old.waits) (answered (naming_of old.me) b.env (deed_of_row node.Fresh old b))) (at_list s c x) rest) (sym f)
-      (same_place rest old (with_copy old) (λ b. settle (naming_of old.me) b.shared b.env (over (frame.Seq s c) old b ∷ nexts_of (naming_of old.me) b.shared old.code old.frames old.values old.waits) (answered (naming_of old.me) b.env (deed_of_row node.Fresh old b))) (at_list s c (with_copy old)) (all_kept old) (λ a. refl)))
+    (same_place rest old (with_copy old) (λ b. settle (naming_of old.me) b.shared b.env (over (frame.Seq s c) old b ∷ nexts_of (naming_of old.me) b.shared old.code old.frames old.values old.waits) (answered (naming_of old.me) b.env (deed_of_row node.Fresh old b))) (at_list s c (with_copy old)) (all_kept old) (λ a. refl)))
 
 -- LOOPS
 
@@ -257,5 +253,5 @@ pub none_chosen : (at t c left rest : ℕ) (n : Node) (x : Truth) (w : View) →
 none_chosen at t c left rest n x w i e l d h y =
     then_to left (left - 1) rest w w w (at_form at w) (choice t c None w) (at_value plain.Undefined w) (begins_choice at t c left None n w i e (omega (arith, l)))
     (then_to (left - 1) rest rest w w w (choice t c None w) (chosen_by false c None w) (at_value plain.Undefined w)
-      (subst (λ b. ComesTo (left - 1) w w (choice t c None w) (chosen_by b c None w) rest) y (chooses t c (left - 1) rest None x w h (omega (arith, l)) d))
-      (same_place rest w w (chosen_by false c None w) (at_value plain.Undefined w) (all_kept w) (λ a. refl)))
+    (subst (λ b. ComesTo (left - 1) w w (choice t c None w) (chosen_by b c None w) rest) y (chooses t c (left - 1) rest None x w h (omega (arith, l)) d))
+    (same_place rest w w (chosen_by false c None w) (at_value plain.Undefined w) (all_kept w) (λ a. refl)))

@@ -1,5 +1,5 @@
 -- How runs in place are put together.
-use Rattle.std.proofs.Common.{◌≡◌, ℕ, suc, ◌+◌, ◌-◌, ◌≤◌, ◌<◌, ◌∷◌, drop, List, Option, Some, refl, sym, ap, ◌∙◌, subst, arith}
+use Rattle.std.proofs.Common.{◌≡◌, ℕ, suc, ◌+◌, ◌-◌, ◌≤◌, ◌<◌, ◌∷◌, drop, List, Some, refl, sym, ap, ◌∙◌, subst, arith}
 use Rattle.lava_base.specs.declared.ids.MadeSymbol.{MadeSymbol}
 use Rattle.lava_base.specs.declared.ids.Ref.{Ref}
 use Rattle.js_text.specs.Naming.{naming_of}
@@ -13,7 +13,7 @@ use Rattle.js_direct.specs.Direct.{GivesAtOnce, value_of}
 use Rattle.js_direct.specs.Done.{DoesAtOnce}
 use Rattle.js_direct.specs.declared.plain.Plain.{Plain}
 use Rattle.js_direct.proofs.Charges.{one, part}
-use Rattle.js_machine.specs.Steps.{Deed, Keeps, deed_of_row, deed_with, over, settles, under}
+use Rattle.js_machine.specs.Steps.{Keeps, deed_of_row, deed_with, over, under}
 use Rattle.js_machine.specs.Views.{Around, View, fitting, newest, nexts_of, party_of}
 use Rattle.js_machine.specs.declared.frame.Frame.{Frame}
 use Rattle.js_machine.specs.declared.frame.Frame.TheVariants as frame
@@ -227,30 +227,30 @@ row_done at left rest n w e l d =
 -- so it is where something waits for the form
 pub row_under : (at left rest : ℕ) (n : Node) (w : View) (next : Around → Next Ref MadeSymbol) → out-Term (term_at w.code at) ≡ layer_of w.code (term_at w.code) n → 0 < left → rest ≡ left - 1
     → ComesTo left w w (at_deed (λ a. Evaluate (term_at w.code at) (party_of a w) (next a)) w)
-      (λ b. settle (naming_of w.me) b.shared b.env (next b ∷ nexts_of (naming_of w.me) b.shared w.code w.frames w.values w.waits) (answered (naming_of w.me) b.env (deed_of_row n w b))) rest
+    (λ b. settle (naming_of w.me) b.shared b.env (next b ∷ nexts_of (naming_of w.me) b.shared w.code w.frames w.values w.waits) (answered (naming_of w.me) b.env (deed_of_row n w b))) rest
 row_under at left rest n w next e l d =
     let price : 1 ≡ left - rest = omega (arith, l, d) in
     record {
       within = omega (arith, d);
       comes = subst (λ k. Comes k w w (at_deed (λ a. Evaluate (term_at w.code at) (party_of a w) (next a)) w)
-        (λ b. settle (naming_of w.me) b.shared b.env (next b ∷ nexts_of (naming_of w.me) b.shared w.code w.frames w.values w.waits) (answered (naming_of w.me) b.env (deed_of_row n w b)))) price (record {
-        comes = λ a charges limit steps c.
-            (let b = fitting w a in
-            let names = naming_of w.me in
-            let ks = next b ∷ nexts_of names b.shared w.code w.frames w.values w.waits in
-            let count : 1 + charges ≡ suc charges = omega arith in
-            ap (λ m. run_for names b.shared b.env m limit steps (Due 0 (Begins (term_at w.code at)) (party_of b w) ks)) count
-            ∙ one names b.shared b.env charges limit steps (Begins (term_at w.code at)) (party_of b w) ks c
-            ∙ ap (λ l. run_for names b.shared b.env charges limit (steps + 1) (settle names b.shared b.env ks (answered names b.env (row_at names b.shared l (party_of b w))))) e);
-        keeps = all_kept w;
-      });
+          (λ b. settle (naming_of w.me) b.shared b.env (next b ∷ nexts_of (naming_of w.me) b.shared w.code w.frames w.values w.waits) (answered (naming_of w.me) b.env (deed_of_row n w b)))) price (record {
+            comes = λ a charges limit steps c.
+                (let b = fitting w a in
+                let names = naming_of w.me in
+                let ks = next b ∷ nexts_of names b.shared w.code w.frames w.values w.waits in
+                let count : 1 + charges ≡ suc charges = omega arith in
+                ap (λ m. run_for names b.shared b.env m limit steps (Due 0 (Begins (term_at w.code at)) (party_of b w) ks)) count
+                ∙ one names b.shared b.env charges limit steps (Begins (term_at w.code at)) (party_of b w) ks c
+                ∙ ap (λ l. run_for names b.shared b.env charges limit (steps + 1) (settle names b.shared b.env ks (answered names b.env (row_at names b.shared l (party_of b w))))) e);
+            keeps = all_kept w;
+          });
     }
 
 -- a form is done at once, whatever waits for its value
 done_under : (at left k rest : ℕ) (v : Plain) (objects : List (Object Ref MadeSymbol)) (scopes : List (Scope Ref MadeSymbol)) (w : View) (next : Around → Next Ref MadeSymbol)
     → DoesAtOnce (sight_of w) w.common at (value_of v) objects scopes k → w.depth + 2 < MAX_DEPTH → k ≤ left → rest ≡ left - k
     → (let new = record w { objects = objects; scopes = scopes } in ComesTo left w new (at_deed (λ a. Evaluate (term_at w.code at) (party_of a w) (next a)) w)
-      (at_deed (λ a. go_on (naming_of w.me) a.shared (next a) (Replied (reply.Value (value_of v))) (party_of a new)) new) rest)
+    (at_deed (λ a. go_on (naming_of w.me) a.shared (next a) (Replied (reply.Value (value_of v))) (party_of a new)) new) rest)
 done_under at left k rest v objects scopes w next h d l e =
     let price : k ≡ left - rest = omega (arith, l, e) in
     let new = record w { objects = objects; scopes = scopes } in

@@ -2,7 +2,7 @@ use Rattle.std.proofs.Common.{◌≡◌, ◌+◌, ◌-◌, ◌∙◌, true, ap, 
 use Rattle.js_code.specs.Decoded.{layer_of, no_turn_row, term_at}
 use Rattle.js_code.specs.declared.node.Node.TheVariants as node
 use Rattle.js_direct.specs.declared.plain.Plain.TheVariants as plain
-use Rattle.js_in_place.specs.Places.{after_turn, at_copy, at_form, at_item, at_list, at_scope, at_test, at_turn, at_update, at_value}
+use Rattle.js_in_place.specs.Places.{after_turn, at_copy, at_form, at_item, at_list, at_scope, at_test, at_update, at_value}
 use Rattle.js_in_place.proofs.Parts.{item_begins, list_goes_on, list_last, list_stops, loop_ends, scope_begins, turn_begins, update_begins, updates, updates_nothing}
 use Rattle.js_in_place.proofs.Placed.{given_went, gives_at, next_part, next_went, other_part, part_ends, part_failed, part_given, part_goes, row_done, stands_at, then_part, then_to, then_went, went_failed, went_next, went_stopped, whole_ends}
 use Rattle.js_in_place.proofs.form.+form.Goals as goal
@@ -68,8 +68,8 @@ do_items-returns t c =
     let last : c.loop-i.i ≡ c.in-Ok.there - 1 = omega (arith, c.loop-i-test.false, c.loop-i.auto.i-end) in
     went_next c.args.left c.loop-i.left c.args.machine.now c.loop-i.machine from c.next.new.seat c.next.result
     (stands_at c.args.left c.loop-i.left c.number.result c.args.machine.now c.loop-i.machine c.loop-i.machine from c.next.new.seat refl (ap (λ s. s.at) c.next.ensures.form)
-      (list_last c.args.start c.args.count c.loop-i.i c.in-Ok.there 0 0 c.number.result c.args.left c.loop-i.left c.args.machine.now c.loop-i.machine c.loop-i.machine c.next.new.seat c.next.result c.loop-i.invariant.0 c.loop-i.invariant.1 c.in-Ok.ensures.most
-        last (omega (arith, c.if-there-eq0.false)) (c.number.ensures ∙ ap (λ k. get_or c.loop-i.machine.code.numbers (c.args.start + k) 0) (sym last))))
+    (list_last c.args.start c.args.count c.loop-i.i c.in-Ok.there 0 0 c.number.result c.args.left c.loop-i.left c.args.machine.now c.loop-i.machine c.loop-i.machine c.next.new.seat c.next.result c.loop-i.invariant.0 c.loop-i.invariant.1 c.in-Ok.ensures.most
+    last (omega (arith, c.if-there-eq0.false)) (c.number.ensures ∙ ap (λ k. get_or c.loop-i.machine.code.numbers (c.args.start + k) 0) (sym last))))
     c.next.ensures.went
 
 pub do_item-returns-in-Given : goal.do_item-returns-in-Given
@@ -79,7 +79,7 @@ do_item-returns-in-Given t c =
     let s = c.do_form-step.new.seat in
     then_part c.args.left c.do_form-step.result.left c.args.machine.now c.do_form-step.new.machine c.back_in_list.new.machine from (at_value s.value c.do_form-step.new.machine) (at_list c.args.start c.args.count c.back_in_list.new.machine) s c.back_in_list.result
     (then_to c.args.left c.args.left c.do_form-step.result.left c.args.machine.now c.push_frame.new.self c.do_form-step.new.machine from (at_form c.args.at c.push_frame.new.self) (at_value s.value c.do_form-step.new.machine) begun
-      (given_went c.args.left c.push_frame.new.self c.do_form-step.new.machine (at_form c.args.at c.push_frame.new.self) s c.do_form-step.result c.in-Given.is c.do_form-step.ensures.went))
+    (given_went c.args.left c.push_frame.new.self c.do_form-step.new.machine (at_form c.args.at c.push_frame.new.self) s c.do_form-step.result c.in-Given.is c.do_form-step.ensures.went))
     (c.back_in_list.ensures s)
 
 pub do_item-returns-in_default-how : goal.do_item-returns-in_default-how
@@ -98,7 +98,7 @@ do_scope-returns-in-Given t c =
     let s = c.do_form-step.new.seat in
     then_went c.args.left c.do_form-step.result.left c.args.machine.now c.do_form-step.new.machine c.back_from_scope.new.machine from (at_value s.value c.do_form-step.new.machine) s c.back_from_scope.result
     (then_to c.args.left c.args.left c.do_form-step.result.left c.args.machine.now c.push_frame.new.self c.do_form-step.new.machine from (at_form c.args.body c.push_frame.new.self) (at_value s.value c.do_form-step.new.machine) begun
-      (given_went c.args.left c.push_frame.new.self c.do_form-step.new.machine (at_form c.args.body c.push_frame.new.self) s c.do_form-step.result c.in-Given.is c.do_form-step.ensures.went))
+    (given_went c.args.left c.push_frame.new.self c.do_form-step.new.machine (at_form c.args.body c.push_frame.new.self) s c.do_form-step.result c.in-Given.is c.do_form-step.ensures.went))
     (c.back_from_scope.ensures s)
 
 pub do_scope-returns-in_default : goal.do_scope-returns-in_default
@@ -136,8 +136,8 @@ do_turn-returns-then-not-truth t c =
     let from = at_test c.args.turns c.args.machine.now in
     part_given c.args.left rest c.args.machine.now c.args.machine.now from from c.given.new.seat c.given.result
     (gives_at c.args.left rest plain.Undefined c.args.machine.now c.args.machine.now c.args.machine.now from c.given.new.seat refl (ap (λ s. s.value) c.given.ensures.value)
-      (loop_ends c.args.turns c.args.left rest c.turn_row-row.result c.truth_here-truth.result c.args.machine.now c.turn_row-row.ensures (c.truth_here-truth.ensures (omega (arith, c.if-price-eq0.false, c.from-price.ensures)))
-        (omega (arith, c.if-price-left.false, c.from-price.ensures)) (omega (arith, c.from-price.ensures)) c.if-not-truth.true))
+    (loop_ends c.args.turns c.args.left rest c.turn_row-row.result c.truth_here-truth.result c.args.machine.now c.turn_row-row.ensures (c.truth_here-truth.ensures (omega (arith, c.if-price-eq0.false, c.from-price.ensures)))
+    (omega (arith, c.if-price-left.false, c.from-price.ensures)) (omega (arith, c.from-price.ensures)) c.if-not-truth.true))
     c.given.ensures.went
 
 pub do_turn-returns-in_default : goal.do_turn-returns-in_default
@@ -147,7 +147,7 @@ pub do_turn-returns-in_default-how : goal.do_turn-returns-in_default-how
 do_turn-returns-in_default-how t c =
     let from = at_test c.args.turns c.args.machine.now in
     let begun = turn_begins c.args.turns c.args.left (c.args.left - c.from-price.result) c.turn_row-row.result c.truth_here-truth.result c.args.machine.now c.push_frame.new.self c.turn_row-row.ensures (c.truth_here-truth.ensures (omega (arith, c.if-price-eq0.false, c.from-price.ensures)))
-      (omega (arith, c.if-price-left.false, c.from-price.ensures)) (omega (arith, c.from-price.ensures)) c.if-not-truth.false c.in-Ok.ensures in
+    (omega (arith, c.if-price-left.false, c.from-price.ensures)) (omega (arith, c.from-price.ensures)) c.if-not-truth.false c.in-Ok.ensures in
     part_ends c.args.left c.args.machine.now c.do_form-step.new.machine from (at_test c.args.turns c.do_form-step.new.machine) c.do_form-step.new.seat c.do_form-step.result c.do_form-step.ensures.ends
     (then_went c.args.left (c.args.left - c.from-price.result) c.args.machine.now c.push_frame.new.self c.do_form-step.new.machine from (at_form c.turn_row-row.result.body c.push_frame.new.self) c.do_form-step.new.seat c.do_form-step.result begun c.do_form-step.ensures.went)
 
@@ -155,23 +155,23 @@ pub do_turn-returns-in_default-how-2 : goal.do_turn-returns-in_default-how-2
 do_turn-returns-in_default-how-2 t c =
     let from = at_test c.args.turns c.args.machine.now in
     let begun = turn_begins c.args.turns c.args.left (c.args.left - c.from-price.result) c.turn_row-row.result c.truth_here-truth.result c.args.machine.now c.push_frame.new.self c.turn_row-row.ensures (c.truth_here-truth.ensures (omega (arith, c.if-price-eq0.false, c.from-price.ensures)))
-      (omega (arith, c.if-price-left.false, c.from-price.ensures)) (omega (arith, c.from-price.ensures)) c.if-not-truth.false c.in-Ok.ensures in
+    (omega (arith, c.if-price-left.false, c.from-price.ensures)) (omega (arith, c.from-price.ensures)) c.if-not-truth.false c.in-Ok.ensures in
     let s = c.do_form-step.new.seat in
     other_part c.args.left c.args.machine.now c.back_from_turn-step.new.machine from (after_turn c.args.turns c.back_from_turn-step.new.machine) (at_test c.args.turns c.back_from_turn-step.new.machine) s c.back_from_turn-step.result c.in_default-how-2.not-Next
     (then_part c.args.left c.do_form-step.result.left c.args.machine.now c.do_form-step.new.machine c.back_from_turn-step.new.machine from (at_value s.value c.do_form-step.new.machine) (after_turn c.args.turns c.back_from_turn-step.new.machine) s c.back_from_turn-step.result
-      (then_to c.args.left (c.args.left - c.from-price.result) c.do_form-step.result.left c.args.machine.now c.push_frame.new.self c.do_form-step.new.machine from (at_form c.turn_row-row.result.body c.push_frame.new.self) (at_value s.value c.do_form-step.new.machine) begun
-      (given_went (c.args.left - c.from-price.result) c.push_frame.new.self c.do_form-step.new.machine (at_form c.turn_row-row.result.body c.push_frame.new.self) s c.do_form-step.result c.in-Given.is c.do_form-step.ensures.went)) (c.back_from_turn-step.ensures s))
+    (then_to c.args.left (c.args.left - c.from-price.result) c.do_form-step.result.left c.args.machine.now c.push_frame.new.self c.do_form-step.new.machine from (at_form c.turn_row-row.result.body c.push_frame.new.self) (at_value s.value c.do_form-step.new.machine) begun
+    (given_went (c.args.left - c.from-price.result) c.push_frame.new.self c.do_form-step.new.machine (at_form c.turn_row-row.result.body c.push_frame.new.self) s c.do_form-step.result c.in-Given.is c.do_form-step.ensures.went)) (c.back_from_turn-step.ensures s))
 
 pub do_turn-returns-in-Some : goal.do_turn-returns-in-Some
 do_turn-returns-in-Some t c =
     let from = at_test c.args.turns c.args.machine.now in
     let begun = turn_begins c.args.turns c.args.left (c.args.left - c.from-price.result) c.turn_row-row.result c.truth_here-truth.result c.args.machine.now c.push_frame.new.self c.turn_row-row.ensures (c.truth_here-truth.ensures (omega (arith, c.if-price-eq0.false, c.from-price.ensures)))
-      (omega (arith, c.if-price-left.false, c.from-price.ensures)) (omega (arith, c.from-price.ensures)) c.if-not-truth.false c.in-Ok.ensures in
+    (omega (arith, c.if-price-left.false, c.from-price.ensures)) (omega (arith, c.from-price.ensures)) c.if-not-truth.false c.in-Ok.ensures in
     let s = c.do_form-step.new.seat in
     let turned = next_part c.args.left c.args.machine.now c.back_from_turn-step.new.machine from (after_turn c.args.turns c.back_from_turn-step.new.machine) s c.back_from_turn-step.result c.in-Next.is
-      (then_part c.args.left c.do_form-step.result.left c.args.machine.now c.do_form-step.new.machine c.back_from_turn-step.new.machine from (at_value s.value c.do_form-step.new.machine) (after_turn c.args.turns c.back_from_turn-step.new.machine) s c.back_from_turn-step.result
-      (then_to c.args.left (c.args.left - c.from-price.result) c.do_form-step.result.left c.args.machine.now c.push_frame.new.self c.do_form-step.new.machine from (at_form c.turn_row-row.result.body c.push_frame.new.self) (at_value s.value c.do_form-step.new.machine) begun
-      (given_went (c.args.left - c.from-price.result) c.push_frame.new.self c.do_form-step.new.machine (at_form c.turn_row-row.result.body c.push_frame.new.self) s c.do_form-step.result c.in-Given.is c.do_form-step.ensures.went)) (c.back_from_turn-step.ensures s)) in
+    (then_part c.args.left c.do_form-step.result.left c.args.machine.now c.do_form-step.new.machine c.back_from_turn-step.new.machine from (at_value s.value c.do_form-step.new.machine) (after_turn c.args.turns c.back_from_turn-step.new.machine) s c.back_from_turn-step.result
+    (then_to c.args.left (c.args.left - c.from-price.result) c.do_form-step.result.left c.args.machine.now c.push_frame.new.self c.do_form-step.new.machine from (at_form c.turn_row-row.result.body c.push_frame.new.self) (at_value s.value c.do_form-step.new.machine) begun
+    (given_went (c.args.left - c.from-price.result) c.push_frame.new.self c.do_form-step.new.machine (at_form c.turn_row-row.result.body c.push_frame.new.self) s c.do_form-step.result c.in-Given.is c.do_form-step.ensures.went)) (c.back_from_turn-step.ensures s)) in
     let row = c.turn_row-row.ensures ∙ ap (λ x. get_or x.turns c.args.turns no_turn_row) (sym turned.comes.keeps.1.0) in
     let there = c.back_from_turn-step.new.machine in
     let left = c.back_from_turn-step.result.left in
@@ -183,12 +183,12 @@ pub do_turn-returns-in-None : goal.do_turn-returns-in-None
 do_turn-returns-in-None t c =
     let from = at_test c.args.turns c.args.machine.now in
     let begun = turn_begins c.args.turns c.args.left (c.args.left - c.from-price.result) c.turn_row-row.result c.truth_here-truth.result c.args.machine.now c.push_frame.new.self c.turn_row-row.ensures (c.truth_here-truth.ensures (omega (arith, c.if-price-eq0.false, c.from-price.ensures)))
-      (omega (arith, c.if-price-left.false, c.from-price.ensures)) (omega (arith, c.from-price.ensures)) c.if-not-truth.false c.in-Ok.ensures in
+    (omega (arith, c.if-price-left.false, c.from-price.ensures)) (omega (arith, c.from-price.ensures)) c.if-not-truth.false c.in-Ok.ensures in
     let s = c.do_form-step.new.seat in
     let turned = next_part c.args.left c.args.machine.now c.back_from_turn-step.new.machine from (after_turn c.args.turns c.back_from_turn-step.new.machine) s c.back_from_turn-step.result c.in-Next.is
-      (then_part c.args.left c.do_form-step.result.left c.args.machine.now c.do_form-step.new.machine c.back_from_turn-step.new.machine from (at_value s.value c.do_form-step.new.machine) (after_turn c.args.turns c.back_from_turn-step.new.machine) s c.back_from_turn-step.result
-      (then_to c.args.left (c.args.left - c.from-price.result) c.do_form-step.result.left c.args.machine.now c.push_frame.new.self c.do_form-step.new.machine from (at_form c.turn_row-row.result.body c.push_frame.new.self) (at_value s.value c.do_form-step.new.machine) begun
-      (given_went (c.args.left - c.from-price.result) c.push_frame.new.self c.do_form-step.new.machine (at_form c.turn_row-row.result.body c.push_frame.new.self) s c.do_form-step.result c.in-Given.is c.do_form-step.ensures.went)) (c.back_from_turn-step.ensures s)) in
+    (then_part c.args.left c.do_form-step.result.left c.args.machine.now c.do_form-step.new.machine c.back_from_turn-step.new.machine from (at_value s.value c.do_form-step.new.machine) (after_turn c.args.turns c.back_from_turn-step.new.machine) s c.back_from_turn-step.result
+    (then_to c.args.left (c.args.left - c.from-price.result) c.do_form-step.result.left c.args.machine.now c.push_frame.new.self c.do_form-step.new.machine from (at_form c.turn_row-row.result.body c.push_frame.new.self) (at_value s.value c.do_form-step.new.machine) begun
+    (given_went (c.args.left - c.from-price.result) c.push_frame.new.self c.do_form-step.new.machine (at_form c.turn_row-row.result.body c.push_frame.new.self) s c.do_form-step.result c.in-Given.is c.do_form-step.ensures.went)) (c.back_from_turn-step.ensures s)) in
     let row = c.turn_row-row.ensures ∙ ap (λ x. get_or x.turns c.args.turns no_turn_row) (sym turned.comes.keeps.1.0) in
     let there = c.back_from_turn-step.new.machine in
     let left = c.back_from_turn-step.result.left in
@@ -202,7 +202,7 @@ do_update-returns-in-Given t c =
     let s = c.do_form-step.new.seat in
     then_part c.args.left c.do_form-step.result.left c.args.machine.now c.do_form-step.new.machine c.back_from_update.new.machine from (at_value s.value c.do_form-step.new.machine) (at_test c.args.turns c.back_from_update.new.machine) s c.back_from_update.result
     (then_to c.args.left c.args.left c.do_form-step.result.left c.args.machine.now c.push_frame.new.self c.do_form-step.new.machine from (at_form c.args.update c.push_frame.new.self) (at_value s.value c.do_form-step.new.machine) begun
-      (given_went c.args.left c.push_frame.new.self c.do_form-step.new.machine (at_form c.args.update c.push_frame.new.self) s c.do_form-step.result c.in-Given.is c.do_form-step.ensures.went))
+    (given_went c.args.left c.push_frame.new.self c.do_form-step.new.machine (at_form c.args.update c.push_frame.new.self) s c.do_form-step.result c.in-Given.is c.do_form-step.ensures.went))
     (c.back_from_update.ensures s)
 
 pub do_update-returns-in_default : goal.do_update-returns-in_default

@@ -10,5 +10,5 @@ returns-in-Ok c =
     let from = at_copy c.args.machine.now in
     went_given c.args.left c.args.left c.args.machine.now c.enter_copy.new.machine from c.given.new.seat c.given.result
     (gives_at c.args.left c.args.left plain.Undefined c.args.machine.now c.enter_copy.new.machine c.enter_copy.new.machine from c.given.new.seat refl (ap (λ s. s.value) c.given.ensures.value)
-      (copy_entered c.args.left c.args.machine.now c.enter_copy.new.machine c.in-Ok.ensures))
+    (copy_entered c.args.left c.args.machine.now c.enter_copy.new.machine c.in-Ok.ensures))
     c.given.ensures.went

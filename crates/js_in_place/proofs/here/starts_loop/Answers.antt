@@ -9,5 +9,5 @@ returns-clause-went c =
     let from = at_test c.args.turns c.args.machine.now in
     went_stopped c.args.left c.args.left c.args.machine.now c.push_frame.new.self from c.stopped.new.seat c.stopped.result
     (stands_at c.args.left c.args.left c.turn_row-row.result.test c.args.machine.now _ c.push_frame.new.self from c.stopped.new.seat c.in-Ok.ensures (ap (λ s. s.at) c.stopped.ensures.form)
-      (test_waits c.args.turns c.args.left c.turn_row-row.result c.args.machine.now c.turn_row-row.ensures))
+    (test_waits c.args.turns c.args.left c.turn_row-row.result c.args.machine.now c.turn_row-row.ensures))
     c.stopped.ensures.went

@@ -9,5 +9,5 @@ returns c =
     let from = at_item c.args.at c.args.start c.args.count c.args.machine.now in
     part_stopped c.args.left c.args.left c.args.machine.now c.push_frame.new.self from (at_list c.args.start c.args.count c.push_frame.new.self) c.stopped.new.seat c.stopped.result
     (stands_at c.args.left c.args.left c.args.at c.args.machine.now c.push_frame.new.self c.push_frame.new.self from c.stopped.new.seat refl (ap (λ s. s.at) c.stopped.ensures.form)
-      (item_begins c.args.at c.args.start c.args.count c.args.left c.args.machine.now c.push_frame.new.self c.in-Ok.ensures))
+    (item_begins c.args.at c.args.start c.args.count c.args.left c.args.machine.now c.push_frame.new.self c.in-Ok.ensures))
     c.stopped.ensures.went
