@@ -1,21 +1,17 @@
 -- How runs in place are put together.
-use Rattle.std.proofs.Common.{◌≡◌, ℕ, suc, ◌+◌, ◌-◌, ◌≤◌, ◌<◌, ◌∷◌, drop, Option, Some, refl, sym, ap, ◌∙◌, subst, arith, Result, Ok, Err, IfOk}
+use Rattle.std.proofs.Common.{◌≡◌, ℕ, ◌+◌, ◌-◌, ◌≤◌, ◌∷◌, drop, Option, Some, refl, sym, ap, ◌∙◌, subst, arith, Result, Ok, Err, IfOk}
 use Rattle.lava_base.specs.Ids.{same_ref}
 use Rattle.js_text.specs.Naming.{naming_of}
-use Rattle.js_code.specs.Decoded.{layer_of, term_at}
-use Rattle.js_code.specs.declared.node.Node.{Node}
-use Rattle.js_term.specs.declared.term.Term.{out-Term}
 use Rattle.js_store.specs.Foreign.{marks_of}
 use Rattle.js_direct.specs.Direct.{GivesAtOnce, IsDirect, value_of}
 use Rattle.js_direct.specs.declared.direct.Direct.{Direct}
 use Rattle.js_direct.specs.declared.plain.Plain.{Plain}
-use Rattle.js_direct.proofs.Charges.{one, part}
-use Rattle.js_machine.specs.Steps.{Keeps, deed_of_row, deed_with, settles, under}
+use Rattle.js_direct.proofs.Charges.{part}
+use Rattle.js_machine.specs.Steps.{Keeps, deed_with, under}
 use Rattle.js_machine.specs.Views.{Around, View, fitting, newest, nexts_of, party_of, templates_at}
 use Rattle.js_machine.specs.declared.frame.Frame.{Frame}
 use Rattle.js_machine.specs.js_run.Requests.{is_link}
-use Rattle.js_machine.specs.js_run.Rows.{row_at}
-use Rattle.js_machine.specs.js_run.Runs.{Begins, Charged, Due, answered, charge, run_for, settle}
+use Rattle.js_machine.specs.js_run.Runs.{Charged, charge, run_for}
 use Rattle.js_in_place.specs.InPlace.{GoesTo, LedTo, RunsTo, sight_of, point_at}
 use Rattle.js_in_place.specs.declared.spot.Spot.{Spot}
 use Rattle.js_in_place.specs.declared.spot.Spot.TheVariants as spot
@@ -89,33 +85,6 @@ still p left old s e d =
     }
 
 -- A FORM BEGINS
-
--- the row of a form leads there, once it is charged
-begun : (at : ℕ) (n : Node) (old new : View) (q : Spot) → out-Term (term_at old.code at) ≡ layer_of old.code (term_at old.code) n
-    → ((a : Around) → let b = fitting old a in point_at b new q ≡ settles b old old.values (answered (naming_of old.me) b.env (deed_of_row n old b))) → Keeps old new → GoesTo 1 (spot.Form at) old new q
-begun at n old new q e leads keeps =
-    record {
-      goes = λ a charges limit steps c.
-          (let b = fitting old a in
-          let names = naming_of old.me in
-          let ks = nexts_of names b.shared old.code old.frames old.values old.waits in
-          let count : 1 + charges ≡ suc charges = omega arith in
-          ap (λ m. run_for names b.shared b.env m limit steps (Due 0 (Begins (term_at old.code at)) (party_of b old) ks)) count
-          ∙ one names b.shared b.env charges limit steps (Begins (term_at old.code at)) (party_of b old) ks c
-          ∙ ap (λ l. run_for names b.shared b.env charges limit (steps + 1) (settle names b.shared b.env ks (answered names b.env (row_at names b.shared l (party_of b old))))) e
-          ∙ ap (run_for names b.shared b.env charges limit (steps + 1)) (sym (leads a)));
-      keeps = keeps;
-    }
-
-pub begun_in : {E : Type 0} (r : Result Stand E) (at left rest : ℕ) (n : Node) (old new : View) → out-Term (term_at old.code at) ≡ layer_of old.code (term_at old.code) n → 0 < left → rest ≡ left - 1
-    → IfOk r (LedTo (deed_of_row n old) rest old new) → IfOk r (RunsTo (spot.Form at) left old new)
-begun_in (Ok s) at left rest n old new e l d h =
-    let price : 1 ≡ left - s.left = omega (arith, l, d, h.stays) in
-    record {
-      within = omega (arith, d, h.stays);
-      goes = subst (λ k. GoesTo k (spot.Form at) old new s.spot) price (begun at n old new s.spot e (λ a. h.leads a) h.keeps);
-    }
-begun_in (Err x) at left rest n old new e l d h = tt
 
 -- a form gives a value at once
 directly : (at k : ℕ) (v : Plain) (w : View) → GivesAtOnce (sight_of w) at (value_of v) k → GoesTo k (spot.Form at) w w (spot.Given v)

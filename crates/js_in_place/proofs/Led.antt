@@ -1,5 +1,5 @@
 -- Where acts lead in place.
-use Rattle.std.proofs.Common.{◌≡◌, ℕ, suc, ◌+◌, ◌-◌, ◌≤◌, Bool, true, false, is_some, List, [], ◌∷◌, get_or, length, map, replicate, Option, Some, None, refl, sym, ap, ◌∙◌, subst, arith, Result, Ok, Err, IfOk, if◌then◌else◌}
+use Rattle.std.proofs.Common.{◌≡◌, ℕ, suc, ◌+◌, ◌-◌, ◌≤◌, Bool, true, false, is_some, List, [], ◌∷◌, get_or, length, map, Option, Some, None, refl, sym, ap, ◌∙◌, subst, arith, Result, Ok, Err, IfOk, if◌then◌else◌}
 use Rattle.std.specs.Option.{option_map}
 use Rattle.lava_base.specs.declared.ids.MadeSymbol.{MadeSymbol}
 use Rattle.lava_base.specs.declared.ids.Ref.{Ref}
@@ -9,20 +9,17 @@ use Rattle.js_text.specs.declared.value.Value.TheVariants as value
 use Rattle.js_code.specs.Decoded.{no_turn_row, term_at}
 use Rattle.js_code.specs.Tables.{part_of}
 use Rattle.js_code.specs.declared.node.TurnRow.{TurnRow}
-use Rattle.js_term.specs.declared.term.Jump.TheVariants as jump_kind
-use Rattle.js_term.specs.declared.term.Jump.TheVariants.{outs-Return}
 use Rattle.js_direct.specs.Direct.{value_of}
 use Rattle.js_direct.specs.declared.plain.Plain.{Plain}
 use Rattle.js_direct.specs.declared.plain.Plain.TheVariants as plain
 use Rattle.js_state.specs.Scopes.{outwards, slot_of}
 use Rattle.js_machine.specs.Bodies.{scope_of, stood_in}
 use Rattle.js_machine.specs.Steps.{deed_with}
-use Rattle.js_machine.specs.Views.{View, party_of, turns_at, with_copy, with_local, with_scope}
+use Rattle.js_machine.specs.Views.{View, party_of, turns_at, with_local}
 use Rattle.js_machine.specs.declared.frame.Frame.{Frame}
 use Rattle.js_machine.specs.declared.frame.Frame.TheVariants as frame
-use Rattle.js_machine.specs.js_run.Acts.{Become, Evaluate, Give, Tested, Turned, give, next_turn, with_value}
-use Rattle.js_machine.specs.js_run.Control.{branch, in_order, inside, jump, jump_at, loop_begins, otherwise}
-use Rattle.js_machine.specs.js_run.Parties.{refreshed}
+use Rattle.js_machine.specs.js_run.Acts.{Become, Evaluate, Tested, Turned, give, next_turn, with_value}
+use Rattle.js_machine.specs.js_run.Control.{branch, in_order, loop_begins, otherwise}
 use Rattle.js_machine.specs.js_run.Properties.{write_slot}
 use Rattle.js_machine.specs.js_run.Truth.{to_boolean}
 use Rattle.js_machine.proofs.Listed.{part_first, part_within}
@@ -99,17 +96,6 @@ pub turn_waits : {E : Type 0} (r : Result Stand E) (t left : ℕ) (row : TurnRow
 turn_waits r t left row old new e h =
     let there = subst (λ (x : TurnRow). IfOk r (WaitsIn (frame.Turned t) x.body left old new)) e h in there
 
-abbrev Begins : Bool → (t left : ℕ) → View → View → Stand → Type 0
-Begins b t left old new s = LedTo (λ a. loop_begins b (turns_at old.code t) (party_of a old)) left old new s
-
-pub tests_first : {E : Type 0} (r : Result Stand E) (b : Bool) (t left : ℕ) (old new : View) → b ≡ true → IfOk r (LedTo (λ a. Evaluate (turns_at old.code t).test (party_of a old) (Tested (turns_at old.code t))) left old new)
-    → IfOk r (Begins b t left old new)
-tests_first r b t left old new e h = subst (λ x. IfOk r (Begins x t left old new)) (sym e) h
-
-pub turns_first : {E : Type 0} (r : Result Stand E) (b : Bool) (t left : ℕ) (old new : View) → b ≡ false → IfOk r (LedTo (λ a. Evaluate (turns_at old.code t).body (party_of a old) (Turned (turns_at old.code t))) left old new)
-    → IfOk r (Begins b t left old new)
-turns_first r b t left old new e h = subst (λ x. IfOk r (Begins x t left old new)) (sym e) h
-
 -- what follows a turn, by what a loop does after it
 abbrev Follows : Option ℕ → (t left : ℕ) → View → View → Stand → Type 0
 Follows o t left old new s = LedTo (λ a. next_turn (turns_at old.code t) (option_map (term_at old.code) o) (party_of a old)) left old new s
@@ -140,23 +126,7 @@ loop_ends v b t left old s e n d = turns_by v t left old old s (subst (λ x. Tur
 
 -- `return` WITH A VALUE
 
-pub return_waits : {E : Type 0} (r : Result Stand E) (at left : ℕ) (old new : View) → IfOk r (WaitsIn frame.Return at left old new) → IfOk r (LedTo (λ a. jump (jump_kind.Return (Some (term_at old.code at))) (party_of a old)) left old new)
-return_waits r at left old new h = subst (λ x. IfOk r (LedTo (λ a. jump_at x (party_of a old)) left old new)) (sym (outs-Return (Some (term_at old.code at)))) h
-
 -- SCOPES
-
-pub scope_entered : {E : Type 0} (r : Result Stand E) (n back at left : ℕ) (old mid new : View) → back ≡ scope_of old.bodies → mid ≡ with_scope (replicate n None) old → IfOk r (WaitsIn (frame.ScopeExit back) at left mid new)
-    → IfOk r (LedTo (λ a. inside (replicate n None) (term_at old.code at) (party_of a old) Give) left old new)
-scope_entered (Ok x) n back at left old mid new s e h =
-    let w = subst (λ y. WaitsIn (frame.ScopeExit back) at left y new x) e h in
-    let v = subst (λ k. WaitsIn (frame.ScopeExit k) at left (with_scope (replicate n None) old) new x) s w in
-    record { leads = λ a. v.leads a; keeps = v.keeps; stays = v.stays }
-scope_entered (Err x) n back at left old mid new s e h = tt
-
-pub copy_entered : (left : ℕ) (old new : View) (s : Stand) → new ≡ with_copy old → s ≡ value_stand plain.Undefined left → LedTo (λ a. give value.Undefined (refreshed (party_of a old))) left old new s
-copy_entered left old new s e d =
-    subst (λ (x : Stand). LedTo (λ a. give value.Undefined (refreshed (party_of a old))) left old new x) (sym d)
-    (subst (λ w. LedTo (λ a. give value.Undefined (refreshed (party_of a old))) left old w (value_stand plain.Undefined left)) (sym e) (record { leads = λ a. refl; keeps = (refl, (refl, (refl, (refl, refl)))); stays = refl }))
 
 pub scope_left : (back left : ℕ) (v : Plain) (old new : View) (s : Stand) → new ≡ record old { bodies = stood_in back old.bodies } → s ≡ value_stand v left → LedTo (deed_with (frame.ScopeExit back) (value_of v) old) left old new s
 scope_left back left v old new s e d =

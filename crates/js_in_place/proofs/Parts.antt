@@ -49,9 +49,6 @@ more_by : (n : ℕ) (ns : List ℕ) (left : ℕ) (w : View) → 2 ≤ length (n 
 more_by n [] left w l = absurd (omega (arith, l))
 more_by n (k ∷ ns) left w l = still left w (first_of n (k ∷ ns) w)
 
-pub list_empty : (n s c left : ℕ) (w : View) → n ≡ length (part_of s c w.code.numbers) → n ≡ 0 → ComesTo left w w (at_list s c w) (at_value plain.Undefined w) left
-list_empty n s c left w e z = none_by (part_of s c w.code.numbers) left w (sym z ∙ e)
-
 -- the last form takes the place of the list
 pub list_ends : (n s c left : ℕ) (w : View) → n ≡ length (part_of s c w.code.numbers) → n ≡ 1 → n ≤ c → ComesTo left w w (at_list s c w) (at_form (get_or w.code.numbers s 0) w) left
 list_ends n s c left w e z l =

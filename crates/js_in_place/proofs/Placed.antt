@@ -165,12 +165,6 @@ part_next left rest old new from to s w h e = subst (λ (x : Went). IsPart from 
 pub part_stopped : (left rest : ℕ) (old new : View) (from to : Place) (s : Seat) (w : Went) → ComesTo left old new from (at_form s.at new) rest → w ≡ record { how = how.Stopped; left = rest } → IsPart from to left old new s w
 part_stopped left rest old new from to s w h e = subst (λ (x : Went). IsPart from to left old new s x) (sym e) h
 
-pub part_left : (left rest : ℕ) (old new : View) (from to : Place) (s : Seat) (w : Went) → ComesTo left old new from (at_value s.value new) rest → w ≡ record { how = how.Left; left = rest } → IsPart from to left old new s w
-part_left left rest old new from to s w h e = subst (λ (x : Went). IsPart from to left old new s x) (sym e) h
-
-pub went_left : (left rest : ℕ) (old new : View) (from : Place) (s : Seat) (w : Went) → ComesTo left old new from (at_value s.value new) rest → w ≡ record { how = how.Left; left = rest } → IsWent from left old new s w
-went_left left rest old new from s w h e = subst (λ (x : Went). IsWent from left old new s x) (sym e) h
-
 pub went_failed : (left rest : ℕ) (old new : View) (from : Place) (s : Seat) (w : Went) → w ≡ record { how = how.Failed; left = rest } → IsWent from left old new s w
 went_failed left rest old new from s w e = subst (λ (x : Went). IsWent from left old new s x) (sym e) tt
 

@@ -1,6 +1,4 @@
-use Rattle.std.proofs.Common.{arith, refl, subst}
-use Rattle.js_in_place.specs.InPlace.{RunsTo}
-use Rattle.js_in_place.specs.declared.spot.Stand.{Stand}
+use Rattle.std.proofs.Common.{arith, refl}
 use Rattle.js_machine_run.proofs.Gone_on.{nothing_paid, taken_in_place}
 use Rattle.js_machine_run.proofs.run.go_in_place.Goals as goal
 
@@ -10,5 +8,5 @@ returns-then-most-eq0-clause-goes c =
 
 pub returns-clause-goes : goal.returns-clause-goes
 returns-clause-goes c =
-    taken_in_place c.args.meter c.args.spent c.args.limit c.args.at c.affordable-most.result _ c.in_ok-stand.stand c.args.machine.now c.run_in_place.new.machine c.resumed.new.machine c.in_ok-mode.mode (c.affordable-most.ensures.paid (omega (arith, c.if-most-eq0.false)))
-    (subst (λ (x : Stand). RunsTo x.spot x.left c.args.machine.now c.run_in_place.new.machine c.in_ok-stand.stand) c.at_form.ensures c.in_ok-stand.ensures) refl c.in_ok-mode.ensures
+    taken_in_place c.args.meter c.args.spent c.args.limit c.args.at c.affordable-most.result _ c.in_ok-stand.stand c.args.machine.now c.begin_in_place.new.machine c.resumed.new.machine c.in_ok-mode.mode (c.affordable-most.ensures.paid (omega (arith, c.if-most-eq0.false)))
+    c.in_ok-stand.ensures refl c.in_ok-mode.ensures
