@@ -2,4 +2,5 @@ pub mod Append
 pub mod Charges
 pub mod Doing
 pub mod Given
+pub mod Increment
 pub mod Put

@@ -1,4 +1,5 @@
 pub mod Appends
 pub mod Direct
 pub mod Done
+pub mod Increments
 pub mod Puts

@@ -10,6 +10,7 @@
 pub mod appends;
 pub mod direct;
 pub mod done;
+pub mod increments;
 pub mod numbers;
 pub mod plain;
 pub mod properties;

@@ -60,7 +60,7 @@ pub fn steps_of(left: u32, right: u32) -> u32
 
 /// A slot that has a number.
 #[inline(always)]
-fn slot_number(scopes: &Scopes, scope: u32, hops: u32, slot: u32) -> Counted
+pub(crate) fn slot_number(scopes: &Scopes, scope: u32, hops: u32, slot: u32) -> Counted
     ensures { let value = slot_of scopes.now (outwards scopes.now hops scope) slot in
         0 < result.steps → (value ≡ Some (Int result.number)) × (result.steps ≡ 1) }
 {
@@ -110,7 +110,7 @@ fn indexed_number(store: &FlatStore, id: ObjId, index: Counted) -> Counted
 
 /// What a binary operator gives, once the operands are known.
 #[inline]
-fn operated(operator: BinaryOperator, left: Counted, right: Counted) -> Counted
+pub(crate) fn operated(operator: BinaryOperator, left: Counted, right: Counted) -> Counted
     ensures number { let number = number_or_end (numeric operator left.number right.number) in
         0 < result.steps → number ≡ Is result.number }
     ensures steps { 0 < result.steps → result.steps ≡ 1 + left.steps + right.steps }

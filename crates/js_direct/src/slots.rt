@@ -15,7 +15,7 @@ use js_store::flat::FlatStore;
 
 /// Whether a slot so many hops outwards is initialised.
 #[inline]
-fn has_slot(scopes: &Scopes, scope: u32, hops: u32, slot: u32) -> bool
+pub(crate) fn has_slot(scopes: &Scopes, scope: u32, hops: u32, slot: u32) -> bool
     ensures { result ≡ is_some (slot_of scopes.now (outwards scopes.now hops scope) slot) }
 {
     scopes.value(scopes.outward(scope, hops), slot).is_some()

@@ -19,7 +19,7 @@ use Rattle.js_machine.specs.Views.{View, party_of, turns_at, with_local}
 use Rattle.js_machine.specs.declared.frame.Frame.{Frame}
 use Rattle.js_machine.specs.declared.frame.Frame.TheVariants as frame
 use Rattle.js_machine.specs.js_run.Acts.{Become, Evaluate, Tested, Turned, give, next_turn, with_value}
-use Rattle.js_machine.specs.js_run.Control.{branch, in_order, loop_begins, otherwise}
+use Rattle.js_machine.specs.js_run.Control.{branch, in_order, otherwise}
 use Rattle.js_machine.specs.js_run.Properties.{write_slot}
 use Rattle.js_machine.specs.js_run.Truth.{to_boolean}
 use Rattle.js_machine.proofs.Listed.{part_first, part_within}

@@ -18,16 +18,19 @@ use Rattle.js_machine.specs.Steps.{deed_of_row, deed_with, over}
 use Rattle.js_machine.specs.Views.{View, newest, nexts_of, party_of, turns_at, with_copy, with_scope}
 use Rattle.js_machine.specs.declared.frame.Frame.TheVariants as frame
 use Rattle.js_machine.specs.js_run.Acts.{Become, Evaluate, Tested, Turned, give, next_turn, with_value}
+use Rattle.js_desc.specs.declared.reply.Reply.TheVariants as reply
+use Rattle.js_machine.specs.js_run.Completions.{Replied}
+use Rattle.js_machine.specs.js_run.Going.{go_on}
 use Rattle.js_machine.specs.js_run.Control.{in_order, otherwise}
 use Rattle.js_machine.specs.js_run.Rows.{if_test}
 use Rattle.js_machine.specs.js_run.Runs.{answered, settle}
 use Rattle.js_machine.proofs.Listed.{part_first, part_within}
 use Rattle.js_in_place.specs.InPlace.{sight_of}
-use Rattle.js_in_place.specs.Places.{ComesTo, IsPart, IsWent, Place, after_turn, at_copy, at_deed, at_form, at_item, at_list, at_scope, at_test, at_turn, at_update, at_value}
+use Rattle.js_in_place.specs.Places.{ComesTo, IsDone, IsPart, IsWent, Place, after_turn, at_copy, at_deed, at_form, at_item, at_list, at_scope, at_test, at_turn, at_update, at_value}
 use Rattle.js_in_place.specs.declared.seat.How.TheVariants as how
 use Rattle.js_in_place.specs.declared.seat.Seat.{Seat}
 use Rattle.js_in_place.specs.declared.seat.Went.{Went}
-use Rattle.js_in_place.proofs.Placed.{all_kept, gives_under, next_part, popped, pushed, row_done, row_under, same_place, still, then_part, then_to, whole_ends}
+use Rattle.js_in_place.proofs.Placed.{all_kept, done_over, gives_under, next_part, popped, pushed, row_done, row_under, same_place, still, then_part, then_to, whole_ends}
 
 -- LISTS
 
@@ -125,6 +128,24 @@ pub scope_begins : (n at back left : ℕ) (w inner new : View) → back ≡ scop
 scope_begins n at back left w inner new b i e =
     let same : new ≡ (let x = with_scope (replicate n None) w in record x { frames = frame.ScopeExit (scope_of w.bodies) ∷ x.frames }) = e ∙ (λ j. record (i j) { frames = frame.ScopeExit (b j) ∷ (i j).frames }) in
     subst (λ x. ComesTo left w x (at_scope n at w) (at_form at x) left) (sym same) (scope_entered n at left w)
+
+-- a form that is done at once in a new scope
+abbrev exit : ℕ → Plain → View → View → Place
+exit back v w new = at_deed (λ a. go_on (naming_of w.me) a.shared (over (frame.ScopeExit back) w a) (Replied (reply.Value (value_of v))) (party_of a new)) new
+
+pub scope_done : (n at back left k rest : ℕ) (v : Plain) (w inner done new : View) → back ≡ scope_of w.bodies → inner ≡ with_scope (replicate n None) w → IsDone at inner done v k → k ≤ left → rest ≡ left - k → new ≡ record done { bodies = stood_in back done.bodies }
+    → ComesTo left w new (at_scope n at w) (at_value v new) rest
+scope_done n at back left k rest v w inner done new b i h l d f =
+    let begun : ComesTo left w inner (at_scope n at w) (at_deed (λ a. Evaluate (term_at inner.code at) (party_of a inner) (over (frame.ScopeExit back) inner a)) inner) left =
+    subst (λ k. ComesTo left w inner (at_scope n at w) (at_deed (λ a. Evaluate (term_at inner.code at) (party_of a inner) (over (frame.ScopeExit k) inner a)) inner) left) (sym b)
+    (subst (λ x. ComesTo left w x (at_scope n at w) (at_deed (λ a. Evaluate (term_at x.code at) (party_of a x) (over (frame.ScopeExit (scope_of w.bodies)) x a)) x) left) (sym i)
+    (let x = with_scope (replicate n None) w in same_place left w x (at_scope n at w) (at_deed (λ a. Evaluate (term_at x.code at) (party_of a x) (over (frame.ScopeExit (scope_of w.bodies)) x a)) x) (all_kept w) (λ a. refl))) in
+    let over_it = done_over (frame.ScopeExit back) at left k rest v inner done h l d in
+    let left_it : ComesTo rest done new (exit back v inner done) (at_value v new) rest =
+    subst (λ x. ComesTo rest done x (exit back v inner done) (at_value v x) rest) (sym f)
+    (let x = record done { bodies = stood_in back done.bodies } in same_place rest done x (exit back v inner done) (at_value v x) (all_kept done) (λ a. refl)) in
+    then_to left left rest w inner new (at_scope n at w) (at_deed (λ a. Evaluate (term_at inner.code at) (party_of a inner) (over (frame.ScopeExit back) inner a)) inner) (at_value v new) begun
+    (then_to left rest rest inner done new (at_deed (λ a. Evaluate (term_at inner.code at) (party_of a inner) (over (frame.ScopeExit back) inner a)) inner) (exit back v inner done) (at_value v new) over_it left_it)
 
 pub scope_left : (back left : ℕ) (v : Plain) (old low new : View) → newest old.frames ≡ Some (frame.ScopeExit back) → low ≡ record old { frames = drop 1 old.frames } → new ≡ record low { bodies = stood_in back low.bodies } → ComesTo left old new (at_value v old) (at_value v new) left
 scope_left back left v old low new e d f =

@@ -7,12 +7,17 @@ use Rattle.js_text.specs.declared.value.Value.{Value}
 use Rattle.js_code.specs.Decoded.{layer_of, term_at}
 use Rattle.js_code.specs.declared.node.Node.{Node}
 use Rattle.js_term.specs.declared.term.Term.{out-Term}
-use Rattle.js_store.specs.Objects.{Object}
+use Rattle.js_store.specs.Objects.{Object, Owned}
 use Rattle.js_state.specs.Scopes.{Scope}
-use Rattle.js_direct.specs.Direct.{GivesAtOnce, value_of}
+use Rattle.js_direct.specs.Direct.{GivesAtOnce, seen, value_of}
 use Rattle.js_direct.specs.Done.{DoesAtOnce}
+use Rattle.js_direct.specs.Increments.{CameOfBody}
+use Rattle.js_direct.specs.declared.increments.Incremented.{Incremented}
+use Rattle.js_direct.specs.declared.increments.Incremented.TheVariants as incremented
 use Rattle.js_direct.specs.declared.plain.Plain.{Plain}
+use Rattle.js_direct.specs.declared.plain.Plain.TheVariants as plain
 use Rattle.js_direct.proofs.Charges.{one, part}
+use Rattle.js_machine.specs.Bodies.{scope_of}
 use Rattle.js_machine.specs.Steps.{Keeps, deed_of_row, deed_with, over, under}
 use Rattle.js_machine.specs.Views.{Around, View, fitting, newest, nexts_of, party_of}
 use Rattle.js_machine.specs.declared.frame.Frame.{Frame}
@@ -27,7 +32,7 @@ use Rattle.js_desc.specs.declared.reply.Reply.TheVariants as reply
 use Rattle.js_in_place.specs.InPlace.{GoesTo, RunsTo, point_at, sight_of}
 use Rattle.js_in_place.specs.declared.spot.Spot.{Spot}
 use Rattle.js_in_place.specs.declared.spot.Stand.{Stand}
-use Rattle.js_in_place.specs.Places.{CameOf, Comes, ComesTo, IsDone, IsPart, IsWent, PartCameOf, Place, at_deed, at_form, at_item, at_list, at_value}
+use Rattle.js_in_place.specs.Places.{CameOf, Comes, ComesTo, IsBody, IsDone, IsPart, IsWent, PartCameOf, Place, at_deed, at_form, at_item, at_list, at_value}
 use Rattle.js_in_place.specs.declared.seat.How.{How}
 use Rattle.js_in_place.specs.declared.seat.How.TheVariants as how
 use Rattle.js_in_place.specs.declared.seat.Seat.{Seat}
@@ -277,10 +282,32 @@ done_alone at left k rest v objects scopes w h d l e =
 pub done_here : (at left k rest : ℕ) (v : Plain) (w new : View) → IsDone at w new v k → k ≤ left → rest ≡ left - k → ComesTo left w new (at_form at w) (at_value v new) rest
 done_here at left k rest v w new h l e = subst (λ x. ComesTo left w x (at_form at w) (at_value v x) rest) (sym h.is) (done_alone at left k rest v new.objects new.scopes w h.does h.depth l e)
 
+-- over a frame
+pub done_over : (f : Frame) (at left k rest : ℕ) (v : Plain) (w new : View) → IsDone at w new v k → k ≤ left → rest ≡ left - k
+    → ComesTo left w new (at_deed (λ a. Evaluate (term_at w.code at) (party_of a w) (over f w a)) w) (at_deed (λ a. go_on (naming_of w.me) a.shared (over f w a) (Replied (reply.Value (value_of v))) (party_of a new)) new) rest
+done_over f at left k rest v w new h l e =
+    subst (λ x. ComesTo left w x (at_deed (λ a. Evaluate (term_at w.code at) (party_of a w) (over f w a)) w) (at_deed (λ a. go_on (naming_of w.me) a.shared (over f w a) (Replied (reply.Value (value_of v))) (party_of a x)) x) rest) (sym h.is)
+    (done_under at left k rest v new.objects new.scopes w (over f w) h.does h.depth l e)
+
 -- of a list
 pub done_in_list : (at s c left k rest : ℕ) (v : Plain) (w new : View) → IsDone at w new v k → k ≤ left → rest ≡ left - k → ComesTo left w new (at_item at s c w) (at_list s c new) rest
 done_in_list at s c left k rest v w new h l e =
     subst (λ x. ComesTo left w x (at_item at s c w) (at_list s c x) rest) (sym h.is) (done_under at left k rest v new.objects new.scopes w (over (frame.Seq s c) w) h.does h.depth l e)
+
+-- a body like that of `x++`
+pub body_done : (x : Incremented) (at left : ℕ) (old new : View) → ((store : Owned) → CameOfBody x (seen store old.code old.scopes (scope_of old.bodies)) at new.scopes) → old.depth + 2 < MAX_DEPTH → 9 ≤ left → new ≡ record old { scopes = new.scopes } → IsBody x at left old new
+body_done (incremented.Gave n) at left old new h d l e =
+    let stays : new.objects ≡ old.objects = ap (λ w. w.objects) e in
+    let done = h (record { party = record { 0 = old.me }; objects = old.objects }) old.common in (
+      record {
+        does = subst (λ os. DoesAtOnce (sight_of old) old.common at (value_of (plain.Int n)) os new.scopes 9) (sym stays) done;
+        depth = d;
+        is = e ∙ ap (λ os. record old { objects = os; scopes = new.scopes }) (sym stays);
+      },
+      l,
+    )
+body_done incremented.Nothing at left old new h d l e = e ∙ ap (λ cs. record old { scopes = cs }) (h (record { party = record { 0 = old.me }; objects = old.objects }))
+body_done incremented.Failed at left old new h d l e = tt
 
 -- a form gives a value at once, whatever waits for it
 pub gives_under : (at left k rest : ℕ) (v : Value Ref MadeSymbol) (w : View) (next : Around → Next Ref MadeSymbol) → GivesAtOnce (sight_of w) at v k → k ≤ left → rest ≡ left - k

@@ -7,7 +7,10 @@ use Rattle.js_code.specs.Decoded.{term_at, terms_of}
 use Rattle.js_text.specs.declared.value.Value.TheVariants as value
 use Rattle.js_direct.specs.Direct.{value_of}
 use Rattle.js_direct.specs.Done.{DoesAtOnce}
+use Rattle.js_direct.specs.declared.increments.Incremented.{Incremented}
+use Rattle.js_direct.specs.declared.increments.Incremented.TheVariants as incremented
 use Rattle.js_direct.specs.declared.plain.Plain.{Plain}
+use Rattle.js_direct.specs.declared.plain.Plain.TheVariants as plain
 use Rattle.js_machine.specs.Steps.{Deed, Keeps, over, settles}
 use Rattle.js_machine.specs.Views.{Around, View, fitting, party_of, turns_at}
 use Rattle.js_machine.specs.js_run.Acts.{Evaluate, Give, Tested, Turned, give, next_turn}
@@ -85,6 +88,12 @@ pub record IsDone (at : ℕ) (old new : View) (v : Plain) (k : ℕ) : Type 0 whe
   pub does : DoesAtOnce (sight_of old) old.common at (value_of v) new.objects new.scopes k
   pub depth : old.depth + 2 < MAX_DEPTH
   pub is : new ≡ record old { objects = new.objects; scopes = new.scopes }
+
+-- by what came of a body like that of `x++`
+abbrev pub IsBody : Incremented → (at left : ℕ) → (old new : View) → Type 0
+IsBody (incremented.Gave n) at left old new = IsDone at old new (plain.Int n) 9 × (9 ≤ left)
+IsBody incremented.Nothing at left old new = new ≡ old
+IsBody incremented.Failed at left old new = Unit
 
 -- by what came of a form
 abbrev pub CameOf : How → (left : ℕ) → (old new : View) → (from : Place) → Seat → (rest : ℕ) → Type 0

@@ -7,15 +7,17 @@ ghost use Rattle.js_in_place.specs.declared.seat.How.TheVariants as how_kind;
 ghost use Rattle.js_term.specs.declared.term.Term.{out-Term};
 
 use crate::back::{back_from_scope, back_from_turn, back_from_update, back_in_list};
-use crate::here::{choose_one, choose_two, fresh, starts_loop, truth_here};
+use crate::here::{body_here, choose_one, choose_two, fresh, starts_loop, truth_here};
 use crate::leaves::{do_leaf, fresh_item, leaf_item};
 use crate::seat::{How, Seat, Went, came, given, next, stopped};
 use crate::waits::turn_row;
 use js_code::node::Node;
+use js_direct::increments::{INCREMENT_STEPS, Incremented};
 use js_direct::plain::Plain;
 use js_machine::frame::Frame;
 use js_machine::machine::Machine;
 use js_machine_statements::blocks::enter;
+use js_machine_statements::slots::stand_in;
 
 /// How deep forms may hold one another.
 pub const MOST_DEEP: u32 = 32;
@@ -177,6 +179,14 @@ fn do_scope(
     let Ok(_) = enter(machine, slots) else {
         return came(How::Failed, left);
     };
+    match body_here(machine, body, left) {
+        Incremented::Gave(number) => {
+            stand_in(machine, scope);
+            return given(seat, Plain::Int(number), left - u64::from(INCREMENT_STEPS));
+        }
+        Incremented::Nothing => (),
+        Incremented::Failed => return came(How::Failed, left),
+    }
     let Ok(_) = machine.push_frame(Frame::ScopeExit { scope }) else {
         return came(How::Failed, left);
     };

@@ -1,11 +1,15 @@
 // What is done at once where the machine stands.
 
-ghost use Rattle.std.specs.Prelude.{◌≡◌, ◌<◌, ◌≤◌};
+ghost use Rattle.std.specs.Prelude.{◌≡◌, ◌+◌, ◌<◌, ◌≤◌, IsTrue};
 ghost use Rattle.js_code.specs.Decoded.{layer_of, term_at};
 ghost use Rattle.js_code.specs.declared.node.Node.TheVariants as node_kind;
-ghost use Rattle.js_direct.specs.Direct.{GivesTruth};
+ghost use Rattle.js_direct.specs.Direct.{GivesTruth, seen};
+ghost use Rattle.js_direct.specs.Increments.{CameOfBody};
 ghost use Rattle.js_in_place.specs.InPlace.{sight_of};
-ghost use Rattle.js_in_place.specs.Places.{IsDone, IsWent, at_copy, at_form, at_test};
+ghost use Rattle.js_in_place.specs.Places.{IsBody, IsDone, IsWent, at_copy, at_form, at_test};
+ghost use Rattle.js_machine.specs.Bodies.{scope_of};
+ghost use Rattle.js_machine.specs.js_run.declared.TheConstants.{MAX_DEPTH as most_deep};
+ghost use Rattle.js_store.specs.Objects.{Owned};
 ghost use Rattle.js_in_place.specs.declared.seat.How.TheVariants as how_kind;
 ghost use Rattle.js_term.specs.declared.term.Term.{out-Term};
 
@@ -13,6 +17,7 @@ use crate::scopes::enter_copy;
 use crate::seat::{How, Seat, Went, came, given, next, stopped};
 use crate::waits::turn_row;
 use js_direct::done::done_at;
+use js_direct::increments::{INCREMENT_STEPS, Incremented, increment_at};
 use js_direct::plain::Plain;
 use js_direct::truths::{Truth, truth_at};
 use js_machine::frame::Frame;
@@ -40,6 +45,38 @@ pub fn done_here(machine: &mut Machine, seat: &mut Seat, at: u32, left: u64) -> 
         left,
         &mut seat.value,
     )
+}
+
+/// Whether an object that waits for an answer can be open in the run, and one more within it.
+#[inline(always)]
+fn can_wait(machine: &Machine) -> bool
+    ensures { IsTrue result → machine.now.depth + 2 < most_deep }
+{
+    machine.depth < MAX_DEPTH - 2
+}
+
+/// A body like that of `x++` is done at once where the machine stands, or not at all.
+#[inline(always)]
+fn increment_here(machine: &mut Machine, at: u32) -> Incremented
+    ensures came { (store : Owned)
+        → let scope = scope_of machine.old.bodies in
+        let sight = seen store machine.old.code machine.old.scopes scope in
+        CameOfBody result sight at machine.new.scopes }
+    ensures changes { machine.new ≡ record machine.old { scopes = machine.new.scopes } }
+{
+    let scope = machine.standing();
+    increment_at(&machine.code, &mut machine.scopes, scope, at)
+}
+
+/// A body like that of `x++` is done at once where the machine stands, where its steps are at most so many, or not at all.
+#[inline(always)]
+pub fn body_here(machine: &mut Machine, at: u32, left: u64) -> Incremented
+    ensures { IsBody result at left machine.old machine.new }
+{
+    if !can_wait(machine) || left < u64::from(INCREMENT_STEPS) {
+        return Incremented::Nothing;
+    }
+    increment_here(machine, at)
 }
 
 /// Whether what a form gives at once counts as true.

@@ -1,10 +1,11 @@
-use Rattle.std.proofs.Common.{◌≡◌, ◌+◌, ◌-◌, ◌∙◌, true, ap, arith, get_or, refl, sym}
+use Rattle.std.proofs.Common.{rules, ◌≡◌, ◌+◌, ◌-◌, ◌∙◌, true, w64, ap, arith, get_or, refl, sym}
+use Rattle.std.proofs.lemmas.Int.{to_z-of_z}
 use Rattle.js_code.specs.Decoded.{layer_of, no_turn_row, term_at}
 use Rattle.js_code.specs.declared.node.Node.TheVariants as node
 use Rattle.js_direct.specs.declared.plain.Plain.TheVariants as plain
 use Rattle.js_in_place.specs.Places.{after_turn, at_copy, at_form, at_item, at_list, at_scope, at_test, at_update, at_value}
-use Rattle.js_in_place.proofs.Parts.{item_begins, list_goes_on, list_last, list_stops, loop_ends, scope_begins, turn_begins, update_begins, updates, updates_nothing}
-use Rattle.js_in_place.proofs.Placed.{given_went, gives_at, next_part, next_went, other_part, part_ends, part_failed, part_given, part_goes, row_done, stands_at, then_part, then_to, then_went, went_failed, went_next, went_stopped, whole_ends}
+use Rattle.js_in_place.proofs.Parts.{item_begins, list_goes_on, list_last, list_stops, loop_ends, scope_begins, scope_done, turn_begins, update_begins, updates, updates_nothing}
+use Rattle.js_in_place.proofs.Placed.{given_went, gives_at, next_part, next_went, other_part, part_ends, part_failed, part_given, part_goes, row_done, stands_at, then_part, then_to, then_went, went_failed, went_given, went_next, went_stopped, whole_ends}
 use Rattle.js_in_place.proofs.form.+form.Goals as goal
 
 -- FORMS THAT TAKE ONE ANOTHER'S PLACE
@@ -94,12 +95,22 @@ do_item-returns-in_default-how t c =
 pub do_scope-returns-in-Given : goal.do_scope-returns-in-Given
 do_scope-returns-in-Given t c =
     let from = at_scope c.args.slots c.args.body c.args.machine.now in
-    let begun = scope_begins c.args.slots c.args.body c.standing-scope.result c.args.left c.args.machine.now c.enter.new.machine c.push_frame.new.self c.standing-scope.ensures c.in-Ok.ensures c.in-Ok-push_frame.ensures in
+    let begun = scope_begins c.args.slots c.args.body c.standing-scope.result c.args.left c.args.machine.now c.body_here.new.machine c.push_frame.new.self c.standing-scope.ensures (c.in-Nothing.ensures ∙ c.in-Ok.ensures) c.in-Ok-push_frame.ensures in
     let s = c.do_form-step.new.seat in
     then_went c.args.left c.do_form-step.result.left c.args.machine.now c.do_form-step.new.machine c.back_from_scope.new.machine from (at_value s.value c.do_form-step.new.machine) s c.back_from_scope.result
     (then_to c.args.left c.args.left c.do_form-step.result.left c.args.machine.now c.push_frame.new.self c.do_form-step.new.machine from (at_form c.args.body c.push_frame.new.self) (at_value s.value c.do_form-step.new.machine) begun
     (given_went c.args.left c.push_frame.new.self c.do_form-step.new.machine (at_form c.args.body c.push_frame.new.self) s c.do_form-step.result c.in-Given.is c.do_form-step.ensures.went))
     (c.back_from_scope.ensures s)
+
+pub do_scope-returns-in-Gave : goal.do_scope-returns-in-Gave
+do_scope-returns-in-Gave t c =
+    let rest = c.args.left - c.from.result in
+    let from = at_scope c.args.slots c.args.body c.args.machine.now in
+    let n = plain.Int c.in-Gave.number in
+    went_given c.args.left rest c.args.machine.now c.stand_in.new.machine from c.given.new.seat c.given.result
+    (gives_at c.args.left rest n c.args.machine.now c.stand_in.new.machine c.stand_in.new.machine from c.given.new.seat refl (ap (λ s. s.value) c.given.ensures.value ∙ ap plain.Int (to_z-of_z w64 c.in-Gave.number (search rules)))
+    (scope_done c.args.slots c.args.body c.standing-scope.result c.args.left 9 rest n c.args.machine.now c.enter.new.machine c.body_here.new.machine c.stand_in.new.machine c.standing-scope.ensures c.in-Ok.ensures c.in-Gave.ensures.0 c.in-Gave.ensures.1 (omega (arith, c.from.ensures)) c.stand_in.ensures))
+    c.given.ensures.went
 
 pub do_scope-returns-in_default : goal.do_scope-returns-in_default
 do_scope-returns-in_default t c = went_failed c.args.left c.args.left c.args.machine.now _ (at_scope c.args.slots c.args.body c.args.machine.now) _ c.came.result c.came.ensures
@@ -107,7 +118,7 @@ do_scope-returns-in_default t c = went_failed c.args.left c.args.left c.args.mac
 pub do_scope-returns-in_default-how : goal.do_scope-returns-in_default-how
 do_scope-returns-in_default-how t c =
     let from = at_scope c.args.slots c.args.body c.args.machine.now in
-    let begun = scope_begins c.args.slots c.args.body c.standing-scope.result c.args.left c.args.machine.now c.enter.new.machine c.push_frame.new.self c.standing-scope.ensures c.in-Ok.ensures c.in-Ok-push_frame.ensures in
+    let begun = scope_begins c.args.slots c.args.body c.standing-scope.result c.args.left c.args.machine.now c.body_here.new.machine c.push_frame.new.self c.standing-scope.ensures (c.in-Nothing.ensures ∙ c.in-Ok.ensures) c.in-Ok-push_frame.ensures in
     then_went c.args.left c.args.left c.args.machine.now c.push_frame.new.self c.do_form-step.new.machine from (at_form c.args.body c.push_frame.new.self) c.do_form-step.new.seat c.do_form-step.result begun c.do_form-step.ensures.went
 
 -- LOOPS
