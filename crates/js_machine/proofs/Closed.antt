@@ -1,24 +1,33 @@
 -- Functions of a source that run.
-use Rattle.std.proofs.Common.{◌≡◌, ℕ, zero, suc, ◌+◌, ◌<◌, ◌≤◌, List, [], ◌∷◌, ◌++◌, length, get_or, take, take-suc, take_all, drop, reverse, Option, Some, None, refl, sym, ap, ◌∙◌, subst, arith, Result, Ok, Err, IfOk}
+use Rattle.std.proofs.Common.{◌≡◌, ℕ, zero, suc, ◌+◌, ◌<◌, ◌≤◌, true, if◌then◌else◌, eq-eqb, lt-ltb, List, [], ◌∷◌, ◌++◌, length, get_or, take, take-suc, take_all, drop, reverse, Option, Some, None, refl, sym, ap, ◌∙◌, subst, arith, Result, Ok, Err, IfOk}
 use Rattle.std.specs.Option.{option_map}
-use Rattle.std.proofs.lemmas.List.{append_assoc, length-reverse, reverse-append, reverse-reverse}
+use Rattle.std.proofs.lemmas.List.{length-reverse, reverse-append, reverse-reverse}
 use Rattle.lava_base.specs.declared.ids.MadeSymbol.{MadeSymbol}
 use Rattle.lava_base.specs.declared.ids.Ref.{Ref}
-use Rattle.js_text.specs.Naming.{Naming, Origin, Own, Common, Foreign, naming_of}
+use Rattle.lava_base.specs.declared.ids.Ref.TheVariants as reference
+use Rattle.js_text.specs.Naming.{Naming, Origin, Own, Common, Foreign, naming_of, origin_of}
 use Rattle.js_text.specs.declared.value.Value.{Value}
 use Rattle.js_text.specs.declared.value.Value.TheVariants as value
+use Rattle.js_desc.specs.declared.ask.Ask.{Ask}
+use Rattle.js_desc.specs.declared.ask.Ask.TheVariants as ask
 use Rattle.js_desc.specs.declared.decision.BodyId.{BodyId}
+use Rattle.js_desc.specs.declared.decision.Decision.TheVariants as decision
 use Rattle.js_desc.specs.declared.fault.FaultText.TheVariants as fault
 use Rattle.js_ordinary.specs.Origins.{object_of, there}
 use Rattle.js_ordinary.specs.Targets.{object_seen, origin_of_target}
 use Rattle.js_ordinary.specs.declared.target.Target.{Target}
 use Rattle.js_store.specs.Frozen.{CommonObject, common_ref}
-use Rattle.js_store.specs.Objects.{Object}
+use Rattle.js_store.specs.Objects.{Object, object_at}
 use Rattle.js_store.specs.declared.slot.Lexical.{Lexical}
 use Rattle.js_store.specs.declared.slot.Slot.{Slot}
 use Rattle.js_store.specs.declared.slot.Slot.TheVariants as slot
-use Rattle.js_operation.specs.js_run.Acts.{Act}
+use Rattle.js_operation.specs.js_exotic.BoundFunctions.{call_any}
+use Rattle.js_operation.specs.js_exotic.Decided.{decided, decided_there}
+use Rattle.js_operation.specs.js_exotic.Verdicts.{as_exotic}
+use Rattle.js_operation.specs.js_run.Acts.{Decide, Next, ask_there}
+use Rattle.js_operation.specs.js_run.Asking.{calls, calls_object, see_there}
 use Rattle.js_operation.specs.js_run.Bodies.{outer_scope, run_function, run_slot, run_template}
+use Rattle.js_operation.specs.js_run.Decisions.{decides, decides_by_slot, follows_with}
 use Rattle.js_operation.specs.js_run.Faults.{faults}
 use Rattle.js_operation.specs.js_run.Parties.{Party, Shared, template_at}
 use Rattle.js_operation.specs.js_run.Runs.{answered}
@@ -59,6 +68,47 @@ module _ (names : Naming Ref MadeSymbol) (shared : Shared) (f : Ref) (b : BodyId
   is_none : (s : Slot Ref MadeSymbol) → closure_in s ≡ None → run_slot names shared f s b this args target p ≡ faults names fault.NotAFunction p
   is_none (slot.Closure d home l) e = cc
   is_none s e = refl
+
+-- A FUNCTION OF THE PARTY IS CALLED
+
+module _ (me : ℕ) (shared : Shared) (id : ℕ) (this : V) (args : List V) (p : Party Ref MadeSymbol) where
+  abbrev own_at : Ref
+  own_at = reference.Own (record { 0 = me }) (record { 0 = id })
+
+  abbrev called : Ask Ref MadeSymbol
+  called = ask.Call this args
+
+  from_here : origin_of me own_at ≡ Own id
+  from_here = ap (λ b. if b then Own id else Foreign) (eq-eqb me me refl)
+
+  seen_here : object_of (naming_of me).common p.objects shared.objects (origin_of me own_at) ≡ object_at p.objects id
+  seen_here = ap (object_of (naming_of me).common p.objects shared.objects) from_here
+
+  -- it is asked, where it can be called
+  pub own_called : (k : Next Ref MadeSymbol) → (object_at p.objects id).marks.callable ≡ true → calls (naming_of me) shared (value.Ref own_at) this args p k ≡ Decide (value.Ref own_at) called p k
+  own_called k e =
+      let names = naming_of me in
+      ap (λ o. see_there names shared o own_at p (λ m. if m.callable then calls_object names shared (value.Ref own_at) this args p k else faults names fault.NotAFunction p)) from_here
+      ∙ ap (λ b. if b then calls_object names shared (value.Ref own_at) this args p k else faults names fault.NotAFunction p) e ∙ ap (λ o. ask_there o own_at called p k) from_here
+
+  module _ (b : BodyId) (home : Option Ref) (l : Option (Lexical Ref MadeSymbol)) (is_there : id < length p.objects) (keeps : (object_at p.objects id).slot ≡ slot.Closure b home l) where
+    -- the table says that its body runs
+    body_said : decided (naming_of me) p.objects shared.objects own_at called ≡ (decision.Run b this args None, p.objects)
+    body_said =
+        let names = naming_of me in
+        ap (λ o. decided_there names p.objects shared.objects own_at called (there p.objects shared.objects o)) from_here
+        ∙ ap (λ t. decided_there names p.objects shared.objects own_at called (if t then Some (Own id) else None)) (lt-ltb id (length p.objects) is_there)
+        ∙ ap (λ s. (as_exotic (call_any names s this args), p.objects)) keeps
+
+    -- and it does
+    pub own_runs : (c : Closure) → closure_in (object_at p.objects id).slot ≡ Some c → decides (naming_of me) shared (value.Ref own_at) called p ≡ runs_closure (naming_of me) shared own_at b c this args None p
+    own_runs c e =
+        let names = naming_of me in
+        ap (λ (o : Object Ref MadeSymbol). decides_by_slot names shared own_at o.slot o.marks.callable called p) seen_here
+        ∙ ap (λ s. decides_by_slot names shared own_at s (object_at p.objects id).marks.callable called p) keeps
+        ∙ ap (λ d. follows_with names shared own_at d p) body_said
+        ∙ ap (λ (o : Object Ref MadeSymbol). run_slot names shared own_at o.slot b this args None p) seen_here
+        ∙ is_run names shared own_at b this args None p (object_at p.objects id).slot c e
 
 abbrev Runs : Ref → BodyId → V → List V → Option Ref → View → View → Mode → Type 0
 Runs f b this args target old new m = LeadsTo (λ a. run_function (naming_of old.me) a.shared f b this args target (party_of a old)) old new m
@@ -107,18 +157,24 @@ one_pushed args i v old mid new e l s d =
 pub all_pushed : (args : Values) (i : ℕ) (old new : View) → new ≡ record old { values = reverse (take i args) ++ old.values } → length args ≤ i → new ≡ record old { values = reverse args ++ old.values }
 all_pushed args i old new e l = e ∙ ap (λ xs. record old { values = reverse xs ++ old.values }) (take_all i args l)
 
-pub closure_runs : {E : Type 0} (r : Result Mode E) (f : Ref) (b : BodyId) (c : Closure) (this : V) (args : Values) (target : Option Ref) (n at outer : ℕ) (old mid new : View) → n ≡ length args → mid ≡ record old { values = reverse args ++ old.values }
-    → template_of mid at ≡ template_numbered mid b.template → outer ≡ outer_of ((naming_of mid.me).origin f) b.scope
-    → IfOk r (LeadsTo (λ a. run_template (naming_of mid.me) a.shared f (template_of mid at) outer c.home c.lexical this (args_on n mid.values) target (party_of a mid)) (record mid { values = drop n mid.values }) new)
+pub listed_runs : {E : Type 0} (r : Result Mode E) (f : Ref) (b : BodyId) (c : Closure) (this : V) (target : Option Ref) (n at outer : ℕ) (old new : View) → template_of old at ≡ template_numbered old b.template → outer ≡ outer_of ((naming_of old.me).origin f) b.scope
+    → IfOk r (LeadsTo (λ a. run_template (naming_of old.me) a.shared f (template_of old at) outer c.home c.lexical this (args_on n old.values) target (party_of a old)) (record old { values = drop n old.values }) new)
+    → IfOk r (LeadsTo (λ a. runs_closure (naming_of old.me) a.shared f b c this (args_on n old.values) target (party_of a old)) (record old { values = drop n old.values }) new)
+listed_runs (Ok m) f b c this target n at outer old new t s h =
+    let w = subst (λ (x : Template). LeadsTo (λ a. run_template (naming_of old.me) a.shared f x outer c.home c.lexical this (args_on n old.values) target (party_of a old)) (record old { values = drop n old.values }) new m) t h in
+    let w = subst (λ i. LeadsTo (λ a. run_template (naming_of old.me) a.shared f (template_numbered old b.template) i c.home c.lexical this (args_on n old.values) target (party_of a old)) (record old { values = drop n old.values }) new m) s w in
+    record { leads = λ a. w.leads a; keeps = w.keeps }
+listed_runs (Err x) f b c this target n at outer old new t s h = tt
+
+pub closure_runs : {E : Type 0} (r : Result Mode E) (f : Ref) (b : BodyId) (c : Closure) (this : V) (args : Values) (target : Option Ref) (n : ℕ) (old mid new : View) → n ≡ length args → mid ≡ record old { values = reverse args ++ old.values }
+    → IfOk r (LeadsTo (λ a. runs_closure (naming_of mid.me) a.shared f b c this (args_on n mid.values) target (party_of a mid)) (record mid { values = drop n mid.values }) new)
     → IfOk r (LeadsTo (λ a. runs_closure (naming_of old.me) a.shared f b c this args target (party_of a old)) old new)
-closure_runs (Ok m) f b c this args target n at outer old mid new e d t s h =
+closure_runs (Ok m) f b c this args target n old mid new e d h =
     let top = record old { values = reverse args ++ old.values } in
     let count : n ≡ length (reverse args) = e ∙ sym (length-reverse args) in
-    let w = subst (λ (x : Template). LeadsTo (λ a. run_template (naming_of mid.me) a.shared f x outer c.home c.lexical this (args_on n mid.values) target (party_of a mid)) (record mid { values = drop n mid.values }) new m) t h in
-    let w = subst (λ i. LeadsTo (λ a. run_template (naming_of mid.me) a.shared f (template_numbered mid b.template) i c.home c.lexical this (args_on n mid.values) target (party_of a mid)) (record mid { values = drop n mid.values }) new m) s w in
-    let w = subst (λ (x : View). LeadsTo (λ a. run_template (naming_of x.me) a.shared f (template_numbered x b.template) (outer_of ((naming_of x.me).origin f) b.scope) c.home c.lexical this (args_on n x.values) target (party_of a x)) (record x { values = drop n x.values }) new m) d w in
+    let w = subst (λ (x : View). LeadsTo (λ a. runs_closure (naming_of x.me) a.shared f b c this (args_on n x.values) target (party_of a x)) (record x { values = drop n x.values }) new m) d h in
     let there : args_on n top.values ≡ args = ap (λ xs. reverse xs) (take_front n (reverse args) old.values count) ∙ reverse-reverse args in
-    let w = subst (λ xs. LeadsTo (λ a. run_template (naming_of old.me) a.shared f (template_numbered old b.template) (outer_of ((naming_of old.me).origin f) b.scope) c.home c.lexical this xs target (party_of a old)) (record old { values = drop n top.values }) new m) there w in
-    let w = subst (λ vs. LeadsTo (λ a. run_template (naming_of old.me) a.shared f (template_numbered old b.template) (outer_of ((naming_of old.me).origin f) b.scope) c.home c.lexical this args target (party_of a old)) (record old { values = vs }) new m) (drop_front n (reverse args) old.values count) w in
+    let w = subst (λ xs. LeadsTo (λ a. runs_closure (naming_of old.me) a.shared f b c this xs target (party_of a old)) (record old { values = drop n top.values }) new m) there w in
+    let w = subst (λ vs. LeadsTo (λ a. runs_closure (naming_of old.me) a.shared f b c this args target (party_of a old)) (record old { values = vs }) new m) (drop_front n (reverse args) old.values count) w in
     record { leads = λ a. w.leads a; keeps = w.keeps }
-closure_runs (Err x) f b c this args target n at outer old mid new e d t s h = tt
+closure_runs (Err x) f b c this args target n old mid new e d h = tt

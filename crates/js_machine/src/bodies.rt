@@ -21,6 +21,7 @@ use lava_base::memory::OutOfMemory;
 
 impl Machine {
     /// The row of a template.
+    #[inline]
     pub fn template(&self, at: u32) -> TemplateRow
         ensures { result ≡ row_of self.now at }
     {
@@ -28,6 +29,7 @@ impl Machine {
     }
 
     /// A body is open, and stands in a scope.
+    #[inline(always)]
     #[tactic(auto, using(crate::proofs::Reversed::reverse_push))]
     fn push_body(&mut self, scope: u32, body: Body) -> Result<(), OutOfMemory>
         ensures { OnOk result (self.new ≡ with_body scope body self.old) }
@@ -43,6 +45,7 @@ impl Machine {
     }
 
     /// The newest body is over.
+    #[inline]
     #[tactic(auto, using(crate::proofs::Reversed::reverse_push))]
     pub fn close_body(&mut self)
         ensures { self.new ≡ without_body self.old }
@@ -54,6 +57,7 @@ impl Machine {
     }
 
     /// A body runs a form, and a frame waits for its end; the run ends where too much is open.
+    #[inline(always)]
     pub fn open_body(
         &mut self,
         at: u32,
@@ -73,6 +77,7 @@ impl Machine {
     }
 
     /// Opens the scope of a body without a rest parameter.
+    #[inline]
     fn prepare_listed(&mut self, at: u32, outer: u32, count: u32) -> Result<u32, OutOfMemory>
         ensures number { IfOk result (λ s. s ≡ length self.old.scopes) }
         ensures prepared { OnOk result (self.new ≡ with_slots at outer count None self.old) }
@@ -84,6 +89,7 @@ impl Machine {
     }
 
     /// Opens the scope of a body with a rest parameter.
+    #[inline(never)]
     fn prepare_rest(&mut self, at: u32, outer: u32, count: u32) -> Result<u32, OutOfMemory>
         ensures number { IfOk result (λ s. s ≡ length self.old.scopes) }
         ensures prepared { OnOk result (self.new ≡ with_prepared true at outer count self.old) }
@@ -98,6 +104,7 @@ impl Machine {
     }
 
     /// Opens the scope of a body (ECMA-262, PrepareForOrdinaryCall, FunctionDeclarationInstantiation).
+    #[inline]
     fn prepare(&mut self, at: u32, outer: u32, count: u32) -> Result<u32, OutOfMemory>
         ensures number { IfOk result (λ s. s ≡ length self.old.scopes) }
         ensures prepared { let rest = (row_of self.old at).rest in
@@ -110,6 +117,7 @@ impl Machine {
     }
 
     /// The body of a template runs with so many arguments, and a frame waits for its end.
+    #[inline(always)]
     pub fn run_body(
         &mut self,
         at: u32,

@@ -15,6 +15,7 @@ use lava_base::memory::OutOfMemory;
 
 impl Machine {
     /// Opens a scope in which no body stands yet.
+    #[inline]
     fn open_bare(&mut self, outer: u32, count: u32) -> Result<u32, OutOfMemory>
         ensures number { IfOk result (λ s. s ≡ length self.old.scopes) }
         ensures opened { let slots = replicate count None in
@@ -24,6 +25,7 @@ impl Machine {
     }
 
     /// A slot of a scope that starts as undefined has its value, if it is none of the parameters.
+    #[inline]
     fn start_slot(&mut self, row: TemplateRow, first: u32, scope: u32, slot: u32)
         requires { first + (row.slots - row.params) ≤ 4294967295 }
         ensures { let others = nat_le row.params slot && nat_lt slot row.slots in
@@ -36,6 +38,7 @@ impl Machine {
     }
 
     /// Opens the scope of a body, where so many slots are left for the parameters, and the others that start as undefined have their value.
+    #[inline]
     pub fn open_slots(
         &mut self,
         row: TemplateRow,
@@ -63,6 +66,7 @@ impl Machine {
     }
 
     /// Gives a slot a value; nothing happens where there is no such slot.
+    #[inline]
     pub fn write_slot(&mut self, scope: u32, slot: u32, value: Value)
         ensures { let scopes = with_slot self.old.scopes scope slot value in
             self.new ≡ record self.old { scopes = scopes } }
@@ -71,6 +75,7 @@ impl Machine {
     }
 
     /// So many arguments are taken off the stack.
+    #[inline]
     pub fn drop_arguments(&mut self, count: u32)
         ensures { self.new ≡ record self.old { values = drop count self.old.values } }
     {
@@ -78,6 +83,7 @@ impl Machine {
     }
 
     /// How many arguments there are of so many on the stack of values.
+    #[inline]
     #[tactic(auto, using(crate::proofs::Filled::all_taken, crate::proofs::Filled::all_dropped))]
     pub fn given(&self, count: u32) -> u32
         ensures there { result ≤ length self.now.values }
@@ -93,6 +99,7 @@ impl Machine {
     }
 
     /// Takes an argument off the stack where there are more than so many, and else is undefined.
+    #[inline]
     fn take_argument(&mut self, at: u32, given: u32) -> Value
         ensures value { let there = top self.old.values in
             result ≡ (if nat_lt at given then there else undefined_value.Undefined) }
@@ -107,6 +114,7 @@ impl Machine {
     }
 
     /// Takes so many arguments off the stack, and gives the first slots of a scope those of their places; undefined where there are too few.
+    #[inline]
     pub fn bind_arguments(&mut self, first: u32, count: u32, scope: u32)
         ensures { self.new ≡ with_arguments first count scope self.old }
     {

@@ -24,6 +24,7 @@ use lava_base::ids::Ref;
 use lava_base::memory::OutOfMemory;
 
 /// Whether a function of a kind only constructs.
+#[inline]
 fn needs_new(kind: TemplateKind) -> bool
     ensures { result ≡ needs_new kind }
 {
@@ -31,6 +32,7 @@ fn needs_new(kind: TemplateKind) -> bool
 }
 
 /// The body of a call, which has yet to stand in a scope (ECMA-262, OrdinaryCallBindThis).
+#[inline(always)]
 fn called_body(
     kind: TemplateKind,
     function: Ref,
@@ -61,6 +63,7 @@ fn called_body(
 }
 
 /// The place of the template of a number.
+#[inline]
 #[tactic(auto, using(crate::proofs::Numbered::in_common, crate::proofs::Numbered::in_own, crate::proofs::Numbered::nowhere), unfolding(js_machine::specs::Defaults::KnowsTemplates))]
 pub fn template_place(machine: &Machine, number: u32) -> u32
     ensures { template_of machine.now result ≡ template_numbered machine.now number }
@@ -77,6 +80,7 @@ pub fn template_place(machine: &Machine, number: u32) -> u32
 }
 
 /// The body of a function is called, by the kind of its template (ECMA-262, "ECMAScript Function Objects", [[Call]]).
+#[inline(always)]
 pub fn call_by_kind(
     machine: &mut Machine,
     at: u32,
@@ -195,6 +199,7 @@ pub fn construct_by_kind(
 }
 
 /// The body of a function runs with so many arguments.
+#[inline(always)]
 pub fn run_template(
     machine: &mut Machine,
     at: u32,

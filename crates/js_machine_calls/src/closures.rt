@@ -1,11 +1,11 @@
 // Functions of a source that run.
 
-ghost use Rattle.std.specs.Prelude.{◌≡◌, IfOk};
+ghost use Rattle.std.specs.Prelude.{◌≡◌, IfOk, drop};
 ghost use Rattle.js_text.specs.Naming.{naming_of};
 ghost use Rattle.js_machine.specs.js_run.Bodies.{run_function};
 ghost use Rattle.js_machine.specs.Closures.{closure_in, outer_of, runs_closure};
 ghost use Rattle.js_machine.specs.Steps.{LeadsTo};
-ghost use Rattle.js_machine.specs.Views.{party_of};
+ghost use Rattle.js_machine.specs.Views.{args_on, party_of};
 ghost use Rattle.js_machine.specs.Ways.{object_in};
 
 use crate::calls::{run_template, template_place};
@@ -34,6 +34,7 @@ fn copy_this(this: &Option<Value>) -> Result<Option<Value>, OutOfMemory>
 }
 
 /// What an arrow took, once more.
+#[inline]
 fn copy_lexical(lexical: &Option<Lexical>) -> Result<Option<Lexical>, OutOfMemory>
     ensures { IfOk result (λ copy. copy ≡ lexical.now) }
 {
@@ -51,7 +52,8 @@ fn copy_lexical(lexical: &Option<Lexical>) -> Result<Option<Lexical>, OutOfMemor
 }
 
 /// What a slot keeps for a function of a source.
-fn closure_in(slot: &Slot) -> Result<Option<Closure>, OutOfMemory>
+#[inline]
+pub fn closure_in(slot: &Slot) -> Result<Option<Closure>, OutOfMemory>
     ensures { IfOk result (λ closure. closure ≡ closure_in slot.now) }
 {
     match slot {
@@ -67,7 +69,8 @@ fn closure_in(slot: &Slot) -> Result<Option<Closure>, OutOfMemory>
 }
 
 /// What an object keeps, if it is a function of a source.
-fn closure_at(machine: &Machine, me: Ref) -> Result<Option<Closure>, OutOfMemory>
+#[inline]
+pub fn closure_at(machine: &Machine, me: Ref) -> Result<Option<Closure>, OutOfMemory>
     ensures { let slot = (object_in machine.now me).slot in
         IfOk result (λ closure. closure ≡ closure_in slot) }
 {
@@ -78,6 +81,7 @@ fn closure_at(machine: &Machine, me: Ref) -> Result<Option<Closure>, OutOfMemory
 }
 
 /// Where the body of a function stands: one of the common part in the outermost scope.
+#[inline]
 fn outer_scope(machine: &Machine, me: Ref, scope: u32) -> u32
     ensures { result ≡ outer_of ((naming_of machine.now.me).origin me) scope }
 {
@@ -106,6 +110,38 @@ pub fn run_function(
     }
 }
 
+/// A function of a source runs with so many arguments, which are on the stack of values.
+#[inline(always)]
+pub fn run_listed(
+    machine: &mut Machine,
+    me: Ref,
+    body: BodyId,
+    closure: Closure,
+    this: Value,
+    target: Option<Ref>,
+    count: u32,
+) -> Result<Mode, OutOfMemory>
+    ensures { let names = naming_of machine.old.me in
+        let args = args_on count machine.old.values in
+        let below = record machine.old { values = drop count machine.old.values } in
+        IfOk result (LeadsTo (λ a. runs_closure names a.shared me body closure this args target
+        (party_of a machine.old)) below machine.new) }
+{
+    let at = template_place(machine, body.template);
+    let outer = outer_scope(machine, me, body.scope);
+    run_template(
+        machine,
+        at,
+        me,
+        outer,
+        closure.home,
+        closure.lexical,
+        this,
+        target,
+        count,
+    )
+}
+
 /// A function of a source runs with these arguments.
 fn run_closure(
     machine: &mut Machine,
@@ -125,17 +161,5 @@ fn run_closure(
     }
     let count = args.len() as u32;
     machine.push_arguments(&args)?;
-    let at = template_place(machine, body.template);
-    let outer = outer_scope(machine, me, body.scope);
-    run_template(
-        machine,
-        at,
-        me,
-        outer,
-        closure.home,
-        closure.lexical,
-        this,
-        target,
-        count,
-    )
+    run_listed(machine, me, body, closure, this, target, count)
 }
