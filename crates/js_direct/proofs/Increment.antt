@@ -1,5 +1,6 @@
 -- Bodies of three forms that are done at once, and those like that of `x++`.
-use Rattle.std.proofs.Common.{◌≡◌, ℕ, ℤ, suc, ◌+◌, true, is_some, List, [], ◌∷◌, length, map, slice_index, Some, refl, sym, ap, ◌∙◌, subst, arith}
+use Rattle.std.proofs.Common.{◌≡◌, ℕ, ℤ, zero, suc, ◌+◌, true, is_some, List, [], ◌∷◌, get_or, length, map, slice_index, slice_set, None, Some, refl, sym, ap, ◌∙◌, subst, arith}
+use Rattle.std.proofs.lemmas.List.{get_or-set_other}
 use Rattle.lava_base.specs.declared.ids.MadeSymbol.{MadeSymbol}
 use Rattle.lava_base.specs.declared.ids.Ref.{Ref}
 use Rattle.js_text.specs.Naming.{naming_of}
@@ -11,7 +12,7 @@ use Rattle.js_code.specs.Tables.{part_of}
 use Rattle.js_code.specs.declared.node.Node.TheVariants as node
 use Rattle.js_store.specs.Frozen.{CommonObject}
 use Rattle.js_store.specs.Objects.{Object}
-use Rattle.js_state.specs.Scopes.{Scope, outwards, slot_of, with_slot}
+use Rattle.js_state.specs.Scopes.{Scope, no_scope, outwards, scope_at, slot_of, with_slot, with_value as with_kept}
 use Rattle.js_operation.specs.Computing.{number_or_end}
 use Rattle.js_operation.specs.Operating.{MachineValue}
 use Rattle.js_operation.specs.declared.operation.Computed.TheVariants.{Is}
@@ -22,7 +23,7 @@ use Rattle.js_operation.specs.js_run.Operators.{numeric}
 use Rattle.js_operation.specs.js_run.Runs.{Begins, Charged, Due, Gives, answered, charge, run_for, settle}
 use Rattle.js_direct.specs.Direct.{Sight}
 use Rattle.js_direct.specs.Done.{DoesAtOnce}
-use Rattle.js_direct.specs.Increments.{CameOfBody, ChangesNumber, HasRow, IsIncremented, KeepsNumber}
+use Rattle.js_direct.specs.Increments.{CameOfBody, ChangesNumber, HasRow, IsIncremented, KeepsNumber, WritesBoth}
 use Rattle.js_direct.specs.declared.increments.Incremented.{Incremented}
 use Rattle.js_direct.specs.declared.increments.Incremented.TheVariants as came
 use Rattle.js_direct.proofs.Charges.{part}
@@ -78,6 +79,36 @@ module _ (s : Sight) (common : List CommonObject) where
       let second = subst (λ c. DoesAtOnce s1 common b (value.Int m) s.objects c 4) (sym w2) (set_does s1 common b h i (value.Int m) 3 4 change.from change.sets new has refl) in
       let third = value_does s2 common d (value.Int g) 1 (slot s2 d 0 0 (value.Int g) last given) in
       three_do at start count a b d value.Undefined (value.Int m) (value.Int g) s.objects s.objects s.objects c1 c2 c2 3 4 1 9 e forms first second third refl
+
+-- SLOTS OF TWO SCOPES
+
+outer_kept : (ss : List (Scope Ref MadeSymbol)) (x : Scope Ref MadeSymbol) (s t : ℕ) → x.outer ≡ (scope_at ss s).outer → (scope_at (slice_set ss s x) t).outer ≡ (scope_at ss t).outer
+outer_kept [] x s t e = refl
+outer_kept (y ∷ ys) x zero zero e = e
+outer_kept (y ∷ ys) x zero (suc t) e = refl
+outer_kept (y ∷ ys) x (suc s) zero e = refl
+outer_kept (y ∷ ys) x (suc s) (suc t) e = outer_kept ys x s t e
+
+outwards_kept : (ss : List (Scope Ref MadeSymbol)) (s i : ℕ) (v : MachineValue) (h t : ℕ) → outwards (with_slot ss s i v) h t ≡ outwards ss h t
+outwards_kept ss s i v zero t = refl
+outwards_kept ss s i v (suc h) t = ap (outwards (with_slot ss s i v) h) (outer_kept ss (with_kept (scope_at ss s) i v) s t refl) ∙ outwards_kept ss s i v h (scope_at ss t).outer
+
+slot_apart : (ss : List (Scope Ref MadeSymbol)) (s t i j : ℕ) (v : MachineValue) → (t ≡ s → ⊥) → slot_of (with_slot ss s i v) t j ≡ slot_of ss t j
+slot_apart ss s t i j v apart = ap (λ (x : Scope Ref MadeSymbol). get_or x.slots j None) (get_or-set_other ss s t (with_kept (scope_at ss s) i v) no_scope apart)
+
+-- one is kept in a scope, another one is written elsewhere
+pub writes_both : (old c1 new : List (Scope Ref MadeSymbol)) (s t h i : ℕ) (n m : ℤ) → (t ≡ s → ⊥) → t ≡ outwards old h s → slot_of old t i ≡ Some (value.Int n) → c1 ≡ with_slot old s 0 (value.Int n) → slot_of c1 s 0 ≡ Some (value.Int n) → new ≡ with_slot c1 t i (value.Int m)
+    → WritesBoth old new s h i n m n
+writes_both old c1 new s t h i n m apart way there first kept second =
+    let same : outwards c1 h s ≡ t = ap (λ ss. outwards ss h s) first ∙ outwards_kept old s 0 (value.Int n) h s ∙ sym way in
+    record {
+      between = c1;
+      keeps = first;
+      kept = kept;
+      there = ap (λ k. is_some (slot_of c1 k i)) same ∙ ap (λ ss. is_some (slot_of ss t i)) first ∙ ap is_some (slot_apart old s t 0 i (value.Int n) apart ∙ there);
+      sets = second ∙ ap (λ k. with_slot c1 k i (value.Int m)) (sym same);
+      given = ap (λ ss. slot_of ss s 0) second ∙ slot_apart c1 t s i 0 (value.Int m) (λ e. apart (sym e)) ∙ kept;
+    }
 
 -- so came of a body what came of its slots
 pub came_of : (x : Incremented) (s : Sight) (at start count a b d h i : ℕ) (op : BinaryOperator) (amount n m : ℤ) (new : List (Scope Ref MadeSymbol)) → HasRow s.code at (node.Seq start count) → part_of start count s.code.numbers ≡ a ∷ b ∷ d ∷ []

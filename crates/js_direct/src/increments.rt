@@ -1,17 +1,16 @@
 // Bodies like that of `x++`, which keep a number of a slot in a scope of their own, write what an operator makes of it, and give the old one.
 
-ghost use Rattle.std.specs.Prelude.{◌≡◌, ◌<◌, IfSome, IsTrue, List};
+ghost use Rattle.std.specs.Prelude.{◌≡◌, ◌<◌, ℕ, IfSome, IsTrue, List, Some};
 ghost use Rattle.js_code.specs.Decoded.{layer_of, term_at};
 ghost use Rattle.js_code.specs.declared.node.Node.TheVariants as node;
 ghost use Rattle.js_direct.specs.Direct.{seen};
 ghost use Rattle.js_direct.specs.Increments.{CameOfBody, ChangesNumber, IsIncremented, KeepsNumber};
-ghost use Rattle.js_state.specs.Scopes.{with_slot};
+ghost use Rattle.js_state.specs.Scopes.{outwards, slot_of, with_slot};
 ghost use Rattle.js_store.specs.Objects.{Owned};
 ghost use Rattle.js_term.specs.declared.term.Term.{out-Term};
 ghost use Rattle.js_text.specs.declared.value.Value.TheVariants.{Int};
 
 use crate::numbers::{Counted, operated, slot_number};
-use crate::slots::has_slot;
 use js_code::code::Code;
 use js_code::node::Node;
 use js_state::scopes::Scopes;
@@ -128,21 +127,26 @@ fn write_number(scopes: &mut Scopes, scope: u32, slot: u32, number: i64)
 
 /// The slots of such a body are written, once the numbers are known.
 #[inline(always)]
-fn written(scopes: &mut Scopes, scope: u32, place: Place, old: i64, new: i64) -> Incremented
-    ensures { IsIncremented result scopes.old scopes.new scope place.hops place.slot old new }
+fn written(
+    scopes: &mut Scopes,
+    scope: u32,
+    target: u32,
+    slot: u32,
+    old: i64,
+    new: i64,
+) -> Incremented
+    requires { ¬ (target ≡ scope) }
+    ensures { (hops : ℕ) → target ≡ outwards scopes.old hops scope
+        → slot_of scopes.old target slot ≡ Some (Int old)
+        → IsIncremented result scopes.old scopes.new scope hops slot old new }
 {
     write_number(scopes, scope, 0, old);
     let kept = slot_number(scopes, scope, 0, 0);
-    if kept.steps == 0 || kept.number != old || !has_slot(scopes, scope, place.hops, place.slot) {
+    if kept.steps == 0 || kept.number != old {
         return Incremented::Failed;
     }
-    let target = scopes.outward(scope, place.hops);
-    write_number(scopes, target, place.slot, new);
-    let given = slot_number(scopes, scope, 0, 0);
-    if given.steps == 0 {
-        return Incremented::Failed;
-    }
-    Incremented::Gave(given.number)
+    write_number(scopes, target, slot, new);
+    Incremented::Gave(old)
 }
 
 /// Such a body is done at once in the scope where it begins, which is its own, or not at all.
@@ -167,7 +171,11 @@ pub fn increment_at(code: &Code, scopes: &mut Scopes, scope: u32, at: u32) -> In
     if !is_kept(code, forms[2]) {
         return Incremented::Nothing;
     }
-    let old = slot_number(scopes, scope, place.hops, place.slot);
+    let target = scopes.outward(scope, place.hops);
+    if target == scope {
+        return Incremented::Nothing;
+    }
+    let old = slot_number(scopes, target, 0, place.slot);
     if old.steps == 0 {
         return Incremented::Nothing;
     }
@@ -179,5 +187,5 @@ pub fn increment_at(code: &Code, scopes: &mut Scopes, scope: u32, at: u32) -> In
     if new.steps == 0 {
         return Incremented::Nothing;
     }
-    written(scopes, scope, place, old.number, new.number)
+    written(scopes, scope, target, place.slot, old.number, new.number)
 }
