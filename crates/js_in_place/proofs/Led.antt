@@ -1,5 +1,5 @@
 -- Where acts lead in place.
-use Rattle.std.proofs.Common.{◌≡◌, ℕ, suc, ◌+◌, ◌-◌, ◌≤◌, Bool, true, false, is_some, List, [], ◌∷◌, get_or, length, map, Option, Some, None, refl, sym, ap, ◌∙◌, subst, arith, Result, Ok, Err, IfOk, if◌then◌else◌}
+use Rattle.std.proofs.Common.{◌≡◌, ℕ, suc, ℤ, ◌+◌, ◌-◌, ◌≤◌, Bool, true, false, is_some, List, [], ◌∷◌, drop, get_or, length, map, Option, Some, None, refl, sym, ap, ◌∙◌, subst, arith, Result, Ok, Err, IfOk, if◌then◌else◌}
 use Rattle.std.specs.Option.{option_map}
 use Rattle.lava_base.specs.declared.ids.MadeSymbol.{MadeSymbol}
 use Rattle.lava_base.specs.declared.ids.Ref.{Ref}
@@ -12,16 +12,23 @@ use Rattle.js_code.specs.declared.node.TurnRow.{TurnRow}
 use Rattle.js_direct.specs.Direct.{value_of}
 use Rattle.js_direct.specs.declared.plain.Plain.{Plain}
 use Rattle.js_direct.specs.declared.plain.Plain.TheVariants as plain
+use Rattle.js_direct.proofs.Given.{calculates}
+use Rattle.js_tree.specs.declared.operator.BinaryOperator.{BinaryOperator}
 use Rattle.js_state.specs.Scopes.{outwards, slot_of}
 use Rattle.js_machine.specs.Bodies.{scope_of, stood_in}
-use Rattle.js_machine.specs.Steps.{deed_with}
-use Rattle.js_machine.specs.Views.{View, party_of, turns_at, with_local}
+use Rattle.js_machine.specs.Opened.{without_body}
+use Rattle.js_machine.specs.Steps.{deed_with, settles, under}
+use Rattle.js_machine.specs.Views.{View, fitting, party_of, top, turns_at, with_local}
 use Rattle.js_machine.specs.declared.frame.Frame.{Frame}
 use Rattle.js_machine.specs.declared.frame.Frame.TheVariants as frame
 use Rattle.js_machine.specs.js_run.Acts.{Become, Evaluate, Tested, Turned, give, next_turn, with_value}
 use Rattle.js_machine.specs.js_run.Control.{branch, in_order, otherwise}
+use Rattle.js_machine.specs.js_run.Operators.{binary_value, numeric}
 use Rattle.js_machine.specs.js_run.Properties.{write_slot}
+use Rattle.js_machine.specs.js_run.Runs.{answered}
 use Rattle.js_machine.specs.js_run.Truth.{to_boolean}
+use Rattle.js_machine.specs.js_operation.Computing.{number_or_end}
+use Rattle.js_machine.specs.js_operation.declared.operation.Computed.TheVariants.{Is}
 use Rattle.js_machine.proofs.Listed.{part_first, part_within}
 use Rattle.js_in_place.specs.InPlace.{LedTo, WaitsIn}
 use Rattle.js_in_place.specs.declared.spot.Spot.TheVariants as spot
@@ -124,8 +131,6 @@ turn_taken (Err x) v b t left old new e y h = tt
 pub loop_ends : (v : Plain) (b : Bool) (t left : ℕ) (old : View) (s : Stand) → b ≡ to_boolean (value_of v) → b ≡ false → s ≡ value_stand plain.Undefined left → LedTo (deed_with (frame.Tested t) (value_of v) old) left old old s
 loop_ends v b t left old s e n d = turns_by v t left old old s (subst (λ x. Turns x t left old old s) (sym n ∙ e) (given_in plain.Undefined left old s d))
 
--- `return` WITH A VALUE
-
 -- SCOPES
 
 pub scope_left : (back left : ℕ) (v : Plain) (old new : View) (s : Stand) → new ≡ record old { bodies = stood_in back old.bodies } → s ≡ value_stand v left → LedTo (deed_with (frame.ScopeExit back) (value_of v) old) left old new s
@@ -177,3 +182,40 @@ second_chosen v b c at o left old s e n i d =
 pub none_chosen : (v : Plain) (b : Bool) (c : ℕ) (o : Option ℕ) (left : ℕ) (old : View) (s : Stand) → b ≡ to_boolean (value_of v) → b ≡ false → o ≡ None → s ≡ value_stand plain.Undefined left → Branches v c o left old s
 none_chosen v b c o left old s e n i d =
     chosen_by v b c o left old s e (subst (λ x. Chosen x c o left old s) (sym n) (subst (λ x. Chosen false c x left old s) (sym i) (given_in plain.Undefined left old s d)))
+
+-- BODIES AND CALLS
+
+-- the body of a call is over that returns nothing
+pub body_ends : (left : ℕ) (v : Plain) (old new : View) (s : Stand) → new ≡ without_body old → s ≡ value_stand plain.Undefined left → LedTo (deed_with frame.Called (value_of v) old) left old new s
+body_ends left v old new s e d =
+    subst (λ (x : Stand). LedTo (deed_with frame.Called (value_of v) old) left old new x) (sym d)
+    (subst (λ w. LedTo (deed_with frame.Called (value_of v) old) left old w (value_stand plain.Undefined left)) (sym e) (record { leads = λ a. refl; keeps = (refl, (refl, (refl, (refl, refl)))); stays = refl }))
+
+-- a call has its value
+pub given_ends : (left : ℕ) (v : Plain) (old : View) (s : Stand) → s ≡ value_stand v left → LedTo (deed_with frame.Given (value_of v) old) left old old s
+given_ends left v old s d = subst (λ (x : Stand). LedTo (deed_with frame.Given (value_of v) old) left old old x) (sym d) (record { leads = λ a. refl; keeps = (refl, (refl, (refl, (refl, refl)))); stays = refl })
+
+-- OPERATORS
+
+-- the right operand is next, and the left one waits
+pub operand_waits : {E : Type 0} (r : Result Stand E) (o : BinaryOperator) (at left : ℕ) (v : Plain) (old mid new : View) → mid ≡ record old { values = value_of v ∷ old.values } → IfOk r (WaitsIn (frame.BinaryRight o) at left mid new)
+    → IfOk r (LedTo (deed_with (frame.BinaryLeft o at) (value_of v) old) left old new)
+operand_waits r o at left v old mid new e h =
+    let there = subst (λ (w : View). IfOk r (WaitsIn (frame.BinaryRight o) at left w new)) e h in there
+
+-- both are numbers, and the operator gives one
+pub operated : (o : BinaryOperator) (i j n : ℤ) (left : ℕ) (low new : View) (s : Stand) → top low.values ≡ value.Int i → number_or_end (numeric o i j) ≡ Is n → new ≡ record low { values = drop 1 low.values } → s ≡ value_stand (plain.Int n) left
+    → LedTo (deed_with (frame.BinaryRight o) (value.Int j) low) left (under (frame.BinaryRight o) low) new s
+operated o i j n left low new s t c e d =
+    let f = frame.BinaryRight o in
+    let rest = under f low in
+    subst (λ (x : Stand). LedTo (deed_with f (value.Int j) low) left rest new x) (sym d)
+    (subst (λ u. LedTo (deed_with f (value.Int j) low) left rest u (value_stand (plain.Int n) left)) (sym e)
+    (record {
+      leads = λ a.
+          (let b = fitting rest a in
+          let gives = ap (λ v. binary_value (naming_of low.me) b.shared o v (value.Int j) (party_of b low)) t ∙ calculates (naming_of low.me) b.shared o i j n (party_of b low) c in
+          ap (λ x. settles b rest rest.values (answered (naming_of low.me) b.env x)) (sym gives));
+      keeps = (refl, (refl, (refl, (refl, refl))));
+      stays = refl;
+    }))

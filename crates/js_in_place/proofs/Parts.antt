@@ -27,6 +27,7 @@ use Rattle.js_machine.specs.js_run.Runs.{answered, settle}
 use Rattle.js_machine.proofs.Listed.{part_first, part_within}
 use Rattle.js_in_place.specs.InPlace.{sight_of}
 use Rattle.js_in_place.specs.Places.{ComesTo, IsDone, IsPart, IsWent, Place, after_turn, at_copy, at_deed, at_form, at_item, at_list, at_scope, at_test, at_turn, at_update, at_value}
+use Rattle.js_in_place.specs.Turns.{at_begun}
 use Rattle.js_in_place.specs.declared.seat.How.TheVariants as how
 use Rattle.js_in_place.specs.declared.seat.Seat.{Seat}
 use Rattle.js_in_place.specs.declared.seat.Went.{Went}
@@ -218,6 +219,10 @@ negated false e = refl
 affirmed : (b : Bool) → not b ≡ false → b ≡ true
 affirmed true e = refl
 affirmed false e = cc
+
+-- a turn begins
+pub turn_starts : (t left rest : ℕ) (row : TurnRow) (x : Truth) (w : View) → row ≡ get_or w.code.turns t no_turn_row → GivesTruth (sight_of w) row.test x → x.steps ≤ left → rest ≡ left - x.steps → not x.truth ≡ false → ComesTo left w w (at_test t w) (at_begun t row.body w) rest
+turn_starts t left rest row x w e h l d y = subst (λ (r : TurnRow). ComesTo left w w (at_test t w) (at_begun t r.body w) rest) (sym e) (turns t left rest row x w e h l d (affirmed x.truth y))
 
 -- a turn begins over its frame
 pub turn_begins : (t left rest : ℕ) (row : TurnRow) (x : Truth) (w new : View) → row ≡ get_or w.code.turns t no_turn_row → GivesTruth (sight_of w) row.test x → x.steps ≤ left → rest ≡ left - x.steps → not x.truth ≡ false → new ≡ record w { frames = frame.Turned t ∷ w.frames }

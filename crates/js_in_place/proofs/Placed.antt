@@ -32,7 +32,7 @@ use Rattle.js_desc.specs.declared.reply.Reply.TheVariants as reply
 use Rattle.js_in_place.specs.InPlace.{GoesTo, RunsTo, point_at, sight_of}
 use Rattle.js_in_place.specs.declared.spot.Spot.{Spot}
 use Rattle.js_in_place.specs.declared.spot.Stand.{Stand}
-use Rattle.js_in_place.specs.Places.{CameOf, Comes, ComesTo, IsBody, IsDone, IsPart, IsWent, PartCameOf, Place, at_deed, at_form, at_item, at_list, at_value}
+use Rattle.js_in_place.specs.Places.{CameOf, Comes, ComesTo, IsBody, IsDone, IsPart, IsWent, PartCameOf, Place, at_deed, at_form, at_item, at_list, at_mode, at_value}
 use Rattle.js_in_place.specs.declared.seat.How.{How}
 use Rattle.js_in_place.specs.declared.seat.How.TheVariants as how
 use Rattle.js_in_place.specs.declared.seat.Seat.{Seat}
@@ -82,6 +82,7 @@ then_by how.Given left mid_left rest old mid new from there s h g = then_to left
 then_by how.Left left mid_left rest old mid new from there s h g = then_to left mid_left rest old mid new from there (at_value s.value new) h g
 then_by how.Next left mid_left rest old mid new from there s h g = then_to left mid_left rest old mid new from there (at_form s.at new) h g
 then_by how.Stopped left mid_left rest old mid new from there s h g = then_to left mid_left rest old mid new from there (at_form s.at new) h g
+then_by how.Other left mid_left rest old mid new from there s h g = then_to left mid_left rest old mid new from there (at_mode s.mode new) h g
 then_by how.Failed left mid_left rest old mid new from there s h g = tt
 
 pub then_went : (left mid_left : ℕ) (old mid new : View) (from there : Place) (s : Seat) (w : Went) → ComesTo left old mid from there mid_left → IsWent there mid_left mid new s w → IsWent from left old new s w
@@ -92,6 +93,7 @@ then_part_by how.Next left mid_left rest old mid new from there to s h g = then_
 then_part_by how.Given left mid_left rest old mid new from there to s h g = then_by how.Given left mid_left rest old mid new from there s h g
 then_part_by how.Left left mid_left rest old mid new from there to s h g = then_by how.Left left mid_left rest old mid new from there s h g
 then_part_by how.Stopped left mid_left rest old mid new from there to s h g = then_by how.Stopped left mid_left rest old mid new from there s h g
+then_part_by how.Other left mid_left rest old mid new from there to s h g = then_by how.Other left mid_left rest old mid new from there s h g
 then_part_by how.Failed left mid_left rest old mid new from there to s h g = tt
 
 pub then_part : (left mid_left : ℕ) (old mid new : View) (from there to : Place) (s : Seat) (w : Went) → ComesTo left old mid from there mid_left → IsPart there to mid_left mid new s w → IsPart from to left old new s w
@@ -104,6 +106,7 @@ part_by how.Next left rest old new from to s e h = e refl
 part_by how.Given left rest old new from to s e h = h
 part_by how.Left left rest old new from to s e h = h
 part_by how.Stopped left rest old new from to s e h = h
+part_by how.Other left rest old new from to s e h = h
 part_by how.Failed left rest old new from to s e h = tt
 
 whole_by : (x : How) (left rest : ℕ) (old new : View) (from to : Place) (s : Seat) → (x ≡ how.Next → CameOf how.Next left old new from s rest) → PartCameOf x left old new from to s rest → CameOf x left old new from s rest
@@ -111,6 +114,7 @@ whole_by how.Next left rest old new from to s e h = e refl
 whole_by how.Given left rest old new from to s e h = h
 whole_by how.Left left rest old new from to s e h = h
 whole_by how.Stopped left rest old new from to s e h = h
+whole_by how.Other left rest old new from to s e h = h
 whole_by how.Failed left rest old new from to s e h = tt
 
 -- what is not next is a part as it is a whole
@@ -142,6 +146,9 @@ left_went left old new from s w e h = subst (λ x. CameOf x left old new from s 
 pub stopped_went : (left : ℕ) (old new : View) (from : Place) (s : Seat) (w : Went) → w.how ≡ how.Stopped → IsWent from left old new s w → ComesTo left old new from (at_form s.at new) w.left
 stopped_went left old new from s w e h = subst (λ x. CameOf x left old new from s w.left) e h
 
+pub other_went : (left : ℕ) (old new : View) (from : Place) (s : Seat) (w : Went) → w.how ≡ how.Other → IsWent from left old new s w → ComesTo left old new from (at_mode s.mode new) w.left
+other_went left old new from s w e h = subst (λ x. CameOf x left old new from s w.left) e h
+
 -- so a run goes on from another spot
 pub runs : (left rest : ℕ) (old new : View) (p q : Spot) (s : Stand) → ComesTo left old new (λ a. point_at a old p) (λ a. point_at a new q) rest → s.spot ≡ q → s.left ≡ rest → RunsTo p left old new s
 runs left rest old new p q s h e d =
@@ -150,6 +157,16 @@ runs left rest old new p q s h e d =
       within = omega (arith, d, h.within);
       goes = subst (λ x. GoesTo (left - s.left) p old new x) (sym e) (subst (λ k. GoesTo (left - k) p old new q) (sym d) gone);
     }
+
+-- and a form so far, where a run goes on from a spot
+spot_place : (p : Spot) (left : ℕ) (old new : View) (s : Stand) → RunsTo p left old new s → ComesTo left old new (λ a. point_at a old p) (λ a. point_at a new s.spot) s.left
+spot_place p left old new s h = record { within = h.within; comes = record { comes = h.goes.goes; keeps = h.goes.keeps } }
+
+pub comes_to_spot : (p q : Spot) (left : ℕ) (old new : View) (s : Stand) → s.spot ≡ q → RunsTo p left old new s → ComesTo left old new (λ a. point_at a old p) (λ a. point_at a new q) s.left
+comes_to_spot p q left old new s e h = subst (λ (x : Spot). ComesTo left old new (λ a. point_at a old p) (λ a. point_at a new x) s.left) e (spot_place p left old new s h)
+
+pub went_left : (left rest : ℕ) (old new : View) (from : Place) (s : Seat) (w : Went) → ComesTo left old new from (at_value s.value new) rest → w ≡ record { how = how.Left; left = rest } → IsWent from left old new s w
+went_left left rest old new from s w h e = subst (λ (x : Went). IsWent from left old new s x) (sym e) h
 
 pub part_given : (left rest : ℕ) (old new : View) (from to : Place) (s : Seat) (w : Went) → ComesTo left old new from (at_value s.value new) rest → w ≡ record { how = how.Given; left = rest } → IsPart from to left old new s w
 part_given left rest old new from to s w h e = subst (λ (x : Went). IsPart from to left old new s x) (sym e) h
@@ -169,6 +186,9 @@ part_next left rest old new from to s w h e = subst (λ (x : Went). IsPart from 
 
 pub part_stopped : (left rest : ℕ) (old new : View) (from to : Place) (s : Seat) (w : Went) → ComesTo left old new from (at_form s.at new) rest → w ≡ record { how = how.Stopped; left = rest } → IsPart from to left old new s w
 part_stopped left rest old new from to s w h e = subst (λ (x : Went). IsPart from to left old new s x) (sym e) h
+
+pub went_other : (left rest : ℕ) (old new : View) (from : Place) (s : Seat) (w : Went) → ComesTo left old new from (at_mode s.mode new) rest → w ≡ record { how = how.Other; left = rest } → IsWent from left old new s w
+went_other left rest old new from s w h e = subst (λ (x : Went). IsWent from left old new s x) (sym e) h
 
 pub went_failed : (left rest : ℕ) (old new : View) (from : Place) (s : Seat) (w : Went) → w ≡ record { how = how.Failed; left = rest } → IsWent from left old new s w
 went_failed left rest old new from s w e = subst (λ (x : Went). IsWent from left old new s x) (sym e) tt

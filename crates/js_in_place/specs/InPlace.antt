@@ -25,10 +25,12 @@ sight_of w = record { me = w.me; code = w.code; objects = w.objects; scopes = w.
 abbrev pub seen_from : Spot → View → View
 seen_from (spot.Form at) w = w
 seen_from (spot.Given v) w = record w { values = value_of v ∷ w.values }
+seen_from (spot.Other m) w = w
 
 abbrev pub mode_of : Spot → Mode
 mode_of (spot.Form at) = mode.Eval at
 mode_of (spot.Given v) = mode.Value
+mode_of (spot.Other m) = m
 
 -- where a run stands that is at a place
 abbrev pub point_at : Around → View → Spot → Point Ref MadeSymbol

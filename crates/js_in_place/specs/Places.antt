@@ -14,10 +14,11 @@ use Rattle.js_direct.specs.declared.plain.Plain.TheVariants as plain
 use Rattle.js_machine.specs.Steps.{Deed, Keeps, over, settles}
 use Rattle.js_machine.specs.Views.{Around, View, fitting, party_of, turns_at}
 use Rattle.js_machine.specs.js_run.Acts.{Evaluate, Give, Tested, Turned, give, next_turn}
-use Rattle.js_machine.specs.js_run.Control.{in_order, inside}
+use Rattle.js_machine.specs.js_run.Control.{in_order, inside, returns}
 use Rattle.js_machine.specs.js_run.Parties.{refreshed}
 use Rattle.js_machine.specs.js_run.declared.TheConstants.{MAX_DEPTH}
 use Rattle.js_machine.specs.declared.frame.Frame.TheVariants as frame
+use Rattle.js_machine.specs.declared.frame.Mode.{Mode}
 use Rattle.js_machine.specs.js_run.Runs.{Charged, Point, answered, charge, run_for}
 use Rattle.js_in_place.specs.InPlace.{point_at, sight_of}
 use Rattle.js_in_place.specs.declared.seat.How.{How}
@@ -41,6 +42,14 @@ at_form at w = λ a. point_at a w (spot.Form at)
 -- a value comes to the newest frame
 abbrev pub at_value : Plain → View → Place
 at_value v w = λ a. point_at a w (spot.Given v)
+
+-- the machine's own steps go on
+abbrev pub at_mode : Mode → View → Place
+at_mode m w = λ a. point_at a w (spot.Other m)
+
+-- a value is returned
+abbrev pub at_return : Plain → View → Place
+at_return v w = at_deed (λ a. returns (value_of v) (party_of a w)) w
 
 -- the forms of a list follow, in their order
 abbrev pub at_list : (start count : ℕ) → View → Place
@@ -101,6 +110,7 @@ CameOf how.Given left old new from s rest = ComesTo left old new from (at_value 
 CameOf how.Left left old new from s rest = ComesTo left old new from (at_value s.value new) rest
 CameOf how.Next left old new from s rest = ComesTo left old new from (at_form s.at new) rest
 CameOf how.Stopped left old new from s rest = ComesTo left old new from (at_form s.at new) rest
+CameOf how.Other left old new from s rest = ComesTo left old new from (at_mode s.mode new) rest
 CameOf how.Failed left old new from s rest = Unit
 
 -- a form went so far
@@ -113,6 +123,7 @@ PartCameOf how.Next left old new from to s rest = ComesTo left old new from to r
 PartCameOf how.Given left old new from to s rest = CameOf how.Given left old new from s rest
 PartCameOf how.Left left old new from to s rest = CameOf how.Left left old new from s rest
 PartCameOf how.Stopped left old new from to s rest = CameOf how.Stopped left old new from s rest
+PartCameOf how.Other left old new from to s rest = CameOf how.Other left old new from s rest
 PartCameOf how.Failed left old new from to s rest = Unit
 
 -- a part of a form went so far

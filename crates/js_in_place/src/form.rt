@@ -1,15 +1,21 @@
 // Forms that hold others: each is begun, and what it holds is done in place as far as it gets. No form is deeper in another one than `MOST_DEEP`.
 
-ghost use Rattle.std.specs.Prelude.{◌≡◌, ◌<◌};
+ghost use Rattle.std.specs.Prelude.{◌≡◌, ◌<◌, ◌+◌, ℕ};
 ghost use Rattle.js_code.specs.Decoded.{layer_of, term_at};
-ghost use Rattle.js_in_place.specs.Places.{IsPart, IsWent, at_form, at_item, at_list, at_scope, at_test, at_update};
+ghost use Rattle.js_in_place.specs.Places.{IsPart, IsWent, after_turn, at_form, at_item, at_list, at_scope, at_test, at_update};
+ghost use Rattle.js_in_place.specs.Turns.{IsRenewal, at_begun, at_inside, turn_list};
 ghost use Rattle.js_in_place.specs.declared.seat.How.TheVariants as how_kind;
 ghost use Rattle.js_term.specs.declared.term.Term.{out-Term};
 
 use crate::back::{back_from_scope, back_from_turn, back_from_update, back_in_list};
-use crate::here::{body_here, choose_one, choose_two, fresh, starts_loop, truth_here};
-use crate::leaves::{do_leaf, fresh_item, leaf_item};
+use crate::calls::do_call;
+use crate::here::{body_here, choose_one, choose_two, done_here, fresh, starts_loop, truth_here};
+use crate::leaves::{do_leaf, do_return, fresh_item, leaf_item};
+use crate::resume::after_row;
+use crate::returns::leave;
+use crate::scopes::enter_copy;
 use crate::seat::{How, Seat, Went, came, given, next, stopped};
+use crate::turns::{Renewal, back_from_inside, do_first, renewal_at};
 use crate::waits::turn_row;
 use js_code::node::Node;
 use js_direct::increments::{INCREMENT_STEPS, Incremented};
@@ -50,6 +56,7 @@ pub fn do_form(machine: &mut Machine, seat: &mut Seat, at: u32, left: u64, depth
             break;
         }
         let step = do_row(machine, seat, at, left, depth);
+        let step = after_row(machine, seat, step);
         match step.how {
             How::Next => {
                 at = seat.at;
@@ -83,7 +90,10 @@ fn do_row(machine: &mut Machine, seat: &mut Seat, at: u32, left: u64, depth: u32
             alternate,
         } => choose_two(machine, seat, at, test, consequent, alternate, left),
         Node::Fresh => fresh(machine, seat, left - 1),
-        _ => do_leaf(machine, seat, at, left),
+        Node::Call { callee, arguments } => do_call(machine, seat, at, callee, arguments, left),
+        Node::ReturnValue { value } => do_return(machine, seat, value, left),
+        Node::Return => leave(machine, seat, Plain::Undefined, left - 1),
+        node => do_leaf(machine, seat, node, at, left),
     }
 }
 
@@ -126,7 +136,8 @@ fn holds_others(node: Node) -> bool {
         | Node::Scope { .. }
         | Node::Loop { .. }
         | Node::If { .. }
-        | Node::IfElse { .. } => true,
+        | Node::IfElse { .. }
+        | Node::Call { .. } => true,
         _ => false,
     }
 }
@@ -230,15 +241,7 @@ fn do_turn(machine: &mut Machine, seat: &mut Seat, turns: u32, left: u64, depth:
     if !truth.truth {
         return given(seat, Plain::Undefined, left - price);
     }
-    let Ok(_) = machine.push_frame(Frame::Turned { turns }) else {
-        return came(How::Failed, left);
-    };
-    let step = do_form(machine, seat, row.body, left - price, depth);
-    match step.how {
-        How::Given => (),
-        _ => return step,
-    }
-    let step = back_from_turn(machine, turns, step.left);
+    let step = do_body(machine, seat, turns, row.body, left - price, depth);
     match step.how {
         How::Next => (),
         _ => return step,
@@ -249,10 +252,213 @@ fn do_turn(machine: &mut Machine, seat: &mut Seat, turns: u32, left: u64, depth:
     }
 }
 
-/// What a loop does after a turn.
+/// A turn of a loop. Forms of its body that are done at once want no frame.
+#[cycle(form)]
+#[inline(always)]
+fn do_body(
+    machine: &mut Machine,
+    seat: &mut Seat,
+    turns: u32,
+    body: u32,
+    left: u64,
+    depth: u32,
+) -> Went
+    ensures { IsPart (at_begun turns body machine.old) (after_turn turns machine.new) left machine.old
+        machine.new seat.new result }
+{
+    match node(machine, body) {
+        Node::Seq { start, count } if left > 0 => {
+            do_listed(machine, seat, turns, start, count, left - 1, depth)
+        }
+        _ => do_whole(machine, seat, turns, body, left, depth),
+    }
+}
+
+/// A turn whose body is a list.
+#[cycle(form)]
+#[inline(always)]
+fn do_listed(
+    machine: &mut Machine,
+    seat: &mut Seat,
+    turns: u32,
+    start: u32,
+    count: u32,
+    left: u64,
+    depth: u32,
+) -> Went
+    ensures { IsPart (turn_list turns start count machine.old) (after_turn turns machine.new) left
+        machine.old machine.new seat.new result }
+{
+    let Ok(there) = machine.listed(start, count) else {
+        return came(How::Failed, left);
+    };
+    if there == 0 {
+        return came(How::Next, left);
+    }
+    let first = do_first(machine, seat, start, count, there - 1, left);
+    if first.done < there - 1 {
+        let (at, more) = (start + first.done, count - first.done);
+        return do_rest(machine, seat, turns, at, more, first.left, depth);
+    }
+    let last = machine.number(start + (there - 1));
+    let steps = done_here(machine, seat, last, first.left);
+    if steps > 0 {
+        return came(How::Next, first.left - u64::from(steps));
+    }
+    do_whole(machine, seat, turns, last, first.left, depth)
+}
+
+/// The rest of the body of a turn.
+#[cycle(form)]
+#[inline(never)]
+fn do_rest(
+    machine: &mut Machine,
+    seat: &mut Seat,
+    turns: u32,
+    start: u32,
+    count: u32,
+    left: u64,
+    depth: u32,
+) -> Went
+    ensures { IsPart (turn_list turns start count machine.old) (after_turn turns machine.new) left
+        machine.old machine.new seat.new result }
+{
+    let Ok(_) = machine.push_frame(Frame::Turned { turns }) else {
+        return came(How::Failed, left);
+    };
+    let step = do_items(machine, seat, start, count, left, depth);
+    match step.how {
+        How::Next => do_turned(machine, seat, turns, seat.at, step.left, depth),
+        How::Given => back_from_turn(machine, turns, step.left),
+        _ => step,
+    }
+}
+
+/// The body of a turn, or its last form, over a frame.
+#[cycle(form)]
+#[inline(never)]
+fn do_whole(
+    machine: &mut Machine,
+    seat: &mut Seat,
+    turns: u32,
+    body: u32,
+    left: u64,
+    depth: u32,
+) -> Went
+    ensures { IsPart (at_begun turns body machine.old) (after_turn turns machine.new) left machine.old
+        machine.new seat.new result }
+{
+    let Ok(_) = machine.push_frame(Frame::Turned { turns }) else {
+        return came(How::Failed, left);
+    };
+    do_turned(machine, seat, turns, body, left, depth)
+}
+
+/// The last form of a turn, over the turn's frame.
+#[cycle(form)]
+#[inline(always)]
+fn do_turned(
+    machine: &mut Machine,
+    seat: &mut Seat,
+    turns: u32,
+    at: u32,
+    left: u64,
+    depth: u32,
+) -> Went
+    ensures { IsPart (at_form at machine.old) (after_turn turns machine.new) left machine.old
+        machine.new seat.new result }
+{
+    let step = do_form(machine, seat, at, left, depth);
+    match step.how {
+        How::Given => back_from_turn(machine, turns, step.left),
+        _ => step,
+    }
+}
+
+/// What a loop does after a turn. A copy of the innermost scope and `x++` in it want no frame.
 #[cycle(form)]
 #[inline(always)]
 fn do_update(
+    machine: &mut Machine,
+    seat: &mut Seat,
+    turns: u32,
+    update: u32,
+    left: u64,
+    depth: u32,
+) -> Went
+    ensures { IsPart (at_update turns update machine.old) (at_test turns machine.new) left machine.old
+        machine.new seat.new result }
+{
+    match renewal_at(machine, update) {
+        Some(parts) if left >= 3 => do_renewal(machine, seat, turns, parts, left - 3, depth),
+        _ => do_other_update(machine, seat, turns, update, left, depth),
+    }
+}
+
+/// A copy of the innermost scope is there, and a form runs in a new scope in it: at once, where it is like the body of `x++`. The steps of the three forms are taken off already.
+#[cycle(form)]
+#[inline(always)]
+fn do_renewal(
+    machine: &mut Machine,
+    seat: &mut Seat,
+    turns: u32,
+    parts: Renewal,
+    left: u64,
+    depth: u32,
+) -> Went
+    ensures { (at : ℕ) → IsRenewal machine.old.code at parts.slots parts.body
+        → IsPart (at_update turns at machine.old) (at_test turns machine.new) (left + 3) machine.old
+        machine.new seat.new result }
+{
+    let Ok(_) = enter_copy(machine) else {
+        return came(How::Failed, left);
+    };
+    let scope = machine.standing();
+    let Ok(_) = enter(machine, parts.slots) else {
+        return came(How::Failed, left);
+    };
+    match body_here(machine, parts.body, left) {
+        Incremented::Gave(_) => {
+            stand_in(machine, scope);
+            came(How::Next, left - u64::from(INCREMENT_STEPS))
+        }
+        Incremented::Nothing => do_inside(machine, seat, turns, scope, parts.body, left, depth),
+        Incremented::Failed => came(How::Failed, left),
+    }
+}
+
+/// A form in the scope where the machine stands, which is left again for this one, and then the loop tests.
+#[cycle(form)]
+#[inline(never)]
+fn do_inside(
+    machine: &mut Machine,
+    seat: &mut Seat,
+    turns: u32,
+    scope: u32,
+    body: u32,
+    left: u64,
+    depth: u32,
+) -> Went
+    ensures { IsPart (at_inside turns scope body machine.old) (at_test turns machine.new) left
+        machine.old machine.new seat.new result }
+{
+    let Ok(_) = machine.push_frame(Frame::Updated { turns }) else {
+        return came(How::Failed, left);
+    };
+    let Ok(_) = machine.push_frame(Frame::ScopeExit { scope }) else {
+        return came(How::Failed, left);
+    };
+    let step = do_form(machine, seat, body, left, depth);
+    match step.how {
+        How::Given => back_from_inside(machine, turns, step.left),
+        _ => step,
+    }
+}
+
+/// What a loop does after a turn, over a frame.
+#[cycle(form)]
+#[inline(never)]
+fn do_other_update(
     machine: &mut Machine,
     seat: &mut Seat,
     turns: u32,

@@ -3,7 +3,7 @@
 ghost use Rattle.std.specs.Prelude.{◌≡◌, ◌+◌, ◌<◌, ◌≤◌, IsTrue};
 ghost use Rattle.js_code.specs.Decoded.{layer_of, term_at};
 ghost use Rattle.js_code.specs.declared.node.Node.TheVariants as node_kind;
-ghost use Rattle.js_direct.specs.Direct.{GivesTruth, seen};
+ghost use Rattle.js_direct.specs.Direct.{GivesAtOnce, GivesTruth, seen, value_of};
 ghost use Rattle.js_direct.specs.Increments.{CameOfBody};
 ghost use Rattle.js_in_place.specs.InPlace.{sight_of};
 ghost use Rattle.js_in_place.specs.Places.{IsBody, IsDone, IsWent, at_copy, at_form, at_test};
@@ -16,6 +16,7 @@ ghost use Rattle.js_term.specs.declared.term.Term.{out-Term};
 use crate::scopes::enter_copy;
 use crate::seat::{How, Seat, Went, came, given, next, stopped};
 use crate::waits::turn_row;
+use js_direct::direct::value_into;
 use js_direct::done::done_at;
 use js_direct::increments::{INCREMENT_STEPS, Incremented, increment_at};
 use js_direct::plain::Plain;
@@ -44,6 +45,21 @@ pub fn done_here(machine: &mut Machine, seat: &mut Seat, at: u32, left: u64) -> 
         at,
         left,
         &mut seat.value,
+    )
+}
+
+/// What a form gives at once where the machine stands, and how many steps that takes; none where it does not.
+#[inline(always)]
+pub fn value_from(machine: &Machine, at: u32, given: &mut Plain) -> u32
+    ensures { 0 < result → GivesAtOnce (sight_of machine.now) at (value_of given.new) result }
+{
+    value_into(
+        &machine.code,
+        &machine.store,
+        &machine.scopes,
+        machine.standing(),
+        at,
+        given,
     )
 }
 
@@ -94,7 +110,7 @@ pub fn truth_here(machine: &Machine, at: u32) -> Truth
 }
 
 /// A form or none, by what a test gives at once (ECMA-262, the if Statement).
-#[inline(never)]
+#[inline]
 pub fn choose_one(
     machine: &Machine,
     seat: &mut Seat,
@@ -120,7 +136,7 @@ pub fn choose_one(
 }
 
 /// One of two forms, by what a test gives at once (ECMA-262, the if Statement).
-#[inline(never)]
+#[inline]
 pub fn choose_two(
     machine: &Machine,
     seat: &mut Seat,

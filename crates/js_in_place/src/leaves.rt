@@ -1,27 +1,157 @@
 // Forms that are done at once, or not begun.
 
-ghost use Rattle.std.specs.Prelude.{◌≡◌, ◌<◌};
+ghost use Rattle.std.specs.Prelude.{◌≡◌, ◌<◌, ℕ, IfSome};
 ghost use Rattle.js_code.specs.Decoded.{layer_of, term_at};
 ghost use Rattle.js_code.specs.declared.node.Node.TheVariants as node_kind;
+ghost use Rattle.js_in_place.specs.Holding.{Holds};
 ghost use Rattle.js_in_place.specs.Places.{IsPart, IsWent, at_form, at_item, at_list};
 ghost use Rattle.js_term.specs.declared.term.Term.{out-Term};
 
-use crate::here::done_here;
+use crate::here::{done_here, value_from};
+use crate::returns::leave;
 use crate::scopes::enter_copy;
-use crate::seat::{How, Seat, Went, came, stopped};
+use crate::seat::{How, Seat, Went, came, next, stopped};
+use js_code::node::Node;
+use js_direct::plain::Plain;
 use js_machine::frame::Frame;
 use js_machine::machine::Machine;
 
-/// A form is done at once, or not begun.
+/// A frame that waits for a form.
+#[derive(Clone, Copy)]
+pub(crate) struct Held {
+    pub frame: Frame,
+    pub at: u32,
+}
+
+/// What waits for which form, of a form that first evaluates another one.
 #[inline(always)]
-pub fn do_leaf(machine: &mut Machine, seat: &mut Seat, at: u32, left: u64) -> Went
-    ensures { IsWent (at_form at machine.old) left machine.old machine.new seat.new result }
+fn held_by(node: Node) -> Option<Held>
+    ensures { IfSome result (λ h. Holds node h.frame h.at) }
 {
-    let steps = done_here(machine, seat, at, left);
-    if steps == 0 {
+    match node {
+        Node::SetLocal {
+            hops,
+            slot,
+            constant,
+            value,
+        } => Some(Held {
+            frame: Frame::SetLocal {
+                hops,
+                slot,
+                constant,
+            },
+            at: value,
+        }),
+        Node::Init { hops, slot, value } => Some(Held {
+            frame: Frame::Init { hops, slot },
+            at: value,
+        }),
+        Node::Binary {
+            operator,
+            left,
+            right,
+        } => Some(Held {
+            frame: Frame::BinaryLeft { operator, right },
+            at: left,
+        }),
+        _ => None,
+    }
+}
+
+/// A form begins, and another one waits for it.
+#[inline(never)]
+fn wait_for(machine: &mut Machine, seat: &mut Seat, node: Node, at: u32, left: u64) -> Went
+    ensures { let term = term_at machine.old.code in
+        out-Term (term at) ≡ layer_of machine.old.code term node
+        → IsWent (at_form at machine.old) left machine.old machine.new seat.new result }
+{
+    if left == 0 {
         return stopped(seat, at, left);
     }
+    let Some(first) = held_by(node) else {
+        return stopped(seat, at, left);
+    };
+    let Ok(_) = machine.push_frame(first.frame) else {
+        return came(How::Failed, left);
+    };
+    next(seat, first.at, left - 1)
+}
+
+/// Whether a form is a call, which is not done at once.
+#[inline(always)]
+fn is_call(node: Node) -> bool {
+    match node {
+        Node::Call { .. } => true,
+        _ => false,
+    }
+}
+
+/// Whether a form is an operator whose left operand is a call.
+#[inline(always)]
+fn begins_with_call(machine: &Machine, node: Node) -> bool {
+    match node {
+        Node::Binary { left, .. } => is_call(machine.code.node(left)),
+        _ => false,
+    }
+}
+
+/// Whether a form may give a value at once.
+#[inline(always)]
+fn may_give(machine: &Machine, node: Node) -> bool {
+    match node {
+        Node::If { .. } | Node::IfElse { .. } | Node::Call { .. } => false,
+        node => !begins_with_call(machine, node),
+    }
+}
+
+/// A form is done at once, or what it evaluates first is next, or it is not begun.
+#[inline(always)]
+pub fn do_leaf(machine: &mut Machine, seat: &mut Seat, node: Node, at: u32, left: u64) -> Went
+    ensures { let term = term_at machine.old.code in
+        out-Term (term at) ≡ layer_of machine.old.code term node
+        → IsWent (at_form at machine.old) left machine.old machine.new seat.new result }
+{
+    if begins_with_call(machine, node) {
+        return wait_for(machine, seat, node, at, left);
+    }
+    let steps = done_here(machine, seat, at, left);
+    if steps == 0 {
+        return wait_for(machine, seat, node, at, left);
+    }
     came(How::Given, left - u64::from(steps))
+}
+
+/// A form is next whose value is returned.
+#[inline]
+fn return_waits(machine: &mut Machine, seat: &mut Seat, value: u32, left: u64) -> Went
+    requires { 0 < left }
+    ensures { (at : ℕ) → let term = term_at machine.old.code in
+        out-Term (term at) ≡ layer_of machine.old.code term (node_kind.ReturnValue value)
+        → IsWent (at_form at machine.old) left machine.old machine.new seat.new result }
+{
+    let Ok(_) = machine.push_frame(Frame::Return) else {
+        return came(How::Failed, left);
+    };
+    next(seat, value, left - 1)
+}
+
+/// A value is returned at once, or the form is next that gives it.
+#[inline]
+pub fn do_return(machine: &mut Machine, seat: &mut Seat, value: u32, left: u64) -> Went
+    requires { 0 < left }
+    ensures { (at : ℕ) → let term = term_at machine.old.code in
+        out-Term (term at) ≡ layer_of machine.old.code term (node_kind.ReturnValue value)
+        → IsWent (at_form at machine.old) left machine.old machine.new seat.new result }
+{
+    if !may_give(machine, machine.code.node(value)) {
+        return return_waits(machine, seat, value, left);
+    }
+    let mut given = Plain::Undefined;
+    let price = u64::from(value_from(machine, value, &mut given));
+    if price == 0 || price >= left {
+        return return_waits(machine, seat, value, left);
+    }
+    leave(machine, seat, given, left - 1 - price)
 }
 
 /// A form of a list is to begin, and those behind it wait.

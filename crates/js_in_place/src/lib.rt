@@ -7,16 +7,22 @@
 #![tactic(auto)]
 
 pub mod back;
+pub mod calls;
 pub mod deliver;
 pub mod form;
 pub mod frames;
 pub mod here;
 pub mod leaves;
+pub mod resume;
+pub mod returns;
 pub mod run;
 pub mod scopes;
 pub mod seat;
 pub mod spot;
+pub mod stands;
+pub mod turns;
 pub mod waits;
 
 pub use js_direct;
+pub use js_machine_calls;
 pub use js_machine_statements;

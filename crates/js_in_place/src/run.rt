@@ -7,31 +7,16 @@ ghost use Rattle.js_in_place.specs.declared.spot.Spot.TheVariants as spot_kind;
 
 use crate::deliver::deliver;
 use crate::form::{MOST_DEEP, do_form};
-use crate::seat::{How, Seat};
+use crate::here::value_from;
 use crate::spot::{Spot, Stand, at_form, at_value, stopped_at};
+use crate::stands::{new_seat, stand_of};
 use js_code::node::Node;
-use js_direct::direct::value_into;
 use js_direct::plain::Plain;
 use js_machine::machine::Machine;
 use lava_base::memory::OutOfMemory;
 
 /// How much a run does in place at most before it looks up.
 pub const EVENTS: u32 = 1000000;
-
-/// What a form gives at once where the machine stands, and how many steps that takes; none where it does not.
-#[inline]
-fn value_from(machine: &Machine, at: u32, given: &mut Plain) -> u32
-    ensures { 0 < result → GivesAtOnce (sight_of machine.now) at (value_of given.new) result }
-{
-    value_into(
-        &machine.code,
-        &machine.store,
-        &machine.scopes,
-        machine.standing(),
-        at,
-        given,
-    )
-}
 
 /// A form that gives a value at once, where its steps can be paid; else it is to begin still.
 #[inline]
@@ -51,18 +36,9 @@ fn value_here(machine: &Machine, at: u32, left: u64) -> Stand
 fn begin(machine: &mut Machine, at: u32, left: u64) -> Result<Stand, OutOfMemory>
     ensures { IfOk result (RunsTo (spot_kind.Form at) left machine.old machine.new) }
 {
-    let mut seat = Seat {
-        at,
-        value: Plain::Undefined,
-    };
+    let mut seat = new_seat(at);
     let step = do_form(machine, &mut seat, at, left, MOST_DEEP);
-    match step.how {
-        How::Given => Ok(at_value(seat.value, step.left)),
-        How::Left => Ok(stopped_at(Spot::Given(seat.value), step.left)),
-        How::Next => Ok(stopped_at(Spot::Form(seat.at), step.left)),
-        How::Stopped => Ok(stopped_at(Spot::Form(seat.at), step.left)),
-        How::Failed => Err(OutOfMemory),
-    }
+    stand_of(seat, step)
 }
 
 /// A form begins, or a value comes to the newest frame.
@@ -73,6 +49,7 @@ fn follow(machine: &mut Machine, stand: Stand) -> Result<Stand, OutOfMemory>
     match stand.spot {
         Spot::Form(at) => begin(machine, at, stand.left),
         Spot::Given(value) => deliver(machine, value, stand.left),
+        Spot::Other(_) => Ok(stopped_at(stand.spot, stand.left)),
     }
 }
 
@@ -106,14 +83,17 @@ pub fn begin_in_place(machine: &mut Machine, at: u32, left: u64) -> Result<Stand
         | Node::IfElse { .. }
         | Node::SetLocal { .. }
         | Node::Init { .. }
-        | Node::Put { .. } => run_in_place(machine, at_form(at, left)),
+        | Node::Put { .. }
+        | Node::Binary { .. }
+        | Node::Call { .. }
+        | Node::Return
+        | Node::ReturnValue { .. } => run_in_place(machine, at_form(at, left)),
         Node::Undefined
         | Node::Null
         | Node::Bool(_)
         | Node::Int(_)
         | Node::Local { .. }
         | Node::Unary { .. }
-        | Node::Binary { .. }
         | Node::Get { .. } => Ok(value_here(machine, at, left)),
         _ => Ok(stopped_at(Spot::Form(at), left)),
     }

@@ -4,12 +4,14 @@ ghost use Rattle.std.specs.Prelude.{◌≡◌, true};
 ghost use Rattle.js_in_place.specs.declared.spot.Spot.TheVariants as spot_kind;
 
 use js_direct::plain::Plain;
+use js_machine::frame::Mode;
 
-/// A form that begins, or a plain value that comes to the newest frame.
+/// A form that begins, a plain value that comes to the newest frame, or what else the machine's own steps go on with.
 #[derive(Clone, Copy)]
 pub enum Spot {
     Form(u32),
     Given(Plain),
+    Other(Mode),
 }
 
 /// Where a run stands, how many steps it may still take, and whether it is to go on in place.

@@ -25,6 +25,9 @@ use Rattle.js_machine_run.specs.Going.{GoesOnTo, IsNext}
 pub form_next : (p : Spot) (at : ℕ) (old : View) → p ≡ spot.Form at → IsNext p old old (mode.Eval at)
 form_next p at old e = subst (λ (q : Spot). IsNext q old old (mode.Eval at)) (sym e) (record { stands = λ a. refl; keeps = (refl, (refl, (refl, (refl, refl)))) })
 
+pub other_next : (p : Spot) (m : Mode) (old : View) → p ≡ spot.Other m → IsNext p old old m
+other_next p m old e = subst (λ (q : Spot). IsNext q old old m) (sym e) (record { stands = λ a. refl; keeps = (refl, (refl, (refl, (refl, refl)))) })
+
 given_next : (v : Plain) (x : Value Ref MadeSymbol) (old new : View) (m : Mode) → x ≡ value_of v → m ≡ mode.Value → new ≡ record old { values = x ∷ old.values } → IsNext (spot.Given v) old new m
 given_next v x old new m s d e =
     subst (λ k. IsNext (spot.Given v) old new k) (sym d)

@@ -10,10 +10,10 @@ ghost use Rattle.js_machine.specs.Steps.{LeadsTo};
 ghost use Rattle.js_machine.specs.Views.{applied, args_on, below, held, party_of, top};
 
 use js_code::node::ArgumentRow;
+use js_in_place::js_machine_calls::arguments::{apply_call, apply_new, argument_row};
+use js_in_place::js_machine_calls::supers::{apply_super_call, apply_super_new};
 use js_machine::frame::{Frame, Mode, Purpose};
 use js_machine::machine::Machine;
-use js_machine_calls::arguments::{apply_call, apply_new, argument_row};
-use js_machine_calls::supers::{apply_super_call, apply_super_new};
 use js_machine_natives::natives::run_native;
 use js_text::value::Value;
 use lava_base::memory::OutOfMemory;

@@ -16,6 +16,7 @@ ghost use Rattle.js_machine.specs.declared.frame.Purpose.TheVariants as purpose_
 
 use crate::arguments::next_argument;
 use js_code::node::Node;
+use js_in_place::js_machine_calls::supers::begin_super_new;
 use js_in_place::js_machine_statements::blocks::{begin_scope, refresh};
 use js_in_place::js_machine_statements::jumps::{
     begin_break, begin_continue, begin_return, begin_return_value,
@@ -27,7 +28,6 @@ use js_in_place::js_machine_statements::slots::get_slot;
 use js_in_place::js_machine_statements::tries::begin_try;
 use js_machine::frame::{Frame, Halt, Mode, Purpose};
 use js_machine::machine::Machine;
-use js_machine_calls::supers::begin_super_new;
 use js_machine_classes::classes::begin_class;
 use js_machine_operators::globals::{begin_global, begin_set_global};
 use js_text::native::Native;

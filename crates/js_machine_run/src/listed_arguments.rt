@@ -7,9 +7,9 @@ ghost use Rattle.js_machine.specs.Steps.{LeadsTo};
 ghost use Rattle.js_machine.specs.Views.{applied, held, party_of};
 
 use crate::arguments::apply;
+use js_in_place::js_machine_calls::listed_arguments::push_listed;
 use js_machine::frame::{Mode, Purpose};
 use js_machine::machine::Machine;
-use js_machine_calls::listed_arguments::push_listed;
 use js_text::value::Value;
 use lava_base::memory::OutOfMemory;
 

@@ -56,6 +56,7 @@ fn resumed(machine: &mut Machine, spot: Spot) -> Result<Mode, OutOfMemory>
     match spot {
         Spot::Form(at) => Ok(Mode::Eval(at)),
         Spot::Given(value) => machine.give(as_value(value)),
+        Spot::Other(mode) => Ok(mode),
     }
 }
 

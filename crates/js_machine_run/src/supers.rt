@@ -15,10 +15,10 @@ ghost use Rattle.js_machine.specs.declared.frame.Mode.TheVariants as mode_kind;
 
 use crate::arguments::begin_arguments;
 use js_desc::fault::FaultText;
+use js_in_place::js_machine_calls::supers::{parent_of, prototype_in};
 use js_machine::asked::Answer;
 use js_machine::frame::{Frame, KeyGoal, Mode, Purpose};
 use js_machine::machine::Machine;
-use js_machine_calls::supers::{parent_of, prototype_in};
 use js_machine_operators::conversions::{key_at_once, with_key_of};
 use js_text::value::Value;
 use lava_base::ids::Ref;

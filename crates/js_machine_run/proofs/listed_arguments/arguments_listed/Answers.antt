@@ -1,4 +1,4 @@
-use Rattle.js_machine_calls.proofs.Spread_out.{spread_applied}
+use Rattle.js_in_place.proofs.of_js_machine_calls.Spread_out.{spread_applied}
 use Rattle.js_machine_run.proofs.listed_arguments.arguments_listed.Goals as goal
 
 pub returns : goal.returns
