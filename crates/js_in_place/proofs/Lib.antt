@@ -1,4 +1,5 @@
 pub mod Calling
+pub mod Entering
 pub mod Gone
 pub mod Led
 pub mod Newest

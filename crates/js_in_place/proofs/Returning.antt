@@ -1,6 +1,7 @@
 -- Values that are returned, forms that wait for others, and bodies that end.
 use Rattle.std.proofs.Common.{◌≡◌, ℕ, ◌-◌, ◌<◌, Bool, ◌∷◌, drop, Some, None, refl, sym, ap, ◌∙◌, subst, arith, Result, Ok, Err, IfOk}
 use Rattle.js_text.specs.Naming.{naming_of}
+use Rattle.js_desc.specs.declared.reply.Reply.TheVariants as reply
 use Rattle.js_tree.specs.declared.operator.BinaryOperator.{BinaryOperator}
 use Rattle.js_code.specs.Decoded.{layer_of, term_at}
 use Rattle.js_code.specs.declared.node.Node.{Node}
@@ -13,16 +14,16 @@ use Rattle.js_direct.specs.declared.plain.Plain.TheVariants as plain
 use Rattle.js_machine.specs.Bodies.{stood_in}
 use Rattle.js_machine.specs.Opened.{without_body}
 use Rattle.js_machine.specs.Steps.{deed_of_row, deed_with, over, settles, under}
-use Rattle.js_machine.specs.Views.{View, fitting, newest, party_of}
+use Rattle.js_machine.specs.Views.{View, below, fitting, newest, party_of, top}
 use Rattle.js_machine.specs.declared.frame.Frame.{Frame}
 use Rattle.js_machine.specs.declared.frame.Frame.TheVariants as frame
 use Rattle.js_machine.specs.declared.frame.Mode.{Mode}
 use Rattle.js_machine.specs.declared.frame.Mode.TheVariants as mode
 use Rattle.js_machine.specs.js_run.Acts.{Evaluate}
-use Rattle.js_machine.specs.js_run.Completions.{Returns}
+use Rattle.js_machine.specs.js_run.Completions.{Replied, Returns}
 use Rattle.js_machine.specs.js_run.Control.{jump_at}
 use Rattle.js_machine.specs.js_run.Going.{go_on}
-use Rattle.js_machine.specs.js_run.Runs.{answered}
+use Rattle.js_machine.specs.js_run.Runs.{Gives, answered}
 use Rattle.js_in_place.specs.Holding.{Holds}
 use Rattle.js_in_place.specs.InPlace.{RunsTo, point_at, sight_of}
 use Rattle.js_in_place.specs.Places.{ComesTo, IsWent, Place, at_deed, at_form, at_mode, at_return, at_value}
@@ -168,3 +169,10 @@ pub value_returned : {E : Type 0} (r : Result Stand E) (v : Plain) (left : ℕ) 
 value_returned r v left old low new seat step e d h g =
     run_of r (spot.Given v) left old new seat step g
     (then_went left left old low new (at_value v old) (at_return v low) seat step (popped frame.Return v left old low e d) h)
+
+-- a plain value that a step of the machine's own gave comes off its stack
+pub value_taken : (v : Plain) (left : ℕ) (old new : View) → top old.values ≡ value_of v → new ≡ record old { values = below old.values } → ComesTo left old new (at_mode mode.Value old) (at_value v new) left
+value_taken v left old new e d =
+    let low = record old { values = below old.values } in
+    subst (λ w. ComesTo left old w (at_mode mode.Value old) (at_value v w) left) (sym d)
+    (same_place left old low (at_mode mode.Value old) (at_value v low) (all_kept old) (λ a. let b = fitting old a in ap (λ x. settles b low low.values (Gives (Replied (reply.Value x)) (party_of b old))) (sym e)))

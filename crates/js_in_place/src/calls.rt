@@ -13,6 +13,7 @@ ghost use Rattle.js_machine.specs.Views.{args_on};
 ghost use Rattle.js_store.specs.Objects.{object_at};
 ghost use Rattle.js_term.specs.declared.term.Term.{out-Term};
 
+use crate::enter::enter;
 use crate::here::value_from;
 use crate::seat::{How, Seat, Went, came, led, stopped};
 use js_code::node::ArgumentRow;
@@ -23,7 +24,7 @@ use js_machine::closures::Closure;
 use js_machine::frame::Frame;
 use js_machine::machine::Machine;
 use js_machine_calls::arguments::argument_row;
-use js_machine_calls::closures::{closure_in, run_listed};
+use js_machine_calls::closures::closure_in;
 use js_store::flat::FlatStore;
 use js_store::slot::Slot;
 use js_store::store::Store;
@@ -132,8 +133,7 @@ fn enter_body(
     let Ok(_) = machine.push_frame(Frame::Given) else {
         return came(How::Failed, left);
     };
-    let this = Value::Undefined;
-    let Ok(mode) = run_listed(machine, function, body, closure, this, None, count) else {
+    let Ok(mode) = enter(machine, function, body, closure, count) else {
         return came(How::Failed, left);
     };
     led(seat, mode, left)

@@ -9,8 +9,9 @@ ghost use Rattle.js_term.specs.declared.term.Term.{out-Term};
 
 use crate::back::{back_from_scope, back_from_turn, back_from_update, back_in_list};
 use crate::calls::do_call;
+use crate::functions::do_function;
 use crate::here::{body_here, choose_one, choose_two, done_here, fresh, starts_loop, truth_here};
-use crate::leaves::{do_leaf, do_return, fresh_item, leaf_item};
+use crate::leaves::{do_leaf, do_return, fresh_item};
 use crate::resume::after_row;
 use crate::returns::leave;
 use crate::scopes::enter_copy;
@@ -93,6 +94,7 @@ fn do_row(machine: &mut Machine, seat: &mut Seat, at: u32, left: u64, depth: u32
         Node::Call { callee, arguments } => do_call(machine, seat, at, callee, arguments, left),
         Node::ReturnValue { value } => do_return(machine, seat, value, left),
         Node::Return => leave(machine, seat, Plain::Undefined, left - 1),
+        Node::Func { template } => do_function(machine, seat, template, left),
         node => do_leaf(machine, seat, node, at, left),
     }
 }
@@ -137,9 +139,57 @@ fn holds_others(node: Node) -> bool {
         | Node::Loop { .. }
         | Node::If { .. }
         | Node::IfElse { .. }
-        | Node::Call { .. } => true,
+        | Node::Call { .. }
+        | Node::Func { .. } => true,
         _ => false,
     }
+}
+
+/// A form of a list that others follow goes on over their frame.
+#[cycle(form)]
+#[inline]
+fn do_held(
+    machine: &mut Machine,
+    seat: &mut Seat,
+    at: u32,
+    start: u32,
+    count: u32,
+    left: u64,
+    depth: u32,
+) -> Went
+    ensures { IsPart (at_item at start count machine.old) (at_list start count machine.new) left machine.old
+        machine.new seat.new result }
+{
+    let Ok(_) = machine.push_frame(Frame::Seq { start, count }) else {
+        return came(How::Failed, left);
+    };
+    let step = do_form(machine, seat, at, left, depth);
+    match step.how {
+        How::Given => back_in_list(machine, start, count, step.left),
+        _ => step,
+    }
+}
+
+/// A form of a list that others follow, which may be done at once.
+#[cycle(form)]
+#[inline(always)]
+fn do_tried(
+    machine: &mut Machine,
+    seat: &mut Seat,
+    at: u32,
+    start: u32,
+    count: u32,
+    left: u64,
+    depth: u32,
+) -> Went
+    ensures { IsPart (at_item at start count machine.old) (at_list start count machine.new) left machine.old
+        machine.new seat.new result }
+{
+    let steps = done_here(machine, seat, at, left);
+    if steps == 0 {
+        return do_held(machine, seat, at, start, count, left, depth);
+    }
+    came(How::Next, left - u64::from(steps))
 }
 
 /// A form of a list that others follow.
@@ -159,17 +209,8 @@ fn do_item(
 {
     match node(machine, at) {
         Node::Fresh => fresh_item(machine, seat, at, start, count, left),
-        node if holds_others(node) => {
-            let Ok(_) = machine.push_frame(Frame::Seq { start, count }) else {
-                return came(How::Failed, left);
-            };
-            let step = do_form(machine, seat, at, left, depth);
-            match step.how {
-                How::Given => back_in_list(machine, start, count, step.left),
-                _ => step,
-            }
-        }
-        _ => leaf_item(machine, seat, at, start, count, left),
+        node if holds_others(node) => do_held(machine, seat, at, start, count, left, depth),
+        _ => do_tried(machine, seat, at, start, count, left, depth),
     }
 }
 

@@ -99,7 +99,7 @@ fn begins_with_call(machine: &Machine, node: Node) -> bool {
 #[inline(always)]
 fn may_give(machine: &Machine, node: Node) -> bool {
     match node {
-        Node::If { .. } | Node::IfElse { .. } | Node::Call { .. } => false,
+        Node::If { .. } | Node::IfElse { .. } | Node::Call { .. } | Node::Func { .. } => false,
         node => !begins_with_call(machine, node),
     }
 }
@@ -171,26 +171,6 @@ fn wait_in_list(
         return came(How::Failed, left);
     };
     stopped(seat, at, left)
-}
-
-/// A form of a list is done at once, or not begun.
-#[inline(always)]
-pub fn leaf_item(
-    machine: &mut Machine,
-    seat: &mut Seat,
-    at: u32,
-    start: u32,
-    count: u32,
-    left: u64,
-) -> Went
-    ensures { IsPart (at_item at start count machine.old) (at_list start count machine.new) left
-        machine.old machine.new seat.new result }
-{
-    let steps = done_here(machine, seat, at, left);
-    if steps == 0 {
-        return wait_in_list(machine, seat, at, start, count, left);
-    }
-    came(How::Next, left - u64::from(steps))
 }
 
 /// A copy of the innermost scope takes its place, and a list goes on.

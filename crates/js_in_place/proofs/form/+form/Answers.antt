@@ -4,9 +4,10 @@ use Rattle.js_code.specs.Decoded.{layer_of, no_turn_row, term_at}
 use Rattle.js_code.specs.declared.node.Node.TheVariants as node
 use Rattle.js_direct.specs.declared.plain.Plain.TheVariants as plain
 use Rattle.js_in_place.specs.Places.{ComesTo, IsPart, after_turn, at_copy, at_form, at_item, at_list, at_return, at_scope, at_test, at_update, at_value}
+use Rattle.js_machine.specs.Views.{View}
 use Rattle.js_in_place.specs.Turns.{at_begun, at_inside, turn_list}
 use Rattle.js_in_place.proofs.Parts.{item_begins, list_goes_on, list_last, list_stops, loop_ends, scope_begins, scope_done, turn_starts, update_begins, updates, updates_nothing}
-use Rattle.js_in_place.proofs.Placed.{given_went, gives_at, next_part, next_went, other_part, part_ends, part_failed, part_given, part_goes, part_next, row_done, stands_at, then_part, then_to, then_went, went_failed, went_given, went_next, went_stopped, whole_ends}
+use Rattle.js_in_place.proofs.Placed.{done_in_list, given_went, gives_at, next_part, next_went, other_part, part_ends, part_failed, part_given, part_goes, part_next, row_done, stands_at, then_part, then_to, then_went, went_failed, went_given, went_next, went_stopped, whole_ends}
 use Rattle.js_in_place.proofs.Turning.{inside_begins, inside_done, last_follows, list_begun, nothing_listed, renewed, rest_begins, rest_follows, return_done, turn_done, whole_begins}
 use Rattle.js_in_place.proofs.form.+form.Goals as goal
 
@@ -54,6 +55,10 @@ do_row-returns-in-Fresh t c =
     then_went c.args.left (c.args.left - 1) c.args.machine.now c.args.machine.now c.fresh.new.machine (at_form c.args.at c.args.machine.now) (at_copy c.args.machine.now) c.fresh.new.seat c.fresh.result
     (row_done c.args.at c.args.left (c.args.left - 1) node.Fresh c.args.machine.now (c.node.ensures ∙ ap (layer_of c.args.machine.now.code (term_at c.args.machine.now.code)) c.in-Fresh.is) c.requires.some refl) c.fresh.ensures
 
+pub do_row-returns-in-Func : goal.do_row-returns-in-Func
+do_row-returns-in-Func t c =
+    c.do_function.ensures c.args.at (c.node.ensures ∙ ap (layer_of c.args.machine.now.code (term_at c.args.machine.now.code)) c.in-Func.is)
+
 pub do_row-returns-in-Return : goal.do_row-returns-in-Return
 do_row-returns-in-Return t c =
     then_went c.args.left (c.args.left - 1) c.args.machine.now c.args.machine.now c.leave.new.machine (at_form c.args.at c.args.machine.now) (at_return plain.Undefined c.args.machine.now) c.leave.new.seat c.leave.result
@@ -81,8 +86,8 @@ do_items-returns t c =
     last (omega (arith, c.if-there-eq0.false)) (c.number.ensures ∙ ap (λ k. get_or c.loop-i.machine.code.numbers (c.args.start + k) 0) (sym last))))
     c.next.ensures.went
 
-pub do_item-returns-in-Given : goal.do_item-returns-in-Given
-do_item-returns-in-Given t c =
+pub do_held-returns-in-Given : goal.do_held-returns-in-Given
+do_held-returns-in-Given t c =
     let from = at_item c.args.at c.args.start c.args.count c.args.machine.now in
     let begun = item_begins c.args.at c.args.start c.args.count c.args.left c.args.machine.now c.push_frame.new.self c.in-Ok.ensures in
     let s = c.do_form-step.new.seat in
@@ -91,12 +96,23 @@ do_item-returns-in-Given t c =
     (given_went c.args.left c.push_frame.new.self c.do_form-step.new.machine (at_form c.args.at c.push_frame.new.self) s c.do_form-step.result c.in-Given.is c.do_form-step.ensures.went))
     (c.back_in_list.ensures s)
 
-pub do_item-returns-in_default-how : goal.do_item-returns-in_default-how
-do_item-returns-in_default-how t c =
+pub do_held-returns-in_default-how : goal.do_held-returns-in_default-how
+do_held-returns-in_default-how t c =
     let from = at_item c.args.at c.args.start c.args.count c.args.machine.now in
     let begun = item_begins c.args.at c.args.start c.args.count c.args.left c.args.machine.now c.push_frame.new.self c.in-Ok.ensures in
     part_ends c.args.left c.args.machine.now c.do_form-step.new.machine from (at_list c.args.start c.args.count c.do_form-step.new.machine) c.do_form-step.new.seat c.do_form-step.result c.do_form-step.ensures.ends
     (then_went c.args.left c.args.left c.args.machine.now c.push_frame.new.self c.do_form-step.new.machine from (at_form c.args.at c.push_frame.new.self) c.do_form-step.new.seat c.do_form-step.result begun c.do_form-step.ensures.went)
+
+pub do_tried-returns-then-steps-eq0 : goal.do_tried-returns-then-steps-eq0
+do_tried-returns-then-steps-eq0 t c =
+    subst (λ (w : View). IsPart (at_item c.args.at c.args.start c.args.count w) (at_list c.args.start c.args.count c.do_held.new.machine) c.args.left w c.do_held.new.machine c.do_held.new.seat c.do_held.result) (c.done_here-steps.ensures.none c.if-steps-eq0.true) c.do_held.ensures
+
+pub do_tried-returns : goal.do_tried-returns
+do_tried-returns t c =
+    let rest = c.args.left - c.from.result in
+    part_next c.args.left rest c.args.machine.now c.done_here-steps.new.machine (at_item c.args.at c.args.start c.args.count c.args.machine.now) (at_list c.args.start c.args.count c.done_here-steps.new.machine) c.done_here-steps.new.seat c.came.result
+    (done_in_list c.args.at c.args.start c.args.count c.args.left c.done_here-steps.result rest c.done_here-steps.new.seat.value c.args.machine.now c.done_here-steps.new.machine (c.done_here-steps.ensures.done (omega (arith, c.if-steps-eq0.false))) c.done_here-steps.ensures.within (omega (arith, c.from.ensures)))
+    c.came.ensures
 
 -- SCOPES
 

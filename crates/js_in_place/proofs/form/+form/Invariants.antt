@@ -6,8 +6,14 @@ use Rattle.js_in_place.proofs.form.+form.Given as goal
 abbrev pub decreases-do_form : goal.decreases-do_form
 decreases-do_form c = 16 * c.depth
 
+abbrev pub decreases-do_held : goal.decreases-do_held
+decreases-do_held c = 16 * c.depth + 1
+
+abbrev pub decreases-do_tried : goal.decreases-do_tried
+decreases-do_tried c = 16 * c.depth + 2
+
 abbrev pub decreases-do_item : goal.decreases-do_item
-decreases-do_item c = 16 * c.depth + 1
+decreases-do_item c = 16 * c.depth + 3
 
 abbrev pub decreases-do_scope : goal.decreases-do_scope
 decreases-do_scope c = 16 * c.depth + 1
@@ -22,7 +28,7 @@ abbrev pub decreases-do_other_update : goal.decreases-do_other_update
 decreases-do_other_update c = 16 * c.depth + 1
 
 abbrev pub decreases-do_items : goal.decreases-do_items
-decreases-do_items c = 16 * c.depth + 2
+decreases-do_items c = 16 * c.depth + 4
 
 abbrev pub decreases-do_whole : goal.decreases-do_whole
 decreases-do_whole c = 16 * c.depth + 2
@@ -31,22 +37,22 @@ abbrev pub decreases-do_renewal : goal.decreases-do_renewal
 decreases-do_renewal c = 16 * c.depth + 2
 
 abbrev pub decreases-do_rest : goal.decreases-do_rest
-decreases-do_rest c = 16 * c.depth + 3
+decreases-do_rest c = 16 * c.depth + 5
 
 abbrev pub decreases-do_update : goal.decreases-do_update
 decreases-do_update c = 16 * c.depth + 3
 
 abbrev pub decreases-do_listed : goal.decreases-do_listed
-decreases-do_listed c = 16 * c.depth + 4
+decreases-do_listed c = 16 * c.depth + 6
 
 abbrev pub decreases-do_body : goal.decreases-do_body
-decreases-do_body c = 16 * c.depth + 5
+decreases-do_body c = 16 * c.depth + 7
 
 abbrev pub decreases-do_turn : goal.decreases-do_turn
-decreases-do_turn c = 16 * c.depth + 6
+decreases-do_turn c = 16 * c.depth + 8
 
 abbrev pub decreases-do_loop : goal.decreases-do_loop
-decreases-do_loop c = 16 * c.depth + 7
+decreases-do_loop c = 16 * c.depth + 9
 
 abbrev pub decreases-do_row : goal.decreases-do_row
 decreases-do_row c = 16 * c.depth - 1
