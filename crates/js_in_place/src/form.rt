@@ -12,6 +12,7 @@ use crate::calls::do_call;
 use crate::functions::do_function;
 use crate::here::{body_here, choose_one, choose_two, done_here, fresh, starts_loop, truth_here};
 use crate::leaves::{do_leaf, do_return, fresh_item};
+use crate::lists::only;
 use crate::resume::after_row;
 use crate::returns::leave;
 use crate::scopes::enter_copy;
@@ -78,7 +79,7 @@ fn do_row(machine: &mut Machine, seat: &mut Seat, at: u32, left: u64, depth: u32
     ensures { IsWent (at_form at machine.old) left machine.old machine.new seat.new result }
 {
     match node(machine, at) {
-        Node::Seq { start, count } => do_items(machine, seat, start, count, left - 1, depth - 1),
+        Node::Seq { start, count } => do_list(machine, seat, start, count, left - 1, depth - 1),
         Node::Scope { slots, body } => do_scope(machine, seat, slots, body, left - 1, depth - 1),
         Node::Loop {
             turns,
@@ -97,6 +98,25 @@ fn do_row(machine: &mut Machine, seat: &mut Seat, at: u32, left: u64, depth: u32
         Node::Func { template } => do_function(machine, seat, template, left),
         node => do_leaf(machine, seat, node, at, left),
     }
+}
+
+/// Forms in their order: one alone is next.
+#[cycle(form)]
+#[inline(always)]
+fn do_list(
+    machine: &mut Machine,
+    seat: &mut Seat,
+    start: u32,
+    count: u32,
+    left: u64,
+    depth: u32,
+) -> Went
+    ensures { IsWent (at_list start count machine.old) left machine.old machine.new seat.new result }
+{
+    if count == 1 {
+        return only(machine, seat, start, left);
+    }
+    do_items(machine, seat, start, count, left, depth)
 }
 
 /// Forms in their order, but for the last one, which is next (ECMA-262, "Block").

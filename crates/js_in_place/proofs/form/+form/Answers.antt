@@ -3,7 +3,7 @@ use Rattle.std.proofs.lemmas.Int.{to_z-of_z}
 use Rattle.js_code.specs.Decoded.{layer_of, no_turn_row, term_at}
 use Rattle.js_code.specs.declared.node.Node.TheVariants as node
 use Rattle.js_direct.specs.declared.plain.Plain.TheVariants as plain
-use Rattle.js_in_place.specs.Places.{ComesTo, IsPart, after_turn, at_copy, at_form, at_item, at_list, at_return, at_scope, at_test, at_update, at_value}
+use Rattle.js_in_place.specs.Places.{ComesTo, IsPart, IsWent, after_turn, at_copy, at_form, at_item, at_list, at_return, at_scope, at_test, at_update, at_value}
 use Rattle.js_machine.specs.Views.{View}
 use Rattle.js_in_place.specs.Turns.{at_begun, at_inside, turn_list}
 use Rattle.js_in_place.proofs.Parts.{item_begins, list_goes_on, list_last, list_stops, loop_ends, scope_begins, scope_done, turn_starts, update_begins, updates, updates_nothing}
@@ -36,8 +36,8 @@ do_form-returns-clause-went t c =
 
 pub do_row-returns-in-Seq : goal.do_row-returns-in-Seq
 do_row-returns-in-Seq t c =
-    then_went c.args.left (c.args.left - 1) c.args.machine.now c.args.machine.now c.do_items.new.machine (at_form c.args.at c.args.machine.now) (at_list c.in-Seq.start c.in-Seq.count c.args.machine.now) c.do_items.new.seat c.do_items.result
-    (row_done c.args.at c.args.left (c.args.left - 1) (node.Seq c.in-Seq.start c.in-Seq.count) c.args.machine.now (c.node.ensures ∙ ap (layer_of c.args.machine.now.code (term_at c.args.machine.now.code)) c.in-Seq.is) c.requires.some refl) c.do_items.ensures
+    then_went c.args.left (c.args.left - 1) c.args.machine.now c.args.machine.now c.do_list.new.machine (at_form c.args.at c.args.machine.now) (at_list c.in-Seq.start c.in-Seq.count c.args.machine.now) c.do_list.new.seat c.do_list.result
+    (row_done c.args.at c.args.left (c.args.left - 1) (node.Seq c.in-Seq.start c.in-Seq.count) c.args.machine.now (c.node.ensures ∙ ap (layer_of c.args.machine.now.code (term_at c.args.machine.now.code)) c.in-Seq.is) c.requires.some refl) c.do_list.ensures
 
 pub do_row-returns-in-Scope : goal.do_row-returns-in-Scope
 do_row-returns-in-Scope t c =
@@ -65,6 +65,10 @@ do_row-returns-in-Return t c =
     (return_done c.args.at c.args.left (c.args.left - 1) c.args.machine.now (c.node.ensures ∙ ap (layer_of c.args.machine.now.code (term_at c.args.machine.now.code)) c.in-Return.is) c.requires.some refl) c.leave.ensures
 
 -- LISTS
+
+pub do_list-returns-then-count-eq1 : goal.do_list-returns-then-count-eq1
+do_list-returns-then-count-eq1 t c =
+    subst (λ n. IsWent (at_list c.args.start n c.args.machine.now) c.args.left c.args.machine.now c.args.machine.now c.only.new.seat c.only.result) (sym c.if-count-eq1.true) c.only.ensures
 
 pub do_items-returns-in_default-how : goal.do_items-returns-in_default-how
 do_items-returns-in_default-how t c =

@@ -27,6 +27,9 @@ decreases-do_inside c = 16 * c.depth + 1
 abbrev pub decreases-do_other_update : goal.decreases-do_other_update
 decreases-do_other_update c = 16 * c.depth + 1
 
+abbrev pub decreases-do_list : goal.decreases-do_list
+decreases-do_list c = 16 * c.depth + 5
+
 abbrev pub decreases-do_items : goal.decreases-do_items
 decreases-do_items c = 16 * c.depth + 4
 
