@@ -11,7 +11,7 @@ use crate::back::{back_from_scope, back_from_turn, back_from_update, back_in_lis
 use crate::calls::do_call;
 use crate::functions::do_function;
 use crate::here::{body_here, choose_one, choose_two, done_here, fresh, starts_loop, truth_here};
-use crate::leaves::{do_leaf, do_return, fresh_item};
+use crate::leaves::{do_leaf, do_return, fresh_item, may_be_done};
 use crate::lists::only;
 use crate::resume::after_row;
 use crate::returns::leave;
@@ -150,21 +150,6 @@ fn do_items(
     next(seat, machine.number(start + (there - 1)), left)
 }
 
-/// Whether a form holds others.
-#[inline(always)]
-fn holds_others(node: Node) -> bool {
-    match node {
-        Node::Seq { .. }
-        | Node::Scope { .. }
-        | Node::Loop { .. }
-        | Node::If { .. }
-        | Node::IfElse { .. }
-        | Node::Call { .. }
-        | Node::Func { .. } => true,
-        _ => false,
-    }
-}
-
 /// A form of a list that others follow goes on over their frame.
 #[cycle(form)]
 #[inline]
@@ -229,7 +214,9 @@ fn do_item(
 {
     match node(machine, at) {
         Node::Fresh => fresh_item(machine, seat, at, start, count, left),
-        node if holds_others(node) => do_held(machine, seat, at, start, count, left, depth),
+        node if !may_be_done(machine, node) => do_held(
+            machine, seat, at, start, count, left, depth,
+        ),
         _ => do_tried(machine, seat, at, start, count, left, depth),
     }
 }

@@ -77,6 +77,22 @@ fn wait_for(machine: &mut Machine, seat: &mut Seat, node: Node, at: u32, left: u
     next(seat, first.at, left - 1)
 }
 
+/// Whether a form may give a value at once.
+#[inline(always)]
+fn may_give(machine: &Machine, node: Node) -> bool {
+    match node {
+        Node::Undefined
+        | Node::Null
+        | Node::Bool(_)
+        | Node::Int(_)
+        | Node::Local { .. }
+        | Node::Unary { .. }
+        | Node::Get { .. } => true,
+        Node::Binary { left, .. } => !is_call(machine.code.node(left)),
+        _ => false,
+    }
+}
+
 /// Whether a form is a call, which is not done at once.
 #[inline(always)]
 fn is_call(node: Node) -> bool {
@@ -86,21 +102,15 @@ fn is_call(node: Node) -> bool {
     }
 }
 
-/// Whether a form is an operator whose left operand is a call.
+/// Whether a form may be done at once. (To try one that is not costs as much as to do it.)
 #[inline(always)]
-fn begins_with_call(machine: &Machine, node: Node) -> bool {
+pub(crate) fn may_be_done(machine: &Machine, node: Node) -> bool {
     match node {
-        Node::Binary { left, .. } => is_call(machine.code.node(left)),
-        _ => false,
-    }
-}
-
-/// Whether a form may give a value at once.
-#[inline(always)]
-fn may_give(machine: &Machine, node: Node) -> bool {
-    match node {
-        Node::If { .. } | Node::IfElse { .. } | Node::Call { .. } | Node::Func { .. } => false,
-        node => !begins_with_call(machine, node),
+        Node::SetLocal { value, .. } | Node::Init { value, .. } => {
+            may_give(machine, machine.code.node(value))
+        }
+        Node::Put { .. } => true,
+        _ => may_give(machine, node),
     }
 }
 
@@ -111,7 +121,7 @@ pub fn do_leaf(machine: &mut Machine, seat: &mut Seat, node: Node, at: u32, left
         out-Term (term at) ≡ layer_of machine.old.code term node
         → IsWent (at_form at machine.old) left machine.old machine.new seat.new result }
 {
-    if begins_with_call(machine, node) {
+    if !may_be_done(machine, node) {
         return wait_for(machine, seat, node, at, left);
     }
     let steps = done_here(machine, seat, at, left);
