@@ -3,7 +3,7 @@
 // - `places` finds places, and reads them.
 // - `answers` has what the list answers.
 //
-// An own collection has an index beside its list, and answers by `FlatStore::collect` of js_store.
+// An own collection has an index beside its list, and answers by `Store::collect` of js_store.
 //
 // Definitions are js_slots'; js_store has the places of a store as those of a table.
 #![tactic(auto)]

@@ -2,12 +2,7 @@
 
 ghost use Rattle.std.specs.Prelude.{◌≡◌, ◌++◌, ◌∷◌, ◌<◌, [], length, map, IfOk, IfSome, OnOk, OnErr, Some};
 ghost use Rattle.js_text.specs.Length.{length_key};
-ghost use Rattle.lava_base.specs.Ids.{same_ref, same_made_symbol};
-ghost use Rattle.js_text.specs.Values.{same_value};
-ghost use Rattle.js_slots.specs.TableAnswers.{table_answer};
 ghost use Rattle.js_store.specs.Frozen.{bare};
-ghost use Rattle.js_store.specs.Objects.{at_place, object_at};
-ghost use Rattle.js_store.specs.Tables.{entries_of, table_entry, with_places};
 
 use crate::object::FlatObject;
 use crate::slot::Slot;
@@ -60,27 +55,6 @@ impl FlatStore {
         object.prevent();
         self.objects.push(object)?;
         Ok(())
-    }
-
-    /// What the table of an object answers to a native that looks into it, with the operands after the table, and what becomes of the table; no other object is touched. Want of memory is answered too where the object has no table; all is then as before. It takes amortised constant time, but for `mapNext`, which takes time linear in the dead places that it passes, and for `mapClear`, which takes time linear in all.
-    pub fn collect(
-        &mut self,
-        id: ObjId,
-        which: Native,
-        args: &[Value],
-    ) -> Result<Option<Value>, OutOfMemory>
-        requires { id.0 < length self.old.objects }
-        ensures answer { let same = same_value same_ref same_made_symbol in
-            let table = map table_entry (entries_of (object_at self.old.objects id.0).slot) in
-            IfOk result (λ v. v ≡ (table_answer same which args.now table).0) }
-        ensures objects { let same = same_value same_ref same_made_symbol in
-            let table = map table_entry (entries_of (object_at self.old.objects id.0).slot) in
-            let after = with_places (table_answer same which args.now table).1 in
-            OnOk result (self.new.objects ≡ at_place self.old.objects id.0 after) }
-        ensures err { OnErr result (self.new.objects ≡ self.old.objects) }
-        ensures party { self.new.party ≡ self.old.party }
-    {
-        self.objects[id.0 as usize].collect(self.alloc, which, args)
     }
 }
 
@@ -183,5 +157,14 @@ impl Store for FlatStore {
 
     fn swap_slot(&mut self, id: ObjId, slot: Slot) -> Slot {
         self.objects[id.0 as usize].swap_slot(slot)
+    }
+
+    fn collect(
+        &mut self,
+        id: ObjId,
+        which: Native,
+        args: &[Value],
+    ) -> Result<Option<Value>, OutOfMemory> {
+        self.objects[id.0 as usize].collect(self.alloc, which, args)
     }
 }

@@ -1,17 +1,21 @@
 // What a store is: a list of objects, however it keeps them.
 
-ghost use Rattle.std.specs.Prelude.{◌≡◌, ◌+◌, ◌<◌, ◌++◌, ◌∷◌, [], List, length, is_some, IfOk, OnOk, OnErr, option_map};
-ghost use Rattle.lava_base.specs.Ids.{same_made_symbol};
+ghost use Rattle.std.specs.Prelude.{◌≡◌, ◌+◌, ◌<◌, ◌++◌, ◌∷◌, [], List, length, map, is_some, IfOk, OnOk, OnErr, option_map};
+ghost use Rattle.lava_base.specs.Ids.{same_made_symbol, same_ref};
 ghost use Rattle.lava_base.specs.declared.ids.MadeSymbol.{MadeSymbol};
 ghost use Rattle.lava_base.specs.declared.ids.Ref.{Ref};
 ghost use Rattle.lava_base.specs.declared.ids.PartyId.{PartyId};
 ghost use Rattle.js_text.specs.Length.{length_key};
+ghost use Rattle.js_text.specs.Values.{same_value};
+ghost use Rattle.js_slots.specs.TableAnswers.{table_answer};
 ghost use Rattle.js_store.specs.Objects.{Object, fresh, object_at, at_place, ordinary_get_own_property, ordinary_own_property_keys, last_index, with_prototype, with_change, with_replaced, without_property, not_extensible, with_slot};
 ghost use Rattle.js_store.specs.Order.{IsInOrder};
+ghost use Rattle.js_store.specs.Tables.{entries_of, table_entry, with_places};
 
 use crate::slot::Slot;
 use js_desc::descriptor::{Change, Descriptor};
-use js_text::value::Key;
+use js_text::native::Native;
+use js_text::value::{Key, Value};
 use lava_base::ids::{ObjId, PartyId, Ref};
 use lava_base::list::List;
 use lava_base::marks::{Class, Marks};
@@ -143,5 +147,23 @@ pub trait Store {
         requires { id.0 < length (objects self.old) }
         ensures given { result ≡ (object_at (objects self.old) id.0).slot }
         ensures objects { objects self.new ≡ at_place (objects self.old) id.0 (with_slot slot) }
+        ensures party { owner self.new ≡ owner self.old };
+
+    /// What the table of an object answers to a native that looks into it, with the operands after the table, and what becomes of the table; no other object is touched. Want of memory is answered too where the object has no table; all is then as before. `FlatStore` takes amortised constant time, but for `mapNext`, which takes time linear in the dead places that it passes, and for `mapClear`, which takes time linear in all.
+    fn collect(
+        &mut self,
+        id: ObjId,
+        which: Native,
+        args: &[Value],
+    ) -> Result<Option<Value>, OutOfMemory>
+        requires { id.0 < length (objects self.old) }
+        ensures answer { let same = same_value same_ref same_made_symbol in
+            let table = map table_entry (entries_of (object_at (objects self.old) id.0).slot) in
+            IfOk result (λ v. v ≡ (table_answer same which args.now table).0) }
+        ensures objects { let same = same_value same_ref same_made_symbol in
+            let table = map table_entry (entries_of (object_at (objects self.old) id.0).slot) in
+            let after = with_places (table_answer same which args.now table).1 in
+            OnOk result (objects self.new ≡ at_place (objects self.old) id.0 after) }
+        ensures err { OnErr result (objects self.new ≡ objects self.old) }
         ensures party { owner self.new ≡ owner self.old };
 }
