@@ -4,6 +4,7 @@ use Rattle.std.specs.Fmt.{signed_decimal}
 use Rattle.std.specs.Ordering.{int_eq}
 use Rattle.lava_base.specs.Ids.{same_made_symbol}
 use Rattle.lava_base.specs.declared.ids.MadeSymbol.{MadeSymbol}
+use Rattle.lava_base.specs.declared.ids.PartyId.{PartyId}
 use Rattle.lava_base.specs.declared.ids.Ref.{Ref}
 use Rattle.lava_base.specs.declared.ids.Ref.TheVariants as reference
 use Rattle.js_text.specs.Indices.{key_of_text}
@@ -19,7 +20,7 @@ use Rattle.js_code.specs.declared.node.Node.{Node}
 use Rattle.js_code.specs.declared.node.Node.TheVariants as node
 use Rattle.js_desc.specs.declared.descriptor.Descriptor.TheVariants.{Data}
 use Rattle.js_desc.specs.declared.reply.Reply.TheVariants as reply
-use Rattle.js_store.specs.Objects.{Object, Owned, object_at, ordinary_get_own_property}
+use Rattle.js_store.specs.Objects.{Object, object_at, ordinary_get_own_property}
 use Rattle.js_store.specs.declared.slot.Slot.{Slot}
 use Rattle.js_store.specs.declared.slot.Slot.TheVariants as slot
 use Rattle.js_state.specs.Scopes.{Scope}
@@ -44,8 +45,8 @@ pub record Sight : Type 0 where
   pub scopes : List (Scope Ref MadeSymbol)
   pub scope : ℕ
 
-abbrev pub seen : Owned → Tables → List (Scope Ref MadeSymbol) → (scope : ℕ) → Sight
-seen store code scopes scope = record { me = store.party.0; code = code; objects = store.objects; scopes = scopes; scope = scope }
+abbrev pub seen : PartyId → List (Object Ref MadeSymbol) → Tables → List (Scope Ref MadeSymbol) → (scope : ℕ) → Sight
+seen party objects code scopes scope = record { me = party.0; code = code; objects = objects; scopes = scopes; scope = scope }
 
 -- the form at a place gives a value after so many steps, where these can be paid together, and changes nothing: of each party that has these objects and scopes and stands in this one, whatever waits
 pub record GivesAtOnce (s : Sight) (at : ℕ) (v : MachineValue) (k : ℕ) : Type 0 where

@@ -20,7 +20,6 @@ use crate::puts::{Attributes, index_at};
 use js_code::code::Code;
 use js_desc::descriptor::{Change, Descriptor};
 use js_state::scopes::Scopes;
-use js_store::flat::FlatStore;
 use js_store::frozen::FrozenStore;
 use js_store::store::Store;
 use js_text::value::{Key, Value};
@@ -36,14 +35,14 @@ pub(crate) struct Indexed {
 
 /// The array index that a form gives at once.
 #[inline]
-pub(crate) fn element_at(
+pub(crate) fn element_at<S: Store>(
     code: &Code,
-    store: &FlatStore,
+    store: &S,
     scopes: &Scopes,
     scope: u32,
     at: u32,
 ) -> Option<Indexed>
-    ensures { let sight = seen store.now code.now scopes.now scope in
+    ensures { let sight = seen (S.owner store.now) (S.objects store.now) code.now scopes.now scope in
         IfSome result (λ i. NamesAtOnce sight at (key.Index i.index) i.steps) }
 {
     let Some(named) = index_at(code, store, scopes, scope, at) else {
@@ -109,9 +108,9 @@ fn stands_beside(index: u32, length: &Descriptor) -> Standing
 
 /// Where an index stands, of an object.
 #[inline]
-pub(crate) fn standing_at(store: &FlatStore, id: ObjId, index: u32) -> Standing
-    requires { id.0 < length store.now.objects }
-    ensures { Stands (object_at store.now.objects id.0) index result }
+pub(crate) fn standing_at<S: Store>(store: &S, id: ObjId, index: u32) -> Standing
+    requires { id.0 < length (S.objects store.now) }
+    ensures { Stands (object_at (S.objects store.now) id.0) index result }
 {
     match store.marks(id).class {
         Class::Array => match store.own(id, store.length_key()) {
@@ -155,8 +154,8 @@ fn inherits_none(common: &FrozenStore, prototype: Option<Ref>, key: &Key) -> boo
 
 /// The key `length` once more.
 #[inline]
-fn length_key_of(store: &FlatStore) -> Option<Key>
-    requires { 0 < length store.now.objects }
+fn length_key_of<S: Store>(store: &S) -> Option<Key>
+    requires { 0 < length (S.objects store.now) }
     ensures { IfSome result (λ k. k ≡ length_key) }
 {
     let Key::Text(text) = store.length_key() else {
@@ -184,19 +183,19 @@ fn length_behind(index: u32, kept: Attributes) -> Descriptor
 
 /// Appends an element to an array at its length, which keeps its attributes, and tells whether it did. Where memory is wanting, all is as before.
 #[inline]
-fn append_element(
-    store: &mut FlatStore,
+fn append_element<S: Store>(
+    store: &mut S,
     id: ObjId,
     index: u32,
     kept: Attributes,
     value: Plain,
 ) -> bool
-    requires { id.0 < length store.old.objects }
+    requires { id.0 < length (S.objects store.old) }
     ensures appended { let v = value_of value in
         let after = with_element index v kept.enumerable kept.configurable in
-        IsTrue result → store.new.objects ≡ at_place store.old.objects id.0 after }
-    ensures refused { IsFalse result → store.new ≡ store.old }
-    ensures party { store.new.party ≡ store.old.party }
+        IsTrue result → S.objects store.new ≡ at_place (S.objects store.old) id.0 after }
+    ensures refused { IsFalse result → S.objects store.new ≡ S.objects store.old }
+    ensures party { S.owner store.new ≡ S.owner store.old }
 {
     let Some(key) = length_key_of(store) else {
         return false;
@@ -216,22 +215,22 @@ fn append_element(
 
 /// Appends an element at the end of an array, where it may be appended, and tells whether it did.
 #[inline]
-pub(crate) fn write_end(
-    store: &mut FlatStore,
+pub(crate) fn write_end<S: Store>(
+    store: &mut S,
     common: &FrozenStore,
     id: ObjId,
     index: u32,
     kept: Attributes,
     value: Plain,
 ) -> bool
-    requires { id.0 < length store.old.objects }
-    ensures appended { let objects = store.old.objects in
+    requires { id.0 < length (S.objects store.old) }
+    ensures appended { let objects = S.objects store.old in
         let o = object_at objects id.0 in
         let v = value_of value in
         Stands o index (standing.End kept) → is_proxy o.slot ≡ Bool.false
-        → IsTrue result → IsAppended objects common.now id.0 index v store.new.objects }
-    ensures refused { IsFalse result → store.new ≡ store.old }
-    ensures party { store.new.party ≡ store.old.party }
+        → IsTrue result → IsAppended objects common.now id.0 index v (S.objects store.new) }
+    ensures refused { IsFalse result → S.objects store.new ≡ S.objects store.old }
+    ensures party { S.owner store.new ≡ S.owner store.old }
 {
     let key = Key::Index(index);
     if !store.extensible(id)

@@ -14,7 +14,7 @@ use crate::truths::comparison_at;
 use js_code::code::Code;
 use js_code::node::Node;
 use js_state::scopes::Scopes;
-use js_store::flat::FlatStore;
+use js_store::store::Store;
 use js_text::text::Text;
 use js_text::value::Value;
 use js_tree::operator::BinaryOperator;
@@ -28,16 +28,16 @@ pub struct Direct {
 }
 
 /// How a binary operator compares forms that give numbers at once, as a value.
-fn comparison_value(
+fn comparison_value<S: Store>(
     code: &Code,
-    store: &FlatStore,
+    store: &S,
     scopes: &Scopes,
     scope: u32,
     operator: BinaryOperator,
     left: u32,
     right: u32,
 ) -> Option<Direct>
-    ensures { let sight = seen store.now code.now scopes.now scope in
+    ensures { let sight = seen (S.owner store.now) (S.objects store.now) code.now scopes.now scope in
         IfSome result (IsDirectRow sight (node.Binary operator left right)) }
 {
     let truth = comparison_at(code, store, scopes, scope, operator, left, right);
@@ -52,14 +52,14 @@ fn comparison_value(
 
 /// A number that a form gives at once, as a value.
 #[inline]
-fn number_value(
+fn number_value<S: Store>(
     code: &Code,
-    store: &FlatStore,
+    store: &S,
     scopes: &Scopes,
     scope: u32,
     at: u32,
 ) -> Option<Direct>
-    ensures { IfSome result (IsDirect (seen store.now code.now scopes.now scope) at) }
+    ensures { IfSome result (IsDirect (seen (S.owner store.now) (S.objects store.now) code.now scopes.now scope) at) }
 {
     let number = number_at(code, store, scopes, scope, at, DEPTH);
     if number.steps == 0 {
@@ -85,9 +85,9 @@ fn slot_at(scopes: &Scopes, scope: u32, hops: u32, slot: u32) -> Option<Plain>
 
 /// A named property that has a plain value.
 #[inline]
-fn named_plain(store: &FlatStore, id: ObjId, name: &Text) -> Option<Plain>
+fn named_plain<S: Store>(store: &S, id: ObjId, name: &Text) -> Option<Plain>
     ensures { let key = key_of_text name.now in
-        IfSome result (λ p. HasData store.now.objects id.0 key (value_of p)) }
+        IfSome result (λ p. HasData (S.objects store.now) id.0 key (value_of p)) }
 {
     match named_data(store, id, name) {
         Some(value) => plain_of(value),
@@ -97,9 +97,9 @@ fn named_plain(store: &FlatStore, id: ObjId, name: &Text) -> Option<Plain>
 
 /// An indexed property that has a plain value.
 #[inline]
-fn indexed_plain(store: &FlatStore, id: ObjId, number: i64) -> Option<Plain>
+fn indexed_plain<S: Store>(store: &S, id: ObjId, number: i64) -> Option<Plain>
     ensures { let key = key_of_text (signed_decimal number) in
-        IfSome result (λ p. HasData store.now.objects id.0 key (value_of p)) }
+        IfSome result (λ p. HasData (S.objects store.now) id.0 key (value_of p)) }
 {
     match indexed_data(store, id, number) {
         Some(value) => plain_of(value),
@@ -110,16 +110,16 @@ fn indexed_plain(store: &FlatStore, id: ObjId, number: i64) -> Option<Plain>
 /// What the property of an object with a name gives, where it has a plain value.
 #[inline]
 #[tactic(auto, using(crate::proofs::Given::direct_named))]
-fn named_at(
+fn named_at<S: Store>(
     code: &Code,
-    store: &FlatStore,
+    store: &S,
     scopes: &Scopes,
     scope: u32,
     object: u32,
     key: u32,
     name: u32,
 ) -> Option<Direct>
-    ensures { let sight = seen store.now code.now scopes.now scope in
+    ensures { let sight = seen (S.owner store.now) (S.objects store.now) code.now scopes.now scope in
         IfSome result (IsDirectNamed sight object key name) }
 {
     let Some(id) = object_at(code, store, scopes, scope, object) else {
@@ -134,15 +134,15 @@ fn named_at(
 /// What the property of an object gives whose key gives a number at once.
 #[inline]
 #[tactic(auto, using(crate::proofs::Given::direct_indexed))]
-fn indexed_at(
+fn indexed_at<S: Store>(
     code: &Code,
-    store: &FlatStore,
+    store: &S,
     scopes: &Scopes,
     scope: u32,
     object: u32,
     key: u32,
 ) -> Option<Direct>
-    ensures { let sight = seen store.now code.now scopes.now scope in
+    ensures { let sight = seen (S.owner store.now) (S.objects store.now) code.now scopes.now scope in
         IfSome result (IsDirectRow sight (node.Get object key)) }
 {
     let Some(id) = object_at(code, store, scopes, scope, object) else {
@@ -164,15 +164,15 @@ fn indexed_at(
 
 /// What a property gives at once, if it does.
 #[inline]
-fn property_at(
+fn property_at<S: Store>(
     code: &Code,
-    store: &FlatStore,
+    store: &S,
     scopes: &Scopes,
     scope: u32,
     object: u32,
     key: u32,
 ) -> Option<Direct>
-    ensures { let sight = seen store.now code.now scopes.now scope in
+    ensures { let sight = seen (S.owner store.now) (S.objects store.now) code.now scopes.now scope in
         IfSome result (IsDirectRow sight (node.Get object key)) }
 {
     match code.node(key) {
@@ -183,8 +183,8 @@ fn property_at(
 
 /// What a form gives at once that is no number, if it does.
 #[tactic(auto, using(crate::proofs::Given::at_row))]
-fn other_at(code: &Code, store: &FlatStore, scopes: &Scopes, scope: u32, at: u32) -> Option<Direct>
-    ensures { IfSome result (IsDirect (seen store.now code.now scopes.now scope) at) }
+fn other_at<S: Store>(code: &Code, store: &S, scopes: &Scopes, scope: u32, at: u32) -> Option<Direct>
+    ensures { IfSome result (IsDirect (seen (S.owner store.now) (S.objects store.now) code.now scopes.now scope) at) }
 {
     match code.node(at) {
         Node::Undefined => Some(Direct {
@@ -214,14 +214,14 @@ fn other_at(code: &Code, store: &FlatStore, scopes: &Scopes, scope: u32, at: u32
 }
 
 /// What a form gives at once, if it does.
-pub fn value_at(
+pub fn value_at<S: Store>(
     code: &Code,
-    store: &FlatStore,
+    store: &S,
     scopes: &Scopes,
     scope: u32,
     at: u32,
 ) -> Option<Direct>
-    ensures { IfSome result (IsDirect (seen store.now code.now scopes.now scope) at) }
+    ensures { IfSome result (IsDirect (seen (S.owner store.now) (S.objects store.now) code.now scopes.now scope) at) }
 {
     match number_value(code, store, scopes, scope, at) {
         Some(direct) => Some(direct),
@@ -231,15 +231,15 @@ pub fn value_at(
 
 /// What a form gives at once that is no number, and how many steps that takes; none where it does not.
 #[inline(never)]
-fn other_into(
+fn other_into<S: Store>(
     code: &Code,
-    store: &FlatStore,
+    store: &S,
     scopes: &Scopes,
     scope: u32,
     at: u32,
     given: &mut Plain,
 ) -> u32
-    ensures { let sight = seen store.now code.now scopes.now scope in
+    ensures { let sight = seen (S.owner store.now) (S.objects store.now) code.now scopes.now scope in
         0 < result → GivesAtOnce sight at (value_of given.new) result }
 {
     match other_at(code, store, scopes, scope, at) {
@@ -253,15 +253,15 @@ fn other_into(
 
 /// What a form gives at once, and how many steps that takes; none where it does not. (A number wants no `Direct`.)
 #[inline(always)]
-pub fn value_into(
+pub fn value_into<S: Store>(
     code: &Code,
-    store: &FlatStore,
+    store: &S,
     scopes: &Scopes,
     scope: u32,
     at: u32,
     given: &mut Plain,
 ) -> u32
-    ensures { let sight = seen store.now code.now scopes.now scope in
+    ensures { let sight = seen (S.owner store.now) (S.objects store.now) code.now scopes.now scope in
         0 < result → GivesAtOnce sight at (value_of given.new) result }
 {
     let number = operand_at(code, store, scopes, scope, at, DEPTH);

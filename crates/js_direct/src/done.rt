@@ -13,24 +13,24 @@ use crate::writes::write_at;
 use js_code::code::Code;
 use js_code::node::Node;
 use js_state::scopes::Scopes;
-use js_store::flat::FlatStore;
 use js_store::frozen::FrozenStore;
+use js_store::store::Store;
 
 /// A form that gives a value at once and changes nothing, where its steps are at most so many.
 #[inline]
-fn only_value(
+fn only_value<S: Store>(
     code: &Code,
-    store: &FlatStore,
+    store: &S,
     scopes: &Scopes,
     scope: u32,
     at: u32,
     left: u64,
     given: &mut Plain,
 ) -> u32
-    ensures does { let sight = seen store.now code.now scopes.now scope in
+    ensures does { let sight = seen (S.owner store.now) (S.objects store.now) code.now scopes.now scope in
         let v = value_of given.new in
         0 < result → (common : List CommonObject)
-        → DoesAtOnce sight common at v store.now.objects scopes.now result }
+        → DoesAtOnce sight common at v (S.objects store.now) scopes.now result }
     ensures within { result ≤ left }
 {
     let steps = value_into(code, store, scopes, scope, at, given);
@@ -42,9 +42,9 @@ fn only_value(
 
 /// A property, or a new element of an array, gets what a form gives at once, where its steps are at most so many.
 #[inline]
-fn put_into(
+fn put_into<S: Store>(
     code: &Code,
-    store: &mut FlatStore,
+    store: &mut S,
     common: &FrozenStore,
     scopes: &Scopes,
     scope: u32,
@@ -54,13 +54,13 @@ fn put_into(
     left: u64,
     given: &mut Plain,
 ) -> u32
-    ensures does { let sight = seen store.old code.now scopes.now scope in
+    ensures does { let sight = seen (S.owner store.old) (S.objects store.old) code.now scopes.now scope in
         let row = node.Put object key value in
         let v = value_of given.new in
-        0 < result → IsDoneRow sight common.now row v store.new.objects scopes.now result }
+        0 < result → IsDoneRow sight common.now row v (S.objects store.new) scopes.now result }
     ensures within { result ≤ left }
-    ensures none { result ≡ 0 → store.new.objects ≡ store.old.objects }
-    ensures party { store.new.party ≡ store.old.party }
+    ensures none { result ≡ 0 → S.objects store.new ≡ S.objects store.old }
+    ensures party { S.owner store.new ≡ S.owner store.old }
 {
     match write_at(code, store, common, scopes, scope, object, key, value, left) {
         Some(direct) => {
@@ -73,9 +73,9 @@ fn put_into(
 
 /// A form is done at once, where its steps are at most so many: gives the steps, and none where nothing was done.
 #[inline(always)]
-pub fn done_at(
+pub fn done_at<S: Store>(
     code: &Code,
-    store: &mut FlatStore,
+    store: &mut S,
     common: &FrozenStore,
     scopes: &mut Scopes,
     scope: u32,
@@ -83,12 +83,12 @@ pub fn done_at(
     left: u64,
     given: &mut Plain,
 ) -> u32
-    ensures does { let sight = seen store.old code.now scopes.old scope in
+    ensures does { let sight = seen (S.owner store.old) (S.objects store.old) code.now scopes.old scope in
         let v = value_of given.new in
-        0 < result → DoesAtOnce sight common.now at v store.new.objects scopes.new result }
+        0 < result → DoesAtOnce sight common.now at v (S.objects store.new) scopes.new result }
     ensures within { result ≤ left }
-    ensures none { result ≡ 0 → (store.new.objects ≡ store.old.objects) × (scopes.new ≡ scopes.old) }
-    ensures party { store.new.party ≡ store.old.party }
+    ensures none { result ≡ 0 → (S.objects store.new ≡ S.objects store.old) × (scopes.new ≡ scopes.old) }
+    ensures party { S.owner store.new ≡ S.owner store.old }
 {
     match code.node(at) {
         Node::SetLocal {

@@ -17,7 +17,7 @@ use js_code::code::Code;
 use js_code::node::Node;
 use js_operators::numbers::number_by;
 use js_state::scopes::Scopes;
-use js_store::flat::FlatStore;
+use js_store::store::Store;
 use js_text::text::Text;
 use js_text::value::Value;
 use js_tree::operator::{BinaryOperator, UnaryOperator};
@@ -75,9 +75,9 @@ pub(crate) fn slot_number(scopes: &Scopes, scope: u32, hops: u32, slot: u32) -> 
 
 /// A named property that has a number.
 #[inline]
-fn named_number(store: &FlatStore, id: ObjId, name: &Text) -> Counted
+fn named_number<S: Store>(store: &S, id: ObjId, name: &Text) -> Counted
     ensures { let key = key_of_text name.now in
-        0 < result.steps → HasData store.now.objects id.0 key (Int result.number) × (result.steps ≡ 4) }
+        0 < result.steps → HasData (S.objects store.now) id.0 key (Int result.number) × (result.steps ≡ 4) }
 {
     match named_data(store, id, name) {
         Some(Value::Int(number)) => Counted {
@@ -90,10 +90,10 @@ fn named_number(store: &FlatStore, id: ObjId, name: &Text) -> Counted
 
 /// An indexed property that has a number, once the index is known.
 #[inline]
-fn indexed_number(store: &FlatStore, id: ObjId, index: Counted) -> Counted
+fn indexed_number<S: Store>(store: &S, id: ObjId, index: Counted) -> Counted
     ensures { let key = key_of_text (signed_decimal index.number) in
         let steps = 3 + index.steps in
-        0 < result.steps → HasData store.now.objects id.0 key (Int result.number) × (result.steps ≡ steps) }
+        0 < result.steps → HasData (S.objects store.now) id.0 key (Int result.number) × (result.steps ≡ steps) }
 {
     let steps = steps_of(2, index.steps);
     if steps == 0 {
@@ -125,15 +125,15 @@ pub(crate) fn operated(operator: BinaryOperator, left: Counted, right: Counted) 
 /// A form that gives a number at once, where it is not deeper than so much. (A literal and a slot want no call.)
 #[cycle(number)]
 #[inline(always)]
-pub fn operand_at(
+pub fn operand_at<S: Store>(
     code: &Code,
-    store: &FlatStore,
+    store: &S,
     scopes: &Scopes,
     scope: u32,
     at: u32,
     depth: u32,
 ) -> Counted
-    ensures { 0 < result.steps → GivesNumber (seen store.now code.now scopes.now scope) at result }
+    ensures { 0 < result.steps → GivesNumber (seen (S.owner store.now) (S.objects store.now) code.now scopes.now scope) at result }
 {
     match code.node(at) {
         Node::Int(number) => Counted { number, steps: 1 },
@@ -144,9 +144,9 @@ pub fn operand_at(
 
 /// An operator on two forms that give a number at once.
 #[cycle(number)]
-fn binary_number(
+fn binary_number<S: Store>(
     code: &Code,
-    store: &FlatStore,
+    store: &S,
     scopes: &Scopes,
     scope: u32,
     operator: BinaryOperator,
@@ -154,7 +154,7 @@ fn binary_number(
     right: u32,
     depth: u32,
 ) -> Counted
-    ensures { let sight = seen store.now code.now scopes.now scope in
+    ensures { let sight = seen (S.owner store.now) (S.objects store.now) code.now scopes.now scope in
         0 < result.steps → IsNumberRow sight (node.Binary operator left right) result }
 {
     let left = operand_at(code, store, scopes, scope, left, depth);
@@ -170,15 +170,15 @@ fn binary_number(
 
 /// `+` of a form that gives a number at once.
 #[cycle(number)]
-fn plus_number(
+fn plus_number<S: Store>(
     code: &Code,
-    store: &FlatStore,
+    store: &S,
     scopes: &Scopes,
     scope: u32,
     operand: u32,
     depth: u32,
 ) -> Counted
-    ensures { let sight = seen store.now code.now scopes.now scope in
+    ensures { let sight = seen (S.owner store.now) (S.objects store.now) code.now scopes.now scope in
         0 < result.steps → IsNumberRow sight (node.Unary Plus operand) result }
 {
     let number = operand_at(code, store, scopes, scope, operand, depth);
@@ -193,16 +193,16 @@ fn plus_number(
 
 /// A property that has a number.
 #[cycle(number)]
-fn property_number(
+fn property_number<S: Store>(
     code: &Code,
-    store: &FlatStore,
+    store: &S,
     scopes: &Scopes,
     scope: u32,
     object: u32,
     key: u32,
     depth: u32,
 ) -> Counted
-    ensures { let sight = seen store.now code.now scopes.now scope in
+    ensures { let sight = seen (S.owner store.now) (S.objects store.now) code.now scopes.now scope in
         0 < result.steps → IsNumberRow sight (node.Get object key) result }
 {
     let Some(id) = object_at(code, store, scopes, scope, object) else {
@@ -220,15 +220,15 @@ fn property_number(
 
 /// A form that gives a number at once, where it is not deeper than so much.
 #[cycle(number)]
-pub fn number_at(
+pub fn number_at<S: Store>(
     code: &Code,
-    store: &FlatStore,
+    store: &S,
     scopes: &Scopes,
     scope: u32,
     at: u32,
     depth: u32,
 ) -> Counted
-    ensures { 0 < result.steps → GivesNumber (seen store.now code.now scopes.now scope) at result }
+    ensures { 0 < result.steps → GivesNumber (seen (S.owner store.now) (S.objects store.now) code.now scopes.now scope) at result }
 {
     if depth == 0 {
         return none();

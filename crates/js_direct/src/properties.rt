@@ -10,7 +10,6 @@ use js_code::node::Node;
 use js_desc::descriptor::Descriptor;
 use js_operation::array_index_keys::array_index_key;
 use js_state::scopes::Scopes;
-use js_store::flat::FlatStore;
 use js_store::slot::Slot;
 use js_store::store::Store;
 use js_text::index::key_of_text;
@@ -31,8 +30,8 @@ pub(crate) fn is_proxy(slot: &Slot) -> bool
 
 /// The value of an own data property of an object of the party, which is no proxy.
 #[inline]
-fn data_at<'a>(store: &'a FlatStore, id: ObjId, key: &Key) -> Option<&'a Value>
-    ensures { IfSome result (λ v. HasData store.now.objects id.0 key.now v.now) }
+fn data_at<'a, S: Store>(store: &'a S, id: ObjId, key: &Key) -> Option<&'a Value>
+    ensures { IfSome result (λ v. HasData (S.objects store.now) id.0 key.now v.now) }
 {
     if id.0 >= store.count() || is_proxy(store.slot(id)) {
         return None;
@@ -56,9 +55,9 @@ pub(crate) fn text_key(text: &Text) -> Option<Key>
 
 /// The value of the own data property with a name.
 #[inline]
-pub fn named_data<'a>(store: &'a FlatStore, id: ObjId, name: &Text) -> Option<&'a Value>
+pub fn named_data<'a, S: Store>(store: &'a S, id: ObjId, name: &Text) -> Option<&'a Value>
     ensures { let key = key_of_text name.now in
-        IfSome result (λ v. HasData store.now.objects id.0 key v.now) }
+        IfSome result (λ v. HasData (S.objects store.now) id.0 key v.now) }
 {
     let Some(key) = text_key(name) else {
         return None;
@@ -68,9 +67,9 @@ pub fn named_data<'a>(store: &'a FlatStore, id: ObjId, name: &Text) -> Option<&'
 
 /// The value of the own data property with an index.
 #[inline]
-pub fn indexed_data<'a>(store: &'a FlatStore, id: ObjId, number: i64) -> Option<&'a Value>
+pub fn indexed_data<'a, S: Store>(store: &'a S, id: ObjId, number: i64) -> Option<&'a Value>
     ensures { let key = key_of_text (signed_decimal number) in
-        IfSome result (λ v. HasData store.now.objects id.0 key v.now) }
+        IfSome result (λ v. HasData (S.objects store.now) id.0 key v.now) }
 {
     let Some(key) = array_index_key(number) else {
         return None;
@@ -80,14 +79,14 @@ pub fn indexed_data<'a>(store: &'a FlatStore, id: ObjId, number: i64) -> Option<
 
 /// An object of the party that a form gives at once.
 #[inline]
-pub fn object_at(
+pub fn object_at<S: Store>(
     code: &Code,
-    store: &FlatStore,
+    store: &S,
     scopes: &Scopes,
     scope: u32,
     at: u32,
 ) -> Option<ObjId>
-    ensures { let sight = seen store.now code.now scopes.now scope in
+    ensures { let sight = seen (S.owner store.now) (S.objects store.now) code.now scopes.now scope in
         IfSome result (λ id. GivesAtOnce sight at (own_object sight.me id.0) 1) }
 {
     let Node::Local { hops, slot } = code.node(at) else {

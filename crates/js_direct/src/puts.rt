@@ -15,7 +15,6 @@ use js_code::node::Node;
 use js_desc::descriptor::Descriptor;
 use js_operation::array_index_keys::array_index_key;
 use js_state::scopes::Scopes;
-use js_store::flat::FlatStore;
 use js_store::store::Store;
 use js_text::length::is_length;
 use js_text::value::{Key, Value};
@@ -38,14 +37,14 @@ pub(crate) struct Attributes {
 
 /// The key of a form that gives an array index at once.
 #[inline]
-pub(crate) fn index_at(
+pub(crate) fn index_at<S: Store>(
     code: &Code,
-    store: &FlatStore,
+    store: &S,
     scopes: &Scopes,
     scope: u32,
     at: u32,
 ) -> Option<Named>
-    ensures { let sight = seen store.now code.now scopes.now scope in
+    ensures { let sight = seen (S.owner store.now) (S.objects store.now) code.now scopes.now scope in
         IfSome result (λ n. NamesAtOnce sight at n.key n.steps) }
 {
     let index = operand_at(code, store, scopes, scope, at, DEPTH);
@@ -63,8 +62,8 @@ pub(crate) fn index_at(
 
 /// The key that a form gives at once: a name, or an array index.
 #[inline]
-fn key_at(code: &Code, store: &FlatStore, scopes: &Scopes, scope: u32, at: u32) -> Option<Named>
-    ensures { let sight = seen store.now code.now scopes.now scope in
+fn key_at<S: Store>(code: &Code, store: &S, scopes: &Scopes, scope: u32, at: u32) -> Option<Named>
+    ensures { let sight = seen (S.owner store.now) (S.objects store.now) code.now scopes.now scope in
         IfSome result (λ n. NamesAtOnce sight at n.key n.steps) }
 {
     let Node::Text(name) = code.node(at) else {
@@ -107,9 +106,9 @@ fn is_below_length(index: u32, length: &Descriptor) -> bool
 
 /// Whether a key of an array is neither its length nor an index at or past it.
 #[inline]
-fn is_inside(store: &FlatStore, id: ObjId, key: &Key) -> bool
-    requires { id.0 < length store.now.objects }
-    ensures { result ≡ is_inside (object_at store.now.objects id.0) key.now }
+fn is_inside<S: Store>(store: &S, id: ObjId, key: &Key) -> bool
+    requires { id.0 < length (S.objects store.now) }
+    ensures { result ≡ is_inside (object_at (S.objects store.now) id.0) key.now }
 {
     match key {
         Key::Index(index) => match store.own(id, store.length_key()) {
@@ -123,9 +122,9 @@ fn is_inside(store: &FlatStore, id: ObjId, key: &Key) -> bool
 
 /// Whether an object defines a property that it has as any object does (ECMA-262, "Array Exotic Objects", [[DefineOwnProperty]]).
 #[inline]
-fn defines_plainly(store: &FlatStore, id: ObjId, key: &Key) -> bool
-    requires { id.0 < length store.now.objects }
-    ensures { result ≡ defines_plainly (object_at store.now.objects id.0) key.now }
+fn defines_plainly<S: Store>(store: &S, id: ObjId, key: &Key) -> bool
+    requires { id.0 < length (S.objects store.now) }
+    ensures { result ≡ defines_plainly (object_at (S.objects store.now) id.0) key.now }
 {
     match store.marks(id).class {
         Class::Array => is_inside(store, id, key),
@@ -135,9 +134,9 @@ fn defines_plainly(store: &FlatStore, id: ObjId, key: &Key) -> bool
 
 /// A property that is written keeps its place: those at array indices stand in order.
 #[inline]
-pub(crate) fn keep_place(store: &FlatStore, id: ObjId, key: &Key)
-    requires { id.0 < length store.now.objects }
-    ensures { KeepsPlace key.now (object_at store.now.objects id.0) }
+pub(crate) fn keep_place<S: Store>(store: &S, id: ObjId, key: &Key)
+    requires { id.0 < length (S.objects store.now) }
+    ensures { KeepsPlace key.now (object_at (S.objects store.now) id.0) }
 {
     if let Key::Index(_) = key {
         store.last_index(id);
@@ -165,8 +164,8 @@ pub(crate) fn attributes_of(property: &Descriptor) -> Option<Attributes>
 
 /// The attributes of an own data property that may be written, of an object that is no proxy.
 #[inline]
-fn writable_at(store: &FlatStore, id: ObjId, key: &Key) -> Option<Attributes>
-    ensures { let objects = store.now.objects in
+fn writable_at<S: Store>(store: &S, id: ObjId, key: &Key) -> Option<Attributes>
+    ensures { let objects = S.objects store.now in
         IfSome result (λ a. HasWritable objects id.0 key.now a.enumerable a.configurable) }
 {
     if id.0 >= store.count() || is_proxy(store.slot(id)) || !defines_plainly(store, id, key) {
@@ -181,11 +180,11 @@ fn writable_at(store: &FlatStore, id: ObjId, key: &Key) -> Option<Attributes>
 
 /// Writes the value of an own data property, where it may be written, and tells whether it did.
 #[inline]
-fn write_data(store: &mut FlatStore, id: ObjId, key: Key, value: Plain) -> bool
-    ensures written { let after = store.new.objects in
-        IsTrue result → IsWritten store.old.objects id.0 key (value_of value) after }
-    ensures refused { IsFalse result → store.new ≡ store.old }
-    ensures party { store.new.party ≡ store.old.party }
+fn write_data<S: Store>(store: &mut S, id: ObjId, key: Key, value: Plain) -> bool
+    ensures written { let after = S.objects store.new in
+        IsTrue result → IsWritten (S.objects store.old) id.0 key (value_of value) after }
+    ensures refused { IsFalse result → S.objects store.new ≡ S.objects store.old }
+    ensures party { S.owner store.new ≡ S.owner store.old }
 {
     let Some(kept) = writable_at(store, id, &key) else {
         return false;
@@ -201,9 +200,9 @@ fn write_data(store: &mut FlatStore, id: ObjId, key: Key, value: Plain) -> bool
 }
 
 /// Writes the own data property that a form writes at once, if it does, and not in more steps than are left: a property of an object of the party in a slot, at a name or an array index, with a plain value. Where it gives none, nothing is written.
-pub fn put_at(
+pub fn put_at<S: Store>(
     code: &Code,
-    store: &mut FlatStore,
+    store: &mut S,
     scopes: &Scopes,
     scope: u32,
     object: u32,
@@ -211,12 +210,12 @@ pub fn put_at(
     value: u32,
     left: u64,
 ) -> Option<Direct>
-    ensures put { let sight = seen store.old code.now scopes.now scope in
-        IfSome result (IsPutRow sight (node.Put object key value) store.new.objects) }
+    ensures put { let sight = seen (S.owner store.old) (S.objects store.old) code.now scopes.now scope in
+        IfSome result (IsPutRow sight (node.Put object key value) (S.objects store.new)) }
     ensures left { IfSome result (λ d. d.steps ≤ left) }
     ensures some { IfSome result (λ d. 0 < d.steps) }
-    ensures none { IfNone result (store.new ≡ store.old) }
-    ensures party { store.new.party ≡ store.old.party }
+    ensures none { IfNone result (S.objects store.new ≡ S.objects store.old) }
+    ensures party { S.owner store.new ≡ S.owner store.old }
 {
     let Some(id) = object_at(code, store, scopes, scope, object) else {
         return None;

@@ -11,7 +11,7 @@ use crate::direct::value_into;
 use crate::plain::{Plain, as_value};
 use js_code::code::Code;
 use js_state::scopes::Scopes;
-use js_store::flat::FlatStore;
+use js_store::store::Store;
 
 /// Whether a slot so many hops outwards is initialised.
 #[inline]
@@ -22,9 +22,9 @@ pub(crate) fn has_slot(scopes: &Scopes, scope: u32, hops: u32, slot: u32) -> boo
 }
 
 /// An initialised slot gets what a form gives at once, where its steps are at most so many. Gives the steps, and none where nothing was done (ECMA-262, SetMutableBinding).
-pub fn set_at(
+pub fn set_at<S: Store>(
     code: &Code,
-    store: &FlatStore,
+    store: &S,
     scopes: &mut Scopes,
     scope: u32,
     hops: u32,
@@ -33,9 +33,9 @@ pub fn set_at(
     left: u64,
     given: &mut Plain,
 ) -> u32
-    ensures does { let sight = seen store.now code.now scopes.old scope in
+    ensures does { let sight = seen (S.owner store.now) (S.objects store.now) code.now scopes.old scope in
         let row = node.SetLocal hops slot false value in
-        0 < result → (common : List CommonObject) → IsDoneRow sight common row (value_of given.new) store.now.objects scopes.new result }
+        0 < result → (common : List CommonObject) → IsDoneRow sight common row (value_of given.new) (S.objects store.now) scopes.new result }
     ensures within { result ≤ left }
     ensures none { result ≡ 0 → scopes.new ≡ scopes.old }
 {
@@ -52,9 +52,9 @@ pub fn set_at(
 }
 
 /// A slot gets its first value, which a form gives at once, where its steps are at most so many. Gives the steps, and none where nothing was done (ECMA-262, InitializeBinding).
-pub fn init_at(
+pub fn init_at<S: Store>(
     code: &Code,
-    store: &FlatStore,
+    store: &S,
     scopes: &mut Scopes,
     scope: u32,
     hops: u32,
@@ -63,9 +63,9 @@ pub fn init_at(
     left: u64,
     given: &mut Plain,
 ) -> u32
-    ensures does { let sight = seen store.now code.now scopes.old scope in
+    ensures does { let sight = seen (S.owner store.now) (S.objects store.now) code.now scopes.old scope in
         let row = node.Init hops slot value in
-        0 < result → (common : List CommonObject) → IsDoneRow sight common row (value_of given.new) store.now.objects scopes.new result }
+        0 < result → (common : List CommonObject) → IsDoneRow sight common row (value_of given.new) (S.objects store.now) scopes.new result }
     ensures within { result ≤ left }
     ensures none { result ≡ 0 → scopes.new ≡ scopes.old }
 {

@@ -11,7 +11,7 @@ use crate::plain::Plain;
 use js_code::code::Code;
 use js_code::node::Node;
 use js_state::scopes::Scopes;
-use js_store::flat::FlatStore;
+use js_store::store::Store;
 use js_tree::operator::BinaryOperator;
 
 /// A truth value, and how many steps it takes. Where it takes none, there is no truth value.
@@ -50,16 +50,16 @@ fn compared(operator: BinaryOperator, left: i64, right: i64) -> Option<bool>
 
 /// How a binary operator compares two forms that give numbers at once.
 #[inline]
-pub fn comparison_at(
+pub fn comparison_at<S: Store>(
     code: &Code,
-    store: &FlatStore,
+    store: &S,
     scopes: &Scopes,
     scope: u32,
     operator: BinaryOperator,
     left: u32,
     right: u32,
 ) -> Truth
-    ensures { let sight = seen store.now code.now scopes.now scope in
+    ensures { let sight = seen (S.owner store.now) (S.objects store.now) code.now scopes.now scope in
         0 < result.steps → IsTruthRow sight (node.Binary operator left right) result }
 {
     let left = operand_at(code, store, scopes, scope, left, DEPTH);
@@ -94,8 +94,8 @@ pub fn is_true(value: Plain) -> bool
 
 /// Whether what a form gives at once counts as true.
 #[inline(never)]
-fn any_truth(code: &Code, store: &FlatStore, scopes: &Scopes, scope: u32, at: u32) -> Truth
-    ensures { 0 < result.steps → GivesTruth (seen store.now code.now scopes.now scope) at result }
+fn any_truth<S: Store>(code: &Code, store: &S, scopes: &Scopes, scope: u32, at: u32) -> Truth
+    ensures { 0 < result.steps → GivesTruth (seen (S.owner store.now) (S.objects store.now) code.now scopes.now scope) at result }
 {
     let mut given = Plain::Undefined;
     let steps = value_into(code, store, scopes, scope, at, &mut given);
@@ -107,8 +107,8 @@ fn any_truth(code: &Code, store: &FlatStore, scopes: &Scopes, scope: u32, at: u3
 
 /// Whether what a form gives at once counts as true. (Two numbers are compared without a value.)
 #[inline]
-pub fn truth_at(code: &Code, store: &FlatStore, scopes: &Scopes, scope: u32, at: u32) -> Truth
-    ensures { 0 < result.steps → GivesTruth (seen store.now code.now scopes.now scope) at result }
+pub fn truth_at<S: Store>(code: &Code, store: &S, scopes: &Scopes, scope: u32, at: u32) -> Truth
+    ensures { 0 < result.steps → GivesTruth (seen (S.owner store.now) (S.objects store.now) code.now scopes.now scope) at result }
 {
     if let Node::Binary {
         operator,

@@ -20,7 +20,6 @@ use js_code::code::Code;
 use js_code::node::Node;
 use js_desc::descriptor::Descriptor;
 use js_state::scopes::Scopes;
-use js_store::flat::FlatStore;
 use js_store::frozen::FrozenStore;
 use js_store::store::Store;
 use js_text::value::Key;
@@ -28,15 +27,15 @@ use lava_base::ids::ObjId;
 
 /// Writes the value of a property at an index, where it may be written, and tells whether it did.
 #[inline]
-fn write_below(store: &mut FlatStore, id: ObjId, index: u32, value: Plain) -> bool
-    requires { id.0 < length store.old.objects }
-    ensures written { let objects = store.old.objects in
+fn write_below<S: Store>(store: &mut S, id: ObjId, index: u32, value: Plain) -> bool
+    requires { id.0 < length (S.objects store.old) }
+    ensures written { let objects = S.objects store.old in
         let o = object_at objects id.0 in
         let v = value_of value in
         Stands o index standing.Below → is_proxy o.slot ≡ Bool.false
-        → IsTrue result → IsWritten objects id.0 (Index index) v store.new.objects }
-    ensures refused { IsFalse result → store.new ≡ store.old }
-    ensures party { store.new.party ≡ store.old.party }
+        → IsTrue result → IsWritten objects id.0 (Index index) v (S.objects store.new) }
+    ensures refused { IsFalse result → S.objects store.new ≡ S.objects store.old }
+    ensures party { S.owner store.new ≡ S.owner store.old }
 {
     let key = Key::Index(index);
     keep_place(store, id, &key);
@@ -57,9 +56,9 @@ fn write_below(store: &mut FlatStore, id: ObjId, index: u32, value: Plain) -> bo
 }
 
 /// Writes the property at an index that a form writes at once, or appends the element that it appends.
-fn write_element(
+fn write_element<S: Store>(
     code: &Code,
-    store: &mut FlatStore,
+    store: &mut S,
     common: &FrozenStore,
     scopes: &Scopes,
     scope: u32,
@@ -68,13 +67,13 @@ fn write_element(
     value: u32,
     left: u64,
 ) -> Option<Direct>
-    ensures write { let sight = seen store.old code.now scopes.now scope in
+    ensures write { let sight = seen (S.owner store.old) (S.objects store.old) code.now scopes.now scope in
         let row = node.Put object key value in
-        IfSome result (IsAppendRow sight common.now row store.new.objects) }
+        IfSome result (IsAppendRow sight common.now row (S.objects store.new)) }
     ensures left { IfSome result (λ d. d.steps ≤ left) }
     ensures some { IfSome result (λ d. 0 < d.steps) }
-    ensures none { IfNone result (store.new ≡ store.old) }
-    ensures party { store.new.party ≡ store.old.party }
+    ensures none { IfNone result (S.objects store.new ≡ S.objects store.old) }
+    ensures party { S.owner store.new ≡ S.owner store.old }
 {
     let Some(id) = object_at(code, store, scopes, scope, object) else {
         return None;
@@ -119,9 +118,9 @@ fn write_element(
 
 /// Writes the own data property that a form writes at once, or appends the element that it appends, as `put_at` does a property. Where it gives none, nothing is written.
 #[tactic(auto, using(crate::proofs::Append::put_appends))]
-pub fn write_at(
+pub fn write_at<S: Store>(
     code: &Code,
-    store: &mut FlatStore,
+    store: &mut S,
     common: &FrozenStore,
     scopes: &Scopes,
     scope: u32,
@@ -130,13 +129,13 @@ pub fn write_at(
     value: u32,
     left: u64,
 ) -> Option<Direct>
-    ensures write { let sight = seen store.old code.now scopes.now scope in
+    ensures write { let sight = seen (S.owner store.old) (S.objects store.old) code.now scopes.now scope in
         let row = node.Put object key value in
-        IfSome result (IsAppendRow sight common.now row store.new.objects) }
+        IfSome result (IsAppendRow sight common.now row (S.objects store.new)) }
     ensures left { IfSome result (λ d. d.steps ≤ left) }
     ensures some { IfSome result (λ d. 0 < d.steps) }
-    ensures none { IfNone result (store.new ≡ store.old) }
-    ensures party { store.new.party ≡ store.old.party }
+    ensures none { IfNone result (S.objects store.new ≡ S.objects store.old) }
+    ensures party { S.owner store.new ≡ S.owner store.old }
 {
     match code.node(key) {
         Node::Text(_) => put_at(code, store, scopes, scope, object, key, value, left),

@@ -9,10 +9,11 @@ use crate::seat::{How, Went, came};
 use js_machine::frame::Frame;
 use js_machine::machine::Machine;
 use js_machine_statements::slots::stand_in;
+use js_store::store::Store;
 
 /// A form of a list is over, and those behind it follow.
 #[inline(always)]
-pub fn back_in_list(machine: &mut Machine, start: u32, count: u32, left: u64) -> Went
+pub fn back_in_list<S: Store>(machine: &mut Machine<S>, start: u32, count: u32, left: u64) -> Went
     ensures { (s : Seat) → IsPart (at_value s.value machine.old) (at_list start count machine.new)
         left machine.old machine.new s result }
 {
@@ -27,7 +28,7 @@ pub fn back_in_list(machine: &mut Machine, start: u32, count: u32, left: u64) ->
 
 /// A form in a scope is over.
 #[inline(always)]
-pub fn back_from_scope(machine: &mut Machine, left: u64) -> Went
+pub fn back_from_scope<S: Store>(machine: &mut Machine<S>, left: u64) -> Went
     ensures { (s : Seat) → IsWent (at_value s.value machine.old) left machine.old machine.new s
         result }
 {
@@ -43,7 +44,7 @@ pub fn back_from_scope(machine: &mut Machine, left: u64) -> Went
 
 /// A turn of a loop is over.
 #[inline(always)]
-pub fn back_from_turn(machine: &mut Machine, turns: u32, left: u64) -> Went
+pub fn back_from_turn<S: Store>(machine: &mut Machine<S>, turns: u32, left: u64) -> Went
     ensures { (s : Seat) → IsPart (at_value s.value machine.old) (after_turn turns machine.new) left
         machine.old machine.new s result }
 {
@@ -58,7 +59,7 @@ pub fn back_from_turn(machine: &mut Machine, turns: u32, left: u64) -> Went
 
 /// What a loop does after a turn is over.
 #[inline(always)]
-pub fn back_from_update(machine: &mut Machine, turns: u32, left: u64) -> Went
+pub fn back_from_update<S: Store>(machine: &mut Machine<S>, turns: u32, left: u64) -> Went
     ensures { (s : Seat) → IsPart (at_value s.value machine.old) (at_test turns machine.new) left
         machine.old machine.new s result }
 {

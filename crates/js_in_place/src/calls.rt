@@ -25,7 +25,6 @@ use js_machine::frame::Frame;
 use js_machine::machine::Machine;
 use js_machine_calls::arguments::argument_row;
 use js_machine_calls::closures::closure_in;
-use js_store::flat::FlatStore;
 use js_store::slot::Slot;
 use js_store::store::Store;
 use js_text::value::Value;
@@ -51,8 +50,8 @@ enum Gathered {
 
 /// The body of an object that can be called, if it is a function of a source.
 #[inline]
-fn body_at(store: &FlatStore, id: ObjId) -> Option<BodyId>
-    ensures { IfSome result (λ body. HasFunction store.now.objects id.0 body) }
+fn body_at<S: Store>(store: &S, id: ObjId) -> Option<BodyId>
+    ensures { IfSome result (λ body. HasFunction (S.objects store.now) id.0 body) }
 {
     if id.0 >= store.count() || !store.marks(id).callable {
         return None;
@@ -65,16 +64,16 @@ fn body_at(store: &FlatStore, id: ObjId) -> Option<BodyId>
 
 /// What an object keeps, if it is a function of a source.
 #[inline]
-fn closure_of(store: &FlatStore, id: ObjId) -> Result<Option<Closure>, OutOfMemory>
-    requires { id.0 < length store.now.objects }
-    ensures { IfOk result (λ closure. closure ≡ closure_in (object_at store.now.objects id.0).slot) }
+fn closure_of<S: Store>(store: &S, id: ObjId) -> Result<Option<Closure>, OutOfMemory>
+    requires { id.0 < length (S.objects store.now) }
+    ensures { IfOk result (λ closure. closure ≡ closure_in (object_at (S.objects store.now) id.0).slot) }
 {
     closure_in(store.slot(id))
 }
 
 /// The function that a form gives at once, if it gives one of the party.
 #[inline]
-fn function_at(machine: &Machine, at: u32) -> Option<ObjId>
+fn function_at<S: Store>(machine: &Machine<S>, at: u32) -> Option<ObjId>
     ensures { let sight = sight_of machine.now in
         IfSome result (λ id. GivesAtOnce sight at (own_object sight.me id.0) 1) }
 {
@@ -89,7 +88,7 @@ fn function_at(machine: &Machine, at: u32) -> Option<ObjId>
 
 /// The arguments of a call come on the stack of values, where each is given at once (ECMA-262, ArgumentListEvaluation).
 #[inline(always)]
-fn list(machine: &mut Machine, start: u32, count: u32, left: u64) -> Gathered
+fn list<S: Store>(machine: &mut Machine<S>, start: u32, count: u32, left: u64) -> Gathered
     ensures { IsGathered result start count left machine.old machine.new }
 {
     let Ok(there) = machine.listed(start, count) else {
@@ -114,8 +113,8 @@ fn list(machine: &mut Machine, start: u32, count: u32, left: u64) -> Gathered
 
 /// The body of a function begins with so many arguments, which are on the stack of values.
 #[inline(always)]
-fn enter_body(
-    machine: &mut Machine,
+fn enter_body<S: Store>(
+    machine: &mut Machine<S>,
     seat: &mut Seat,
     id: ObjId,
     body: BodyId,
@@ -141,8 +140,8 @@ fn enter_body(
 
 /// The arguments of a call come on the stack of values, and the body of the function begins; else the call is not begun.
 #[inline(always)]
-fn call_with(
-    machine: &mut Machine,
+fn call_with<S: Store>(
+    machine: &mut Machine<S>,
     seat: &mut Seat,
     at: u32,
     start: u32,
@@ -171,9 +170,9 @@ fn call_with(
 
 /// The home of an object that is a function of a source and took nothing from the body that made it.
 #[inline(always)]
-fn plain_home(store: &FlatStore, id: ObjId) -> Option<Home>
-    requires { id.0 < length store.now.objects }
-    ensures { IfSome result (λ h. closure_in (object_at store.now.objects id.0).slot
+fn plain_home<S: Store>(store: &S, id: ObjId) -> Option<Home>
+    requires { id.0 < length (S.objects store.now) }
+    ensures { IfSome result (λ h. closure_in (object_at (S.objects store.now) id.0).slot
         ≡ Some (record { home = h.home; lexical = None })) }
 {
     match store.slot(id) {
@@ -188,8 +187,8 @@ fn plain_home(store: &FlatStore, id: ObjId) -> Option<Home>
 
 /// A call of a function that took something from the body that made it.
 #[inline(never)]
-fn call_arrow(
-    machine: &mut Machine,
+fn call_arrow<S: Store>(
+    machine: &mut Machine<S>,
     seat: &mut Seat,
     at: u32,
     start: u32,
@@ -219,8 +218,8 @@ fn call_arrow(
 
 /// A call of a function of the party begins its body, where the function and all arguments are given at once (ECMA-262, EvaluateCall).
 #[inline(never)]
-pub fn do_call(
-    machine: &mut Machine,
+pub fn do_call<S: Store>(
+    machine: &mut Machine<S>,
     seat: &mut Seat,
     at: u32,
     callee: u32,

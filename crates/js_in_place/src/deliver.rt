@@ -27,13 +27,14 @@ use js_machine::frame::Frame;
 use js_machine::machine::Machine;
 use js_machine_statements::slots::stand_in;
 use js_operators::numbers::number_by;
+use js_store::store::Store;
 use js_text::value::Value;
 use js_tree::operator::BinaryOperator;
 use lava_base::memory::OutOfMemory;
 
 /// A form in a scope is over.
 #[inline]
-fn leave_scope(machine: &mut Machine, scope: u32, value: Plain, left: u64) -> Stand
+fn leave_scope<S: Store>(machine: &mut Machine<S>, scope: u32, value: Plain, left: u64) -> Stand
     ensures { LedTo (deed_with (frame_kind.ScopeExit scope) (value_of value) machine.old) left
         machine.old machine.new result }
 {
@@ -43,7 +44,7 @@ fn leave_scope(machine: &mut Machine, scope: u32, value: Plain, left: u64) -> St
 
 /// The test of a turn has its value.
 #[inline]
-fn tested(machine: &mut Machine, turns: u32, value: Plain, left: u64) -> Result<Stand, OutOfMemory>
+fn tested<S: Store>(machine: &mut Machine<S>, turns: u32, value: Plain, left: u64) -> Result<Stand, OutOfMemory>
     ensures { IfOk result (LedTo (deed_with (frame_kind.Tested turns) (value_of value) machine.old)
         left machine.old machine.new) }
 {
@@ -55,7 +56,7 @@ fn tested(machine: &mut Machine, turns: u32, value: Plain, left: u64) -> Result<
 
 /// Whether a slot is initialised and no constant.
 #[inline(always)]
-fn can_set(machine: &Machine, hops: u32, slot: u32, constant: bool) -> bool
+fn can_set<S: Store>(machine: &Machine<S>, hops: u32, slot: u32, constant: bool) -> bool
     ensures changes { result ≡ true → constant ≡ false }
     ensures there { let scope = outwards machine.now.scopes hops (scope_of machine.now.bodies) in
         result ≡ true → is_some (slot_of machine.now.scopes scope slot) ≡ true }
@@ -68,7 +69,7 @@ fn can_set(machine: &Machine, hops: u32, slot: u32, constant: bool) -> bool
 
 /// An initialised slot gets its value.
 #[inline(always)]
-fn set_slot(machine: &mut Machine, hops: u32, slot: u32, value: Plain, left: u64) -> Stand
+fn set_slot<S: Store>(machine: &mut Machine<S>, hops: u32, slot: u32, value: Plain, left: u64) -> Stand
     ensures { let scope = outwards machine.old.scopes hops (scope_of machine.old.bodies) in
         let frame = frame_kind.SetLocal hops slot false in
         is_some (slot_of machine.old.scopes scope slot) ≡ true
@@ -80,7 +81,7 @@ fn set_slot(machine: &mut Machine, hops: u32, slot: u32, value: Plain, left: u64
 
 /// A slot gets its first value.
 #[inline(always)]
-fn init_slot(machine: &mut Machine, hops: u32, slot: u32, value: Plain, left: u64) -> Stand
+fn init_slot<S: Store>(machine: &mut Machine<S>, hops: u32, slot: u32, value: Plain, left: u64) -> Stand
     ensures { LedTo (deed_with (frame_kind.Init hops slot) (value_of value) machine.old) left
         machine.old machine.new result }
 {
@@ -90,8 +91,8 @@ fn init_slot(machine: &mut Machine, hops: u32, slot: u32, value: Plain, left: u6
 
 /// One of two forms follows, by the truth of a value; where there is no second one, undefined is given.
 #[inline]
-fn choose(
-    machine: &Machine,
+fn choose<S: Store>(
+    machine: &Machine<S>,
     value: Plain,
     consequent: u32,
     alternate: Option<u32>,
@@ -112,8 +113,8 @@ fn choose(
 
 /// The right operand of an operator is next, and the left one waits.
 #[inline(always)]
-fn operand_waits(
-    machine: &mut Machine,
+fn operand_waits<S: Store>(
+    machine: &mut Machine<S>,
     operator: BinaryOperator,
     right: u32,
     value: Plain,
@@ -129,7 +130,7 @@ fn operand_waits(
 
 /// The newest value of the machine, if it is a number.
 #[inline(always)]
-fn number_below(machine: &Machine) -> Option<i64>
+fn number_below<S: Store>(machine: &Machine<S>) -> Option<i64>
     ensures { IfSome result (λ n. top machine.now.values ≡ value_kind.Int n) }
 {
     let count = machine.values.len();
@@ -144,7 +145,7 @@ fn number_below(machine: &Machine) -> Option<i64>
 
 /// An operator has its operands.
 #[inline(always)]
-fn operate(machine: &mut Machine, operator: BinaryOperator, value: Plain, left: u64) -> Stand
+fn operate<S: Store>(machine: &mut Machine<S>, operator: BinaryOperator, value: Plain, left: u64) -> Stand
     ensures { newest machine.old.frames ≡ Some (frame_kind.BinaryRight operator)
         → RunsTo (spot_kind.Given value) left machine.old machine.new result }
 {
@@ -164,7 +165,7 @@ fn operate(machine: &mut Machine, operator: BinaryOperator, value: Plain, left: 
 
 /// A value is returned, and the frame that waited for it is off.
 #[inline(always)]
-fn return_value(machine: &mut Machine, value: Plain, left: u64) -> Result<Stand, OutOfMemory>
+fn return_value<S: Store>(machine: &mut Machine<S>, value: Plain, left: u64) -> Result<Stand, OutOfMemory>
     ensures { newest machine.old.frames ≡ Some frame_kind.Return
         → IfOk result (RunsTo (spot_kind.Given value) left machine.old machine.new) }
 {
@@ -176,7 +177,7 @@ fn return_value(machine: &mut Machine, value: Plain, left: u64) -> Result<Stand,
 
 /// The body of a call is over that returns nothing.
 #[inline(always)]
-fn end_body(machine: &mut Machine, value: Plain, left: u64) -> Stand
+fn end_body<S: Store>(machine: &mut Machine<S>, value: Plain, left: u64) -> Stand
     ensures { LedTo (deed_with frame_kind.Called (value_of value) machine.old) left machine.old
         machine.new result }
 {
@@ -186,8 +187,8 @@ fn end_body(machine: &mut Machine, value: Plain, left: u64) -> Stand
 
 /// A plain value comes to a frame of a body, an operator or a slot, which is the newest one.
 #[inline(always)]
-pub(crate) fn deliver_within(
-    machine: &mut Machine,
+pub(crate) fn deliver_within<S: Store>(
+    machine: &mut Machine<S>,
     frame: Frame,
     value: Plain,
     left: u64,
@@ -231,7 +232,7 @@ pub(crate) fn deliver_within(
 
 /// A plain value comes to the newest frame, or is still to come to it.
 #[inline]
-pub fn deliver(machine: &mut Machine, value: Plain, left: u64) -> Result<Stand, OutOfMemory>
+pub fn deliver<S: Store>(machine: &mut Machine<S>, value: Plain, left: u64) -> Result<Stand, OutOfMemory>
     ensures { IfOk result (RunsTo (spot_kind.Given value) left machine.old machine.new) }
 {
     let Some(frame) = newest_frame(machine) else {

@@ -21,6 +21,7 @@ use js_machine::js_run::MAX_DEPTH;
 use js_machine::machine::Machine;
 use js_machine_calls::calls::template_place;
 use js_machine_calls::closures::run_listed;
+use js_store::store::Store;
 use js_term::term::TemplateKind;
 use js_text::value::Value;
 use lava_base::ids::Ref;
@@ -44,7 +45,7 @@ fn is_plain(row: TemplateRow) -> bool
 
 /// So many arguments are taken off the stack of values, and are in the first slots of a scope.
 #[inline(always)]
-fn take_all(machine: &mut Machine, count: u32, scope: u32)
+fn take_all<S: Store>(machine: &mut Machine<S>, count: u32, scope: u32)
     requires { count ≤ length machine.old.values }
     ensures { machine.new ≡ with_arguments count count scope machine.old }
 {
@@ -58,7 +59,7 @@ fn take_all(machine: &mut Machine, count: u32, scope: u32)
 
 /// Opens a scope in which no body stands yet.
 #[inline(always)]
-fn open_bare(machine: &mut Machine, outer: u32, count: u32) -> Result<u32, OutOfMemory>
+fn open_bare<S: Store>(machine: &mut Machine<S>, outer: u32, count: u32) -> Result<u32, OutOfMemory>
     ensures number { IfOk result (λ s. s ≡ length machine.old.scopes) }
     ensures opened { let slots = replicate count None in
         OnOk result (machine.new ≡ with_open_scope outer slots machine.old) }
@@ -68,7 +69,7 @@ fn open_bare(machine: &mut Machine, outer: u32, count: u32) -> Result<u32, OutOf
 
 /// Opens the scope of a body where each parameter has an argument on the stack of values, and no other slot starts with a value.
 #[inline(always)]
-fn open_full(machine: &mut Machine, row: TemplateRow, outer: u32) -> Result<u32, OutOfMemory>
+fn open_full<S: Store>(machine: &mut Machine<S>, row: TemplateRow, outer: u32) -> Result<u32, OutOfMemory>
     requires there { row.params ≤ length machine.old.values }
     requires slots { row.params ≤ row.slots }
     requires none { row.undefined_count ≡ 0 }
@@ -83,8 +84,8 @@ fn open_full(machine: &mut Machine, row: TemplateRow, outer: u32) -> Result<u32,
 
 /// Opens the scope of a body without a rest parameter, with so many arguments from the stack of values.
 #[inline]
-fn open_any(
-    machine: &mut Machine,
+fn open_any<S: Store>(
+    machine: &mut Machine<S>,
     row: TemplateRow,
     outer: u32,
     count: u32,
@@ -100,8 +101,8 @@ fn open_any(
 
 /// Opens the scope of a body without a rest parameter, with so many arguments from the stack of values (ECMA-262, FunctionDeclarationInstantiation).
 #[inline(always)]
-fn open_scope(
-    machine: &mut Machine,
+fn open_scope<S: Store>(
+    machine: &mut Machine<S>,
     row: TemplateRow,
     outer: u32,
     count: u32,
@@ -120,8 +121,8 @@ fn open_scope(
 /// The body of a function is open, and stands in a scope (ECMA-262, PrepareForOrdinaryCall).
 #[inline(always)]
 #[tactic(auto, using(js_machine::proofs::Reversed::reverse_push))]
-fn push_body(
-    machine: &mut Machine,
+fn push_body<S: Store>(
+    machine: &mut Machine<S>,
     scope: u32,
     kind: TemplateKind,
     function: Ref,
@@ -152,8 +153,8 @@ fn push_body(
 /// The body of a function that took nothing begins by the machine's own steps.
 #[cold]
 #[inline(never)]
-fn enter_listed(
-    machine: &mut Machine,
+fn enter_listed<S: Store>(
+    machine: &mut Machine<S>,
     function: Ref,
     body: BodyId,
     home: Option<Ref>,
@@ -181,8 +182,8 @@ fn enter_listed(
 
 /// The body of a function of the party that took nothing begins with so many arguments, which are on the stack of values (ECMA-262, "ECMAScript Function Objects", [[Call]]).
 #[inline(always)]
-pub fn enter_plain(
-    machine: &mut Machine,
+pub fn enter_plain<S: Store>(
+    machine: &mut Machine<S>,
     function: Ref,
     body: BodyId,
     home: Option<Ref>,
@@ -208,8 +209,8 @@ pub fn enter_plain(
 
 /// The body of a function of the party begins with so many arguments, which are on the stack of values.
 #[inline(always)]
-pub fn enter(
-    machine: &mut Machine,
+pub fn enter<S: Store>(
+    machine: &mut Machine<S>,
     function: Ref,
     body: BodyId,
     closure: Closure,

@@ -26,6 +26,7 @@ use js_machine::frame::Frame;
 use js_machine::machine::Machine;
 use js_machine_statements::blocks::enter;
 use js_machine_statements::slots::stand_in;
+use js_store::store::Store;
 
 /// How deep forms may hold one another.
 pub const MOST_DEEP: u32 = 32;
@@ -38,7 +39,7 @@ pub const MOST_TURNS: u32 = 1000000;
 
 /// The row of a place.
 #[inline(always)]
-fn node(machine: &Machine, at: u32) -> Node
+fn node<S: Store>(machine: &Machine<S>, at: u32) -> Node
     ensures { let low = term_at machine.now.code in
         out-Term (low at) ≡ layer_of machine.now.code low result }
 {
@@ -47,7 +48,7 @@ fn node(machine: &Machine, at: u32) -> Node
 
 /// A form, and those that take its place, go as far as they get.
 #[cycle(form)]
-pub fn do_form(machine: &mut Machine, seat: &mut Seat, at: u32, left: u64, depth: u32) -> Went
+pub fn do_form<S: Store>(machine: &mut Machine<S>, seat: &mut Seat, at: u32, left: u64, depth: u32) -> Went
     ensures ends { ¬ (result.how ≡ how_kind.Next) }
     ensures went { IsWent (at_form at machine.old) left machine.old machine.new seat.new result }
 {
@@ -73,7 +74,7 @@ pub fn do_form(machine: &mut Machine, seat: &mut Seat, at: u32, left: u64, depth
 /// A form goes as far as it gets, or is done at once.
 #[cycle(form)]
 #[inline(always)]
-fn do_row(machine: &mut Machine, seat: &mut Seat, at: u32, left: u64, depth: u32) -> Went
+fn do_row<S: Store>(machine: &mut Machine<S>, seat: &mut Seat, at: u32, left: u64, depth: u32) -> Went
     requires some { 0 < left }
     requires deep { 0 < depth }
     ensures { IsWent (at_form at machine.old) left machine.old machine.new seat.new result }
@@ -103,8 +104,8 @@ fn do_row(machine: &mut Machine, seat: &mut Seat, at: u32, left: u64, depth: u32
 /// Forms in their order: one alone is next.
 #[cycle(form)]
 #[inline(always)]
-fn do_list(
-    machine: &mut Machine,
+fn do_list<S: Store>(
+    machine: &mut Machine<S>,
     seat: &mut Seat,
     start: u32,
     count: u32,
@@ -122,8 +123,8 @@ fn do_list(
 /// Forms in their order, but for the last one, which is next (ECMA-262, "Block").
 #[cycle(form)]
 #[inline(never)]
-fn do_items(
-    machine: &mut Machine,
+fn do_items<S: Store>(
+    machine: &mut Machine<S>,
     seat: &mut Seat,
     start: u32,
     count: u32,
@@ -153,8 +154,8 @@ fn do_items(
 /// A form of a list that others follow goes on over their frame.
 #[cycle(form)]
 #[inline]
-fn do_held(
-    machine: &mut Machine,
+fn do_held<S: Store>(
+    machine: &mut Machine<S>,
     seat: &mut Seat,
     at: u32,
     start: u32,
@@ -178,8 +179,8 @@ fn do_held(
 /// A form of a list that others follow, which may be done at once.
 #[cycle(form)]
 #[inline(always)]
-fn do_tried(
-    machine: &mut Machine,
+fn do_tried<S: Store>(
+    machine: &mut Machine<S>,
     seat: &mut Seat,
     at: u32,
     start: u32,
@@ -200,8 +201,8 @@ fn do_tried(
 /// A form of a list that others follow.
 #[cycle(form)]
 #[inline(always)]
-fn do_item(
-    machine: &mut Machine,
+fn do_item<S: Store>(
+    machine: &mut Machine<S>,
     seat: &mut Seat,
     at: u32,
     start: u32,
@@ -224,8 +225,8 @@ fn do_item(
 /// A form in a new scope.
 #[cycle(form)]
 #[inline(never)]
-fn do_scope(
-    machine: &mut Machine,
+fn do_scope<S: Store>(
+    machine: &mut Machine<S>,
     seat: &mut Seat,
     slots: u32,
     body: u32,
@@ -259,7 +260,7 @@ fn do_scope(
 /// The turns of a loop that begins with its test (ECMA-262, LoopEvaluation).
 #[cycle(form)]
 #[inline(never)]
-fn do_loop(machine: &mut Machine, seat: &mut Seat, turns: u32, left: u64, depth: u32) -> Went
+fn do_loop<S: Store>(machine: &mut Machine<S>, seat: &mut Seat, turns: u32, left: u64, depth: u32) -> Went
     ensures { IsWent (at_test turns machine.old) left machine.old machine.new seat.new result }
 {
     let mut left = left;
@@ -276,7 +277,7 @@ fn do_loop(machine: &mut Machine, seat: &mut Seat, turns: u32, left: u64, depth:
 /// The test of a loop, and a turn.
 #[cycle(form)]
 #[inline(always)]
-fn do_turn(machine: &mut Machine, seat: &mut Seat, turns: u32, left: u64, depth: u32) -> Went
+fn do_turn<S: Store>(machine: &mut Machine<S>, seat: &mut Seat, turns: u32, left: u64, depth: u32) -> Went
     ensures { IsPart (at_test turns machine.old) (at_test turns machine.new) left machine.old
         machine.new seat.new result }
 {
@@ -303,8 +304,8 @@ fn do_turn(machine: &mut Machine, seat: &mut Seat, turns: u32, left: u64, depth:
 /// A turn of a loop. Forms of its body that are done at once want no frame.
 #[cycle(form)]
 #[inline(always)]
-fn do_body(
-    machine: &mut Machine,
+fn do_body<S: Store>(
+    machine: &mut Machine<S>,
     seat: &mut Seat,
     turns: u32,
     body: u32,
@@ -325,8 +326,8 @@ fn do_body(
 /// A turn whose body is a list.
 #[cycle(form)]
 #[inline(always)]
-fn do_listed(
-    machine: &mut Machine,
+fn do_listed<S: Store>(
+    machine: &mut Machine<S>,
     seat: &mut Seat,
     turns: u32,
     start: u32,
@@ -359,8 +360,8 @@ fn do_listed(
 /// The rest of the body of a turn.
 #[cycle(form)]
 #[inline(never)]
-fn do_rest(
-    machine: &mut Machine,
+fn do_rest<S: Store>(
+    machine: &mut Machine<S>,
     seat: &mut Seat,
     turns: u32,
     start: u32,
@@ -385,8 +386,8 @@ fn do_rest(
 /// The body of a turn, or its last form, over a frame.
 #[cycle(form)]
 #[inline(never)]
-fn do_whole(
-    machine: &mut Machine,
+fn do_whole<S: Store>(
+    machine: &mut Machine<S>,
     seat: &mut Seat,
     turns: u32,
     body: u32,
@@ -405,8 +406,8 @@ fn do_whole(
 /// The last form of a turn, over the turn's frame.
 #[cycle(form)]
 #[inline(always)]
-fn do_turned(
-    machine: &mut Machine,
+fn do_turned<S: Store>(
+    machine: &mut Machine<S>,
     seat: &mut Seat,
     turns: u32,
     at: u32,
@@ -426,8 +427,8 @@ fn do_turned(
 /// What a loop does after a turn. A copy of the innermost scope and `x++` in it want no frame.
 #[cycle(form)]
 #[inline(always)]
-fn do_update(
-    machine: &mut Machine,
+fn do_update<S: Store>(
+    machine: &mut Machine<S>,
     seat: &mut Seat,
     turns: u32,
     update: u32,
@@ -446,8 +447,8 @@ fn do_update(
 /// A copy of the innermost scope is there, and a form runs in a new scope in it: at once, where it is like the body of `x++`. The steps of the three forms are taken off already.
 #[cycle(form)]
 #[inline(always)]
-fn do_renewal(
-    machine: &mut Machine,
+fn do_renewal<S: Store>(
+    machine: &mut Machine<S>,
     seat: &mut Seat,
     turns: u32,
     parts: Renewal,
@@ -478,8 +479,8 @@ fn do_renewal(
 /// A form in the scope where the machine stands, which is left again for this one, and then the loop tests.
 #[cycle(form)]
 #[inline(never)]
-fn do_inside(
-    machine: &mut Machine,
+fn do_inside<S: Store>(
+    machine: &mut Machine<S>,
     seat: &mut Seat,
     turns: u32,
     scope: u32,
@@ -506,8 +507,8 @@ fn do_inside(
 /// What a loop does after a turn, over a frame.
 #[cycle(form)]
 #[inline(never)]
-fn do_other_update(
-    machine: &mut Machine,
+fn do_other_update<S: Store>(
+    machine: &mut Machine<S>,
     seat: &mut Seat,
     turns: u32,
     update: u32,

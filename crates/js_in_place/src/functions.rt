@@ -13,10 +13,11 @@ use crate::seat::{How, Seat, Went, came, given, led};
 use js_direct::plain::{Plain, plain_of};
 use js_machine::frame::Mode;
 use js_machine::machine::Machine;
+use js_store::store::Store;
 
 /// The newest value of the machine, if it is a plain one.
 #[inline(always)]
-fn newest_plain(machine: &Machine) -> Option<Plain>
+fn newest_plain<S: Store>(machine: &Machine<S>) -> Option<Plain>
     ensures { IfSome result (λ p. top machine.now.values ≡ value_of p) }
 {
     let count = machine.values.len();
@@ -28,7 +29,7 @@ fn newest_plain(machine: &Machine) -> Option<Plain>
 
 /// A value that is given by the machine's own step comes off its stack, where it is a plain one.
 #[inline(always)]
-fn take_value(machine: &mut Machine, seat: &mut Seat, left: u64) -> Went
+fn take_value<S: Store>(machine: &mut Machine<S>, seat: &mut Seat, left: u64) -> Went
     ensures { IsWent (at_mode mode_kind.Value machine.old) left machine.old machine.new seat.new result }
 {
     let Some(value) = newest_plain(machine) else {
@@ -40,7 +41,7 @@ fn take_value(machine: &mut Machine, seat: &mut Seat, left: u64) -> Went
 
 /// What a step of the machine's own led to goes on in place, where that is a plain value or a form.
 #[inline(always)]
-pub fn go_on_from(machine: &mut Machine, seat: &mut Seat, mode: Mode, left: u64) -> Went
+pub fn go_on_from<S: Store>(machine: &mut Machine<S>, seat: &mut Seat, mode: Mode, left: u64) -> Went
     ensures { IsWent (at_mode mode machine.old) left machine.old machine.new seat.new result }
 {
     match mode {
@@ -51,7 +52,7 @@ pub fn go_on_from(machine: &mut Machine, seat: &mut Seat, mode: Mode, left: u64)
 
 /// A function of the party is made (ECMA-262, "Function Definitions", Evaluation).
 #[inline(never)]
-pub fn do_function(machine: &mut Machine, seat: &mut Seat, template: u32, left: u64) -> Went
+pub fn do_function<S: Store>(machine: &mut Machine<S>, seat: &mut Seat, template: u32, left: u64) -> Went
     requires { 0 < left }
     ensures { (at : ℕ) → let term = term_at machine.old.code in
         out-Term (term at) ≡ layer_of machine.old.code term (node_kind.Func template)

@@ -24,10 +24,11 @@ use js_direct::truths::{Truth, truth_at};
 use js_machine::frame::Frame;
 use js_machine::js_run::MAX_DEPTH;
 use js_machine::machine::Machine;
+use js_store::store::Store;
 
 /// A form is done at once, where its steps are at most so many: gives the steps, and none where nothing was done.
 #[inline(always)]
-pub fn done_here(machine: &mut Machine, seat: &mut Seat, at: u32, left: u64) -> u32
+pub fn done_here<S: Store>(machine: &mut Machine<S>, seat: &mut Seat, at: u32, left: u64) -> u32
     ensures done { 0 < result → IsDone at machine.old machine.new seat.new.value result }
     ensures within { result ≤ left }
     ensures none { result ≡ 0 → machine.new ≡ machine.old }
@@ -50,7 +51,7 @@ pub fn done_here(machine: &mut Machine, seat: &mut Seat, at: u32, left: u64) -> 
 
 /// What a form gives at once where the machine stands, and how many steps that takes; none where it does not.
 #[inline(always)]
-pub fn value_from(machine: &Machine, at: u32, given: &mut Plain) -> u32
+pub fn value_from<S: Store>(machine: &Machine<S>, at: u32, given: &mut Plain) -> u32
     ensures { 0 < result → GivesAtOnce (sight_of machine.now) at (value_of given.new) result }
 {
     value_into(
@@ -65,7 +66,7 @@ pub fn value_from(machine: &Machine, at: u32, given: &mut Plain) -> u32
 
 /// Whether an object that waits for an answer can be open in the run, and one more within it.
 #[inline(always)]
-fn can_wait(machine: &Machine) -> bool
+fn can_wait<S: Store>(machine: &Machine<S>) -> bool
     ensures { IsTrue result → machine.now.depth + 2 < most_deep }
 {
     machine.depth < MAX_DEPTH - 2
@@ -73,7 +74,7 @@ fn can_wait(machine: &Machine) -> bool
 
 /// A body like that of `x++` is done at once where the machine stands, or not at all.
 #[inline(always)]
-fn increment_here(machine: &mut Machine, at: u32) -> Incremented
+fn increment_here<S: Store>(machine: &mut Machine<S>, at: u32) -> Incremented
     ensures came { (store : Owned)
         → let scope = scope_of machine.old.bodies in
         let sight = seen store machine.old.code machine.old.scopes scope in
@@ -86,7 +87,7 @@ fn increment_here(machine: &mut Machine, at: u32) -> Incremented
 
 /// A body like that of `x++` is done at once where the machine stands, where its steps are at most so many, or not at all.
 #[inline(always)]
-pub fn body_here(machine: &mut Machine, at: u32, left: u64) -> Incremented
+pub fn body_here<S: Store>(machine: &mut Machine<S>, at: u32, left: u64) -> Incremented
     ensures { IsBody result at left machine.old machine.new }
 {
     if !can_wait(machine) || left < u64::from(INCREMENT_STEPS) {
@@ -97,7 +98,7 @@ pub fn body_here(machine: &mut Machine, at: u32, left: u64) -> Incremented
 
 /// Whether what a form gives at once counts as true.
 #[inline(always)]
-pub fn truth_here(machine: &Machine, at: u32) -> Truth
+pub fn truth_here<S: Store>(machine: &Machine<S>, at: u32) -> Truth
     ensures { 0 < result.steps → GivesTruth (sight_of machine.now) at result }
 {
     truth_at(
@@ -111,8 +112,8 @@ pub fn truth_here(machine: &Machine, at: u32) -> Truth
 
 /// A form or none, by what a test gives at once (ECMA-262, the if Statement).
 #[inline]
-pub fn choose_one(
-    machine: &Machine,
+pub fn choose_one<S: Store>(
+    machine: &Machine<S>,
     seat: &mut Seat,
     at: u32,
     test: u32,
@@ -137,8 +138,8 @@ pub fn choose_one(
 
 /// One of two forms, by what a test gives at once (ECMA-262, the if Statement).
 #[inline]
-pub fn choose_two(
-    machine: &Machine,
+pub fn choose_two<S: Store>(
+    machine: &Machine<S>,
     seat: &mut Seat,
     at: u32,
     test: u32,
@@ -164,7 +165,7 @@ pub fn choose_two(
 }
 
 /// A copy of the innermost scope takes its place (ECMA-262, CreatePerIterationEnvironment).
-pub fn fresh(machine: &mut Machine, seat: &mut Seat, left: u64) -> Went
+pub fn fresh<S: Store>(machine: &mut Machine<S>, seat: &mut Seat, left: u64) -> Went
     ensures { IsWent (at_copy machine.old) left machine.old machine.new seat.new result }
 {
     match enter_copy(machine) {
@@ -175,7 +176,7 @@ pub fn fresh(machine: &mut Machine, seat: &mut Seat, left: u64) -> Went
 
 /// The test of a loop's next turn is to begin.
 #[inline(never)]
-pub fn starts_loop(machine: &mut Machine, seat: &mut Seat, turns: u32, left: u64) -> Went
+pub fn starts_loop<S: Store>(machine: &mut Machine<S>, seat: &mut Seat, turns: u32, left: u64) -> Went
     ensures ends { ¬ (result.how ≡ how_kind.Next) }
     ensures went { IsWent (at_test turns machine.old) left machine.old machine.new seat.new result }
 {

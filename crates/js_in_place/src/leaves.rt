@@ -15,6 +15,7 @@ use js_code::node::Node;
 use js_direct::plain::Plain;
 use js_machine::frame::Frame;
 use js_machine::machine::Machine;
+use js_store::store::Store;
 
 /// A frame that waits for a form.
 #[derive(Clone, Copy)]
@@ -60,7 +61,7 @@ fn held_by(node: Node) -> Option<Held>
 
 /// A form begins, and another one waits for it.
 #[inline(never)]
-fn wait_for(machine: &mut Machine, seat: &mut Seat, node: Node, at: u32, left: u64) -> Went
+fn wait_for<S: Store>(machine: &mut Machine<S>, seat: &mut Seat, node: Node, at: u32, left: u64) -> Went
     ensures { let term = term_at machine.old.code in
         out-Term (term at) ≡ layer_of machine.old.code term node
         → IsWent (at_form at machine.old) left machine.old machine.new seat.new result }
@@ -79,7 +80,7 @@ fn wait_for(machine: &mut Machine, seat: &mut Seat, node: Node, at: u32, left: u
 
 /// Whether a form may give a value at once.
 #[inline(always)]
-fn may_give(machine: &Machine, node: Node) -> bool {
+fn may_give<S: Store>(machine: &Machine<S>, node: Node) -> bool {
     match node {
         Node::Undefined
         | Node::Null
@@ -104,7 +105,7 @@ fn is_call(node: Node) -> bool {
 
 /// Whether a form may be done at once. (To try one that is not costs as much as to do it.)
 #[inline(always)]
-pub(crate) fn may_be_done(machine: &Machine, node: Node) -> bool {
+pub(crate) fn may_be_done<S: Store>(machine: &Machine<S>, node: Node) -> bool {
     match node {
         Node::SetLocal { value, .. } | Node::Init { value, .. } => {
             may_give(machine, machine.code.node(value))
@@ -116,7 +117,7 @@ pub(crate) fn may_be_done(machine: &Machine, node: Node) -> bool {
 
 /// A form is done at once, or what it evaluates first is next, or it is not begun.
 #[inline(always)]
-pub fn do_leaf(machine: &mut Machine, seat: &mut Seat, node: Node, at: u32, left: u64) -> Went
+pub fn do_leaf<S: Store>(machine: &mut Machine<S>, seat: &mut Seat, node: Node, at: u32, left: u64) -> Went
     ensures { let term = term_at machine.old.code in
         out-Term (term at) ≡ layer_of machine.old.code term node
         → IsWent (at_form at machine.old) left machine.old machine.new seat.new result }
@@ -133,7 +134,7 @@ pub fn do_leaf(machine: &mut Machine, seat: &mut Seat, node: Node, at: u32, left
 
 /// A form is next whose value is returned.
 #[inline]
-fn return_waits(machine: &mut Machine, seat: &mut Seat, value: u32, left: u64) -> Went
+fn return_waits<S: Store>(machine: &mut Machine<S>, seat: &mut Seat, value: u32, left: u64) -> Went
     requires { 0 < left }
     ensures { (at : ℕ) → let term = term_at machine.old.code in
         out-Term (term at) ≡ layer_of machine.old.code term (node_kind.ReturnValue value)
@@ -147,7 +148,7 @@ fn return_waits(machine: &mut Machine, seat: &mut Seat, value: u32, left: u64) -
 
 /// A value is returned at once, or the form is next that gives it.
 #[inline]
-pub fn do_return(machine: &mut Machine, seat: &mut Seat, value: u32, left: u64) -> Went
+pub fn do_return<S: Store>(machine: &mut Machine<S>, seat: &mut Seat, value: u32, left: u64) -> Went
     requires { 0 < left }
     ensures { (at : ℕ) → let term = term_at machine.old.code in
         out-Term (term at) ≡ layer_of machine.old.code term (node_kind.ReturnValue value)
@@ -166,8 +167,8 @@ pub fn do_return(machine: &mut Machine, seat: &mut Seat, value: u32, left: u64) 
 
 /// A form of a list is to begin, and those behind it wait.
 #[inline]
-fn wait_in_list(
-    machine: &mut Machine,
+fn wait_in_list<S: Store>(
+    machine: &mut Machine<S>,
     seat: &mut Seat,
     at: u32,
     start: u32,
@@ -185,8 +186,8 @@ fn wait_in_list(
 
 /// A copy of the innermost scope takes its place, and a list goes on.
 #[inline]
-pub fn fresh_item(
-    machine: &mut Machine,
+pub fn fresh_item<S: Store>(
+    machine: &mut Machine<S>,
     seat: &mut Seat,
     at: u32,
     start: u32,

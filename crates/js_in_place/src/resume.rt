@@ -11,6 +11,7 @@ use crate::frames::newest_frame;
 use crate::seat::{How, Seat, Went, came, given, held_back, led_by, next};
 use crate::spot::{Spot, Stand};
 use js_machine::machine::Machine;
+use js_store::store::Store;
 
 /// How many frames in a row take a value before a run looks up.
 pub const MOST_RESUMED: u32 = 1000;
@@ -35,7 +36,7 @@ fn stood(seat: &mut Seat, stand: Stand) -> Went
 
 /// A value that was given comes to the newest frame, where that is one of a form that waits, or of a body; else it is to come to it still.
 #[inline(always)]
-fn resume(machine: &mut Machine, seat: &mut Seat, left: u64) -> Went
+fn resume<S: Store>(machine: &mut Machine<S>, seat: &mut Seat, left: u64) -> Went
     ensures { IsWent (at_value seat.old.value machine.old) left machine.old machine.new seat.new result }
 {
     let Some(frame) = newest_frame(machine) else {
@@ -49,7 +50,7 @@ fn resume(machine: &mut Machine, seat: &mut Seat, left: u64) -> Went
 
 /// The same, as often as a value is given.
 #[inline]
-fn resume_all(machine: &mut Machine, seat: &mut Seat, left: u64) -> Went
+fn resume_all<S: Store>(machine: &mut Machine<S>, seat: &mut Seat, left: u64) -> Went
     ensures { IsWent (at_value seat.old.value machine.old) left machine.old machine.new seat.new result }
 {
     let mut left = left;
@@ -66,7 +67,7 @@ fn resume_all(machine: &mut Machine, seat: &mut Seat, left: u64) -> Went
 
 /// What a form gave comes to the forms that wait for it.
 #[inline(always)]
-pub fn after_row(machine: &mut Machine, seat: &mut Seat, step: Went) -> Went
+pub fn after_row<S: Store>(machine: &mut Machine<S>, seat: &mut Seat, step: Went) -> Went
     ensures { (from : Place) (left : ℕ) (first : View) → IsWent from left first machine.old seat.old step
         → IsWent from left first machine.new seat.new result }
 {

@@ -12,13 +12,14 @@ use js_direct::plain::{Plain, as_value};
 use js_machine::frame::{Frame, Mode};
 use js_machine::machine::Machine;
 use js_machine_statements::slots::stand_in;
+use js_store::store::Store;
 
 /// How many frames a value that is returned passes before a run looks up.
 pub const MOST_FRAMES: u32 = 1000;
 
 /// A value is given where a call waits for it.
 #[inline(always)]
-pub fn pass(machine: &mut Machine, seat: &mut Seat, value: Plain, left: u64) -> Went
+pub fn pass<S: Store>(machine: &mut Machine<S>, seat: &mut Seat, value: Plain, left: u64) -> Went
     ensures { IsWent (at_value value machine.old) left machine.old machine.new seat.new result }
 {
     match newest_frame(machine) {
@@ -32,7 +33,7 @@ pub fn pass(machine: &mut Machine, seat: &mut Seat, value: Plain, left: u64) -> 
 
 /// The body of a call is over.
 #[inline(always)]
-pub fn close(machine: &mut Machine, seat: &mut Seat, value: Plain, left: u64) -> Went
+pub fn close<S: Store>(machine: &mut Machine<S>, seat: &mut Seat, value: Plain, left: u64) -> Went
     ensures { let after = without_body machine.old in
         IsWent (at_value value after) left after machine.new seat.new result }
 {
@@ -42,7 +43,7 @@ pub fn close(machine: &mut Machine, seat: &mut Seat, value: Plain, left: u64) ->
 
 /// A value is returned still, and the machine's own steps go on.
 #[inline(never)]
-fn returned(machine: &mut Machine, seat: &mut Seat, value: Plain, left: u64) -> Went
+fn returned<S: Store>(machine: &mut Machine<S>, seat: &mut Seat, value: Plain, left: u64) -> Went
     ensures { IsWent (at_return value machine.old) left machine.old machine.new seat.new result }
 {
     let Ok(_) = machine.push(as_value(value)) else {
@@ -54,7 +55,7 @@ fn returned(machine: &mut Machine, seat: &mut Seat, value: Plain, left: u64) -> 
 
 /// The newest frame is let go, if a value that is returned passes it: tells whether it does.
 #[inline(always)]
-fn passes(machine: &mut Machine, frame: Frame) -> bool
+fn passes<S: Store>(machine: &mut Machine<S>, frame: Frame) -> bool
     ensures over { newest machine.old.frames ≡ Some frame → result ≡ true
         → (v : Plain) (left : ℕ) → let from = at_return v machine.old in
         ComesTo left machine.old machine.new from (at_return v machine.new) left }
@@ -79,7 +80,7 @@ fn passes(machine: &mut Machine, frame: Frame) -> bool
 }
 
 /// A value is returned (ECMA-262, the return Statement): it passes what else waits in the body, and the call has it.
-pub fn leave(machine: &mut Machine, seat: &mut Seat, value: Plain, left: u64) -> Went
+pub fn leave<S: Store>(machine: &mut Machine<S>, seat: &mut Seat, value: Plain, left: u64) -> Went
     ensures { IsWent (at_return value machine.old) left machine.old machine.new seat.new result }
 {
     for _i in 0..MOST_FRAMES {

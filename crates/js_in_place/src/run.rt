@@ -13,6 +13,7 @@ use crate::stands::{new_seat, stand_of};
 use js_code::node::Node;
 use js_direct::plain::Plain;
 use js_machine::machine::Machine;
+use js_store::store::Store;
 use lava_base::memory::OutOfMemory;
 
 /// How much a run does in place at most before it looks up.
@@ -20,7 +21,7 @@ pub const EVENTS: u32 = 1000000;
 
 /// A form that gives a value at once, where its steps can be paid; else it is to begin still.
 #[inline]
-fn value_here(machine: &Machine, at: u32, left: u64) -> Stand
+fn value_here<S: Store>(machine: &Machine<S>, at: u32, left: u64) -> Stand
     ensures { RunsTo (spot_kind.Form at) left machine.now machine.now result }
 {
     let mut given = Plain::Undefined;
@@ -33,7 +34,7 @@ fn value_here(machine: &Machine, at: u32, left: u64) -> Stand
 }
 
 /// A form goes as far as it gets.
-fn begin(machine: &mut Machine, at: u32, left: u64) -> Result<Stand, OutOfMemory>
+fn begin<S: Store>(machine: &mut Machine<S>, at: u32, left: u64) -> Result<Stand, OutOfMemory>
     ensures { IfOk result (RunsTo (spot_kind.Form at) left machine.old machine.new) }
 {
     let mut seat = new_seat(at);
@@ -43,7 +44,7 @@ fn begin(machine: &mut Machine, at: u32, left: u64) -> Result<Stand, OutOfMemory
 
 /// A form begins, or a value comes to the newest frame.
 #[inline]
-fn follow(machine: &mut Machine, stand: Stand) -> Result<Stand, OutOfMemory>
+fn follow<S: Store>(machine: &mut Machine<S>, stand: Stand) -> Result<Stand, OutOfMemory>
     ensures { IfOk result (RunsTo stand.spot stand.left machine.old machine.new) }
 {
     match stand.spot {
@@ -56,7 +57,7 @@ fn follow(machine: &mut Machine, stand: Stand) -> Result<Stand, OutOfMemory>
 /// Goes on in place as far as that can be done and paid.
 #[inline(never)]
 #[tactic(auto, using(crate::proofs::Gone::still))]
-pub fn run_in_place(machine: &mut Machine, stand: Stand) -> Result<Stand, OutOfMemory>
+pub fn run_in_place<S: Store>(machine: &mut Machine<S>, stand: Stand) -> Result<Stand, OutOfMemory>
     ensures { IfOk result (RunsTo stand.spot stand.left machine.old machine.new) }
 {
     let mut stand = stand;
@@ -71,7 +72,7 @@ pub fn run_in_place(machine: &mut Machine, stand: Stand) -> Result<Stand, OutOfM
 
 /// A form begins in place, where it is one of those that are done so; else it is to begin still.
 #[inline]
-pub fn begin_in_place(machine: &mut Machine, at: u32, left: u64) -> Result<Stand, OutOfMemory>
+pub fn begin_in_place<S: Store>(machine: &mut Machine<S>, at: u32, left: u64) -> Result<Stand, OutOfMemory>
     ensures { IfOk result (RunsTo (spot_kind.Form at) left machine.old machine.new) }
 {
     match machine.code.node(at) {

@@ -19,11 +19,12 @@ use js_machine::frame::Frame;
 use js_machine::machine::Machine;
 use js_machine_statements::blocks::enter;
 use js_machine_statements::slots::stand_in;
+use js_store::store::Store;
 use lava_base::memory::OutOfMemory;
 
 /// The body that runs enters a copy of the scope where it stands.
 #[inline]
-pub fn enter_copy(machine: &mut Machine) -> Result<(), OutOfMemory>
+pub fn enter_copy<S: Store>(machine: &mut Machine<S>) -> Result<(), OutOfMemory>
     ensures { OnOk result (machine.new ≡ with_copy machine.old) }
 {
     let here = machine.standing();
@@ -34,7 +35,7 @@ pub fn enter_copy(machine: &mut Machine) -> Result<(), OutOfMemory>
 
 /// Whether a slot so many hops outwards is initialised.
 #[inline]
-pub fn has_local(machine: &Machine, hops: u32, slot: u32) -> bool
+pub fn has_local<S: Store>(machine: &Machine<S>, hops: u32, slot: u32) -> bool
     ensures { let scope = outwards machine.now.scopes hops (scope_of machine.now.bodies) in
         result ≡ is_some (slot_of machine.now.scopes scope slot) }
 {
@@ -44,7 +45,7 @@ pub fn has_local(machine: &Machine, hops: u32, slot: u32) -> bool
 
 /// Gives a slot so many hops outwards a value.
 #[inline]
-pub fn write_local(machine: &mut Machine, hops: u32, slot: u32, value: Plain)
+pub fn write_local<S: Store>(machine: &mut Machine<S>, hops: u32, slot: u32, value: Plain)
     ensures { let scopes = with_local machine.old hops slot (value_of value) in
         machine.new ≡ record machine.old { scopes = scopes } }
 {

@@ -18,6 +18,7 @@ use js_code::node::Node;
 use js_machine::frame::Frame;
 use js_machine::machine::Machine;
 use js_machine_statements::slots::stand_in;
+use js_store::store::Store;
 
 /// How many forms of a list were done, and what is left.
 #[derive(Clone, Copy)]
@@ -28,8 +29,8 @@ pub struct First {
 
 /// The first forms of a list, so many at most, are done at once, as far as each is. Others follow them.
 #[inline(always)]
-pub fn do_first(
-    machine: &mut Machine,
+pub fn do_first<S: Store>(
+    machine: &mut Machine<S>,
     seat: &mut Seat,
     start: u32,
     count: u32,
@@ -64,7 +65,7 @@ pub struct Renewal {
 
 /// Whether a form is a list of these two.
 #[inline(always)]
-pub fn renewal_at(machine: &Machine, at: u32) -> Option<Renewal>
+pub fn renewal_at<S: Store>(machine: &Machine<S>, at: u32) -> Option<Renewal>
     ensures { IfSome result (λ r. IsRenewal machine.now.code at r.slots r.body) }
 {
     let Node::Seq { start, count } = machine.code.node(at) else {
@@ -85,7 +86,7 @@ pub fn renewal_at(machine: &Machine, at: u32) -> Option<Renewal>
 
 /// A form in a scope is over, and with it what a loop does after a turn.
 #[inline(always)]
-pub fn back_from_inside(machine: &mut Machine, turns: u32, left: u64) -> Went
+pub fn back_from_inside<S: Store>(machine: &mut Machine<S>, turns: u32, left: u64) -> Went
     ensures { (s : Seat) → IsPart (at_value s.value machine.old) (at_test turns machine.new) left
         machine.old machine.new s result }
 {

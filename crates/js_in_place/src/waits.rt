@@ -12,11 +12,12 @@ use js_code::node::TurnRow;
 use js_direct::plain::Plain;
 use js_machine::frame::Frame;
 use js_machine::machine::Machine;
+use js_store::store::Store;
 use lava_base::memory::OutOfMemory;
 
 /// A form begins, and a frame waits for it.
 #[inline]
-pub fn wait(machine: &mut Machine, frame: Frame, at: u32, left: u64) -> Result<Stand, OutOfMemory>
+pub fn wait<S: Store>(machine: &mut Machine<S>, frame: Frame, at: u32, left: u64) -> Result<Stand, OutOfMemory>
     ensures { IfOk result (WaitsIn frame at left machine.old machine.new) }
 {
     machine.push_frame(frame)?;
@@ -25,8 +26,8 @@ pub fn wait(machine: &mut Machine, frame: Frame, at: u32, left: u64) -> Result<S
 
 /// Forms in their order; the last one takes the place of the list (ECMA-262, "Block").
 #[inline]
-pub fn in_order(
-    machine: &mut Machine,
+pub fn in_order<S: Store>(
+    machine: &mut Machine<S>,
     start: u32,
     count: u32,
     left: u64,
@@ -52,7 +53,7 @@ pub fn in_order(
 
 /// What a loop does each turn.
 #[inline]
-pub fn turn_row(machine: &Machine, turns: u32) -> TurnRow
+pub fn turn_row<S: Store>(machine: &Machine<S>, turns: u32) -> TurnRow
     ensures { result ≡ get_or machine.now.code.turns turns no_turn_row }
 {
     machine.code.turn(turns)
@@ -60,7 +61,7 @@ pub fn turn_row(machine: &Machine, turns: u32) -> TurnRow
 
 /// The test of a loop's next turn.
 #[inline]
-pub fn test(machine: &mut Machine, turns: u32, left: u64) -> Result<Stand, OutOfMemory>
+pub fn test<S: Store>(machine: &mut Machine<S>, turns: u32, left: u64) -> Result<Stand, OutOfMemory>
     ensures { let turn = turns_at machine.old.code turns in
         IfOk result (LedTo (λ a. Evaluate turn.test (party_of a machine.old) (Tested turn)) left
         machine.old machine.new) }
@@ -71,7 +72,7 @@ pub fn test(machine: &mut Machine, turns: u32, left: u64) -> Result<Stand, OutOf
 
 /// A turn of a loop.
 #[inline]
-pub fn turn(machine: &mut Machine, turns: u32, left: u64) -> Result<Stand, OutOfMemory>
+pub fn turn<S: Store>(machine: &mut Machine<S>, turns: u32, left: u64) -> Result<Stand, OutOfMemory>
     ensures { let turn = turns_at machine.old.code turns in
         IfOk result (LedTo (λ a. Evaluate turn.body (party_of a machine.old) (Turned turn)) left
         machine.old machine.new) }
@@ -82,7 +83,7 @@ pub fn turn(machine: &mut Machine, turns: u32, left: u64) -> Result<Stand, OutOf
 
 /// What a loop does after a turn, and then the next one.
 #[inline]
-pub fn next_turn(machine: &mut Machine, turns: u32, left: u64) -> Result<Stand, OutOfMemory>
+pub fn next_turn<S: Store>(machine: &mut Machine<S>, turns: u32, left: u64) -> Result<Stand, OutOfMemory>
     ensures { let turn = turns_at machine.old.code turns in
         IfOk result (LedTo (λ a. next_turn turn turn.update (party_of a machine.old)) left
         machine.old machine.new) }

@@ -4,11 +4,12 @@ ghost use Rattle.std.specs.Prelude.{◌≡◌, IfOk, OnOk, drop};
 ghost use Rattle.js_machine.specs.Views.{args_on};
 
 use crate::machine::Machine;
+use js_store::store::Store;
 use js_text::value::Value;
 use lava_base::list::List;
 use lava_base::memory::OutOfMemory;
 
-impl Machine {
+impl<S: Store> Machine<S> {
     /// So many arguments are taken off the stack of values, as a list.
     pub fn take_arguments(&mut self, count: u32) -> Result<List<Value>, OutOfMemory>
         ensures list { IfOk result (λ args. args ≡ args_on count self.old.values) }

@@ -18,11 +18,12 @@ use js_desc::reply::Reply;
 use js_operation::js_exotic::next::Next as ExoticNext;
 use js_operation::js_run::MAX_DEPTH;
 use js_ordinary::next::Next as OrdinaryNext;
+use js_store::store::Store;
 use js_text::value::Value;
 use lava_base::ids::{CommonId, Ref};
 use lava_base::memory::OutOfMemory;
 
-impl Machine {
+impl<S: Store> Machine<S> {
     /// What is asked.
     pub fn set_asked(&mut self, target: Value, ask: Ask)
         ensures { self.new ≡ record self.old { asked = record { target = target; ask = ask } } }

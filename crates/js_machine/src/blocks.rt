@@ -9,9 +9,10 @@ ghost use Rattle.js_machine.specs.Views.{halt_of};
 
 use crate::frame::{Halt, Mode, halt_number};
 use crate::machine::Machine;
+use js_store::store::Store;
 use lava_base::memory::OutOfMemory;
 
-impl Machine {
+impl<S: Store> Machine<S> {
     /// The run ends.
     #[tactic(auto, using(crate::proofs::Exits::halts))]
     pub fn end_run(&mut self, halt: Halt) -> Result<Mode, OutOfMemory>

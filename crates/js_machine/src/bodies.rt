@@ -16,10 +16,11 @@ use crate::frame::{Frame, Halt, Mode};
 use crate::machine::Machine;
 use js_code::node::TemplateRow;
 use js_operation::js_run::MAX_DEPTH;
+use js_store::store::Store;
 use js_text::value::Value;
 use lava_base::memory::OutOfMemory;
 
-impl Machine {
+impl<S: Store> Machine<S> {
     /// The row of a template.
     #[inline]
     pub fn template(&self, at: u32) -> TemplateRow

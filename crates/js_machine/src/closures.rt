@@ -4,6 +4,7 @@ ghost use Rattle.std.specs.Prelude.{◌≡◌, ◌++◌, OnOk, length, reverse};
 
 use crate::machine::Machine;
 use js_store::slot::Lexical;
+use js_store::store::Store;
 use js_text::copy::copy_value;
 use js_text::value::Value;
 use lava_base::ids::Ref;
@@ -17,7 +18,7 @@ pub struct Closure {
     pub lexical: Option<Lexical>,
 }
 
-impl Machine {
+impl<S: Store> Machine<S> {
     /// Arguments come on the stack of values.
     pub fn push_arguments(&mut self, args: &List<Value>) -> Result<(), OutOfMemory>
         ensures { let values = reverse args.now ++ self.old.values in

@@ -9,6 +9,7 @@ use crate::frame::{Frame, Goal, Mode};
 use crate::machine::Machine;
 use js_desc::ask::Ask;
 use js_operation::js_operations::names::name_key;
+use js_store::store::Store;
 use js_text::value::{Key, Value};
 use lava_base::ids::Ref;
 use lava_base::memory::OutOfMemory;
@@ -24,7 +25,7 @@ fn method_key(alloc: Global, last: bool, as_text: bool) -> Result<Key, OutOfMemo
     }
 }
 
-impl Machine {
+impl<S: Store> Machine<S> {
     /// An object is asked for a method that makes it a primitive value.
     #[tactic(auto, using(crate::proofs::Converted::method_asked))]
     pub fn ask_method(&mut self, object: Ref, goal: Goal, last: bool) -> Result<Mode, OutOfMemory>

@@ -30,7 +30,7 @@ pub fn object_of_value(value: &Value) -> Option<Ref>
     }
 }
 
-impl Machine {
+impl<S: Store> Machine<S> {
     /// The global of the party is its first object.
     pub fn global(&self) -> Ref
         ensures { result ≡ (naming_of self.now.me).own 0 }

@@ -14,7 +14,6 @@ use js_desc::fault::{FaultText, NativeError};
 use js_operation::js_run::intrinsics::{
     RANGE_ERROR_PROTOTYPE, REFERENCE_ERROR_PROTOTYPE, SYNTAX_ERROR_PROTOTYPE, TYPE_ERROR_PROTOTYPE,
 };
-use js_store::flat::FlatStore;
 use js_store::slot::Slot;
 use js_store::store::Store;
 use js_text::fault::TextFault;
@@ -59,11 +58,11 @@ fn has_frozen_errors(party: PartyId) -> bool
 
 /// Makes an error without a message.
 #[tactic(auto, using(crate::proofs::Faulted::last_changed, crate::proofs::Faulted::last_within))]
-fn bare_error(store: &mut FlatStore, prototype: Ref, frozen: bool) -> Result<ObjId, OutOfMemory>
-    ensures id { IfOk result (λ id. id.0 ≡ length store.old.objects) }
+fn bare_error<S: Store>(store: &mut S, prototype: Ref, frozen: bool) -> Result<ObjId, OutOfMemory>
+    ensures id { IfOk result (λ id. id.0 ≡ length (S.objects store.old)) }
     ensures made { let object = bare_error frozen prototype in
-        OnOk result (store.new.objects ≡ store.old.objects ++ object ∷ []) }
-    ensures party { store.new.party ≡ store.old.party }
+        OnOk result (S.objects store.new ≡ S.objects store.old ++ object ∷ []) }
+    ensures party { S.owner store.new ≡ S.owner store.old }
 {
     let marks = Marks {
         class: Class::Error,
@@ -79,17 +78,17 @@ fn bare_error(store: &mut FlatStore, prototype: Ref, frozen: bool) -> Result<Obj
 
 /// Makes an error in a store, which is frozen where the host runs.
 #[tactic(auto, using(crate::proofs::Faulted::last_changed, crate::proofs::Faulted::last_within))]
-pub fn add_error(
-    store: &mut FlatStore,
+pub fn add_error<S: Store>(
+    store: &mut S,
     prototype: Ref,
     key: Key,
     message: Text,
 ) -> Result<ObjId, OutOfMemory>
     requires { key ≡ message_key }
-    ensures id { IfOk result (λ id. id.0 ≡ length store.old.objects) }
-    ensures made { let object = error_with (nat_eq store.old.party.0 0) prototype message in
-        OnOk result (store.new.objects ≡ store.old.objects ++ object ∷ []) }
-    ensures party { store.new.party ≡ store.old.party }
+    ensures id { IfOk result (λ id. id.0 ≡ length (S.objects store.old)) }
+    ensures made { let object = error_with (nat_eq (S.owner store.old).0 0) prototype message in
+        OnOk result (S.objects store.new ≡ S.objects store.old ++ object ∷ []) }
+    ensures party { S.owner store.new ≡ S.owner store.old }
 {
     let frozen = has_frozen_errors(store.party());
     let id = bare_error(store, prototype, frozen)?;
@@ -103,7 +102,7 @@ pub fn add_error(
     Ok(id)
 }
 
-impl Machine {
+impl<S: Store> Machine<S> {
     /// Makes an error with a message.
     pub fn make_error(&mut self, error: NativeError, message: Text) -> Result<Ref, OutOfMemory>
         ensures name { let me = naming_of self.old.me in

@@ -19,7 +19,6 @@ use crate::machine::Machine;
 use js_desc::decision::BodyId;
 use js_desc::descriptor::{Change, Descriptor};
 use js_operation::js_run::intrinsics::{FUNCTION_PROTOTYPE, OBJECT_PROTOTYPE};
-use js_store::flat::FlatStore;
 use js_store::slot::{Lexical, Slot};
 use js_store::store::{PLAIN_MARKS, Store};
 use js_term::term::TemplateKind;
@@ -68,8 +67,8 @@ pub fn own(party: PartyId, id: u32) -> Value
 
 /// Makes a function with its properties `length` and `name` (ECMA-262, OrdinaryFunctionCreate, SetFunctionLength, SetFunctionName).
 #[tactic(auto, using(crate::proofs::Faulted::last_within))]
-pub fn add_function(
-    store: &mut FlatStore,
+pub fn add_function<S: Store>(
+    store: &mut S,
     keys: &KnownKeys,
     prototype: Option<Ref>,
     constructor: bool,
@@ -77,10 +76,10 @@ pub fn add_function(
     arity: u32,
     name: Text,
 ) -> Result<ObjId, OutOfMemory>
-    ensures id { IfOk result (λ id. id.0 ≡ length store.old.objects) }
+    ensures id { IfOk result (λ id. id.0 ≡ length (S.objects store.old)) }
     ensures made { let object = new_function prototype constructor slot arity name [] in
-        OnOk result (store.new.objects ≡ store.old.objects ++ object ∷ []) }
-    ensures party { store.new.party ≡ store.old.party }
+        OnOk result (S.objects store.new ≡ S.objects store.old ++ object ∷ []) }
+    ensures party { S.owner store.new ≡ S.owner store.old }
 {
     let marks = Marks {
         class: Class::Function,
@@ -99,23 +98,23 @@ pub fn add_function(
 
 /// Makes a function and the object that its instances inherit from (ECMA-262, InstantiateOrdinaryFunctionExpression, MakeConstructor).
 #[tactic(auto, using(crate::proofs::Faulted::last_within))]
-fn add_plain_function(
-    store: &mut FlatStore,
+fn add_plain_function<S: Store>(
+    store: &mut S,
     keys: &KnownKeys,
     constructor: bool,
     slot: Slot,
     arity: u32,
     name: Text,
 ) -> Result<ObjId, OutOfMemory>
-    ensures id { IfOk result (λ id. id.0 ≡ length store.old.objects) }
-    ensures made { let count = length store.old.objects in
-        let names = naming_of store.old.party.0 in
+    ensures id { IfOk result (λ id. id.0 ≡ length (S.objects store.old)) }
+    ensures made { let count = length (S.objects store.old) in
+        let names = naming_of (S.owner store.old).0 in
         let prototype = prototype_property (names.own (suc count)) in
         let function = new_function (Some (names.common FUNCTION_PROTOTYPE)) constructor slot arity
         name (prototype ∷ []) in
-        OnOk result (store.new.objects ≡ (store.old.objects ++ function ∷ [])
-        ++ instance_prototype store.old.party.0 (names.own count) ∷ []) }
-    ensures party { store.new.party ≡ store.old.party }
+        OnOk result (S.objects store.new ≡ (S.objects store.old ++ function ∷ [])
+        ++ instance_prototype (S.owner store.old).0 (names.own count) ∷ []) }
+    ensures party { S.owner store.new ≡ S.owner store.old }
 {
     let party = store.party();
     let above = Some(Ref::Common(CommonId(FUNCTION_PROTOTYPE)));
@@ -138,7 +137,7 @@ fn count_value(count: u32) -> Value
     Value::Int(i64::from(count))
 }
 
-impl Machine {
+impl<S: Store> Machine<S> {
     /// What names an object of the party.
     pub fn own(&self, id: u32) -> Ref
         ensures { result ≡ (naming_of self.now.me).own id }

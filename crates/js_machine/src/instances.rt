@@ -16,6 +16,7 @@ ghost use Rattle.js_machine.specs.declared.frame.Frame.TheVariants as frame_kind
 use crate::frame::{Frame, Mode};
 use crate::machine::Machine;
 use js_desc::ask::Ask;
+use js_store::store::Store;
 use js_text::value::Value;
 use lava_base::ids::{CommonId, Ref};
 use lava_base::memory::OutOfMemory;
@@ -30,7 +31,7 @@ fn object_on(value: &Value) -> Ref
     }
 }
 
-impl Machine {
+impl<S: Store> Machine<S> {
     /// The object on the stack of values is taken off.
     pub fn take_object(&mut self) -> Ref
         ensures object { result ≡ object_on (top self.old.values) }

@@ -11,7 +11,7 @@ use js_text::value::Value;
 use lava_base::ids::{CommonId, ObjId, Ref};
 use lava_base::marks::Marks;
 
-impl Machine {
+impl<S: Store> Machine<S> {
     /// The marks of an own object.
     #[tactic(auto, using(crate::proofs::Looked::past_marks))]
     pub(crate) fn own_marks(&self, id: ObjId) -> Marks

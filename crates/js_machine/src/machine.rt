@@ -16,9 +16,9 @@ use crate::outside::HostCall;
 use crate::package::Package;
 use js_code::code::Code;
 use js_state::scopes::Scopes;
-use js_store::flat::FlatStore;
 use js_store::foreign::Foreign;
 use js_store::frozen::FrozenStore;
+use js_store::store::Store;
 use js_text::text::Text;
 use js_text::value::Value;
 use lava_base::memory::OutOfMemory;
@@ -27,12 +27,12 @@ use std::marker::Model;
 
 /// A machine.
 #[derive(Drop)]
-pub struct Machine {
+pub struct Machine<S: Store> {
     pub alloc: Global,
     pub code: Code,
     pub frames: Vec<Frame>,
     pub values: Vec<Value>,
-    pub store: FlatStore,
+    pub store: S,
     pub templates: Vec<u32>,
     pub scopes: Scopes,
     pub bodies: Vec<Body>,
@@ -61,7 +61,7 @@ pub struct Machine {
     pub calls: Vec<HostCall>,
 }
 
-impl Model for Machine {
+impl<S: Store> Model for Machine<S> {
     ghost use Rattle.std.specs.Prelude.{◌≡◌, reverse, true};
     ghost use Rattle.js_machine.specs.Bodies.{bodies_of, is_grounded};
     ghost use Rattle.js_machine.specs.Defaults.{KnowsTemplates};
@@ -70,11 +70,11 @@ impl Model for Machine {
     ghost Value = { View };
 
     ghost view = { λ m. record {
-      me = m.store.party.0;
+      me = (S.owner m.store).0;
       code = m.code;
       frames = reverse m.frames.items;
       values = reverse m.values.items;
-      objects = m.store.objects;
+      objects = S.objects m.store;
       templates = m.templates.items;
       scopes = m.scopes;
       bodies = bodies_of m.scope (reverse m.bodies.items);
@@ -95,7 +95,7 @@ impl Model for Machine {
         × KnowsTemplates m.code m.empty_template m.default_templates.items };
 }
 
-impl Machine {
+impl<S: Store> Machine<S> {
     /// A frame waits.
     #[inline]
     #[tactic(auto, using(crate::proofs::Reversed::reverse_push))]

@@ -7,11 +7,12 @@ ghost use Rattle.js_machine.specs.declared.frame.KeyGoal.TheVariants as key_goal
 use crate::frame::{Frame, Mode};
 use crate::machine::Machine;
 use js_desc::ask::Ask;
+use js_store::store::Store;
 use js_text::copy::copy_value;
 use js_text::value::{Key, Value};
 use lava_base::memory::OutOfMemory;
 
-impl Machine {
+impl<S: Store> Machine<S> {
     /// A method of a value is read, and a frame that has the value waits for it.
     pub fn ask_method_of(
         &mut self,

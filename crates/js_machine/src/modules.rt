@@ -5,6 +5,7 @@ ghost use Rattle.js_machine.specs.Views.{values_without};
 
 use crate::frame::Mode;
 use crate::machine::Machine;
+use js_store::store::Store;
 
 /// The numbers of the three objects of a module.
 #[derive(Clone, Copy)]
@@ -14,7 +15,7 @@ pub struct ModuleObjects {
     pub require: u32,
 }
 
-impl Machine {
+impl<S: Store> Machine<S> {
     /// The value of a completion is let go, if it has one.
     pub fn drop_value(&mut self, mode: Mode)
         ensures { let rest = values_without mode self.old.values in

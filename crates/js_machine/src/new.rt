@@ -16,9 +16,9 @@ use crate::requests::text_of;
 use js_code::code::Code;
 use js_desc::ask::Ask;
 use js_state::scopes::Scopes;
-use js_store::flat::FlatStore;
 use js_store::foreign::Foreign;
 use js_store::frozen::FrozenStore;
+use js_store::store::Store;
 use js_term::term::{Template, TemplateKind, Term};
 use js_text::text::{Text, from_units};
 use js_text::value::Value;
@@ -114,18 +114,18 @@ fn start(alloc: Global, code: &mut Code) -> Result<Begun, OutOfMemory>
     })
 }
 
-impl Machine {
+impl<S: Store> Machine<S> {
     /// A machine of the party whose store this is, which runs nothing yet and has its outermost scope. The code gets templates more: one that has nothing to do, and the constructors of classes that have none; all that had a place there keeps it. Want of memory is answered too where the code is full.
     pub fn new(
         alloc: Global,
         code: Code,
-        store: FlatStore,
+        store: S,
         own_package: Package,
         allowed: Vec<Text>,
         common: FrozenStore,
         common_templates: Vec<u32>,
         foreign: Foreign,
-    ) -> Result<Machine, OutOfMemory>
+    ) -> Result<Machine<S>, OutOfMemory>
         ensures code { IfOk result (λ m. Extends code m.code) }
         ensures new { let templates = common_templates.items in
             IfOk result (λ m. m ≡ as_new m.code store own_package allowed.items common templates

@@ -11,7 +11,7 @@ use crate::new::first_scope;
 use crate::outside::HostCall;
 use crate::package::Package;
 use js_state::scopes::Scopes;
-use js_store::flat::FlatStore;
+use js_store::store::Store;
 use js_text::text::Text;
 use js_text::value::Value;
 use lava_base::memory::OutOfMemory;
@@ -21,8 +21,8 @@ use std::mem;
 
 /// The things of a party that doesn't run.
 #[derive(Drop)]
-pub struct Own {
-    store: FlatStore,
+pub struct Own<S: Store> {
+    store: S,
     templates: Vec<u32>,
     scopes: Scopes,
     bodies: Vec<Body>,
@@ -33,7 +33,7 @@ pub struct Own {
     calls: Vec<HostCall>,
 }
 
-impl Model for Own {
+impl<S: Store> Model for Own<S> {
     ghost use Rattle.std.specs.Prelude.{◌≡◌, reverse, true};
     ghost use Rattle.js_machine.specs.Begun as begun;
     ghost use Rattle.js_machine.specs.Bodies.{bodies_of, is_grounded};
@@ -41,8 +41,8 @@ impl Model for Own {
     ghost Value = { begun.Own };
 
     ghost view = { λ o. record {
-      me = o.store.party.0;
-      objects = o.store.objects;
+      me = (S.owner o.store).0;
+      objects = S.objects o.store;
       templates = o.templates.items;
       scopes = o.scopes;
       bodies = bodies_of o.scope (reverse o.bodies.items);
@@ -76,14 +76,14 @@ impl Model for Left {
     } };
 }
 
-impl Own {
+impl<S: Store> Own<S> {
     /// The things of a party that has these objects, and its outermost scope.
     pub fn new(
         alloc: Global,
-        store: FlatStore,
+        store: S,
         own_package: Package,
         allowed: Vec<Text>,
-    ) -> Result<Own, OutOfMemory>
+    ) -> Result<Own<S>, OutOfMemory>
         ensures { IfOk result (λ o. o ≡ new_own store own_package allowed.items) }
     {
         let scopes = first_scope(alloc)?;
@@ -101,9 +101,9 @@ impl Own {
     }
 }
 
-impl Machine {
+impl<S: Store> Machine<S> {
     /// The machine runs the party that has these things, and gives those of the party that ran.
-    pub fn exchange(&mut self, own: &mut Own)
+    pub fn exchange(&mut self, own: &mut Own<S>)
         ensures machine { self.new ≡ with_own own.old self.old }
         ensures own { own.new ≡ own_of self.old }
     {

@@ -10,10 +10,11 @@ ghost use Rattle.js_machine.specs.Views.{args_on, below, top};
 
 use crate::machine::Machine;
 use js_code::node::TemplateRow;
+use js_store::store::Store;
 use js_text::value::Value;
 use lava_base::memory::OutOfMemory;
 
-impl Machine {
+impl<S: Store> Machine<S> {
     /// Opens a scope in which no body stands yet.
     #[inline]
     fn open_bare(&mut self, outer: u32, count: u32) -> Result<u32, OutOfMemory>

@@ -8,6 +8,7 @@ ghost use Rattle.js_machine.specs.Opened.{with_rest};
 
 use crate::machine::Machine;
 use js_native_steps::arrays::add_array;
+use js_store::store::Store;
 use js_text::value::Value;
 use lava_base::ids::Ref;
 use lava_base::list::List;
@@ -27,7 +28,7 @@ fn behind(values: List<Value>, count: usize) -> List<Value>
     values
 }
 
-impl Machine {
+impl<S: Store> Machine<S> {
     /// Makes an array of values.
     pub fn make_array(&mut self, values: &List<Value>) -> Result<Ref, OutOfMemory>
         ensures name { IfOk result (λ r. r ≡ next_own self.old) }

@@ -7,9 +7,10 @@ ghost use Rattle.js_machine.specs.Bodies.{running_of, scope_of};
 
 use crate::body::Body;
 use crate::machine::Machine;
+use js_store::store::Store;
 use lava_base::ids::Ref;
 
-impl Machine {
+impl<S: Store> Machine<S> {
     /// The body that runs, if there is one.
     pub(crate) fn running(&self) -> Option<&Body>
         ensures { let body = option_map (λ b. b.now) result in

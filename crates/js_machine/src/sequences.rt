@@ -4,9 +4,10 @@ ghost use Rattle.std.specs.Prelude.{◌≡◌, ◌≤◌, ◌+◌, IfOk, get_or,
 ghost use Rattle.js_code.specs.Tables.{part_of};
 
 use crate::machine::Machine;
+use js_store::store::Store;
 use lava_base::memory::OutOfMemory;
 
-impl Machine {
+impl<S: Store> Machine<S> {
     /// A number of a list; 0 where there is none.
     #[inline]
     pub fn number(&self, at: u32) -> u32

@@ -10,6 +10,7 @@ use crate::frame::Mode;
 use crate::machine::Machine;
 use js_desc::ask::Ask;
 use js_native::costs::native_cost;
+use js_store::store::Store;
 use js_text::value::Value;
 use lava_base::ids::Ref;
 use lava_base::marks::Marks;
@@ -35,7 +36,7 @@ fn served_units(ask: &Ask) -> Result<u32, OutOfMemory>
     }
 }
 
-impl Machine {
+impl<S: Store> Machine<S> {
     /// The marks of an object of another party are known; what is known of one stays.
     pub fn learn(&mut self, object: Ref, marks: Marks) -> Result<(), OutOfMemory>
         ensures known { let known = with_marks same_ref object marks self.old.known in

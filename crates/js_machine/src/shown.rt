@@ -16,7 +16,7 @@ use lava_base::ids::{PartyId, Ref};
 use lava_base::memory::OutOfMemory;
 use std::mem;
 
-impl Machine {
+impl<S: Store> Machine<S> {
     /// The party that runs.
     pub fn party(&self) -> PartyId
         ensures { result.0 ≡ self.now.me }

@@ -6,8 +6,9 @@ ghost use Rattle.js_machine.specs.Bodies.{scope_of};
 ghost use Rattle.js_machine.specs.Steps.{GoesOn};
 
 use crate::machine::Machine;
+use js_store::store::Store;
 
-impl Machine {
+impl<S: Store> Machine<S> {
     /// The scope where the body that runs stands.
     #[tactic(auto, using(crate::proofs::Standing::standing))]
     pub fn standing(&self) -> u32

@@ -8,6 +8,7 @@ use crate::frame::{Frame, Mode};
 use crate::machine::Machine;
 use js_desc::ask::Ask;
 use js_desc::fault::FaultText;
+use js_store::store::Store;
 use js_text::value::Key;
 use lava_base::ids::Ref;
 use lava_base::memory::OutOfMemory;
@@ -22,7 +23,7 @@ fn super_frame(call: Option<u32>) -> Frame
     }
 }
 
-impl Machine {
+impl<S: Store> Machine<S> {
     /// A property that has this key is read with `this` as the receiver, and a frame waits for it.
     pub fn ask_super(
         &mut self,

@@ -7,6 +7,7 @@ use crate::machine::Machine;
 use js_desc::ask::Ask;
 use js_ordinary::target::{find_target, marks, slot};
 use js_store::slot::{Held, Slot};
+use js_store::store::Store;
 use lava_base::ids::Ref;
 
 /// Which way an object decides of an ask.
@@ -61,7 +62,7 @@ fn way_of(slot: &Slot, callable: bool, ask: &Ask) -> Way
     }
 }
 
-impl Machine {
+impl<S: Store> Machine<S> {
     /// Which way an object decides of the ask of the machine.
     #[tactic(auto, using(crate::proofs::Ways_laws::way_there, crate::proofs::Ways_laws::way_nowhere))]
     pub fn way(&self, me: Ref) -> Way

@@ -11,10 +11,11 @@ use crate::callees::{call_value, construct_value};
 use js_code::node::ArgumentRow;
 use js_machine::frame::Mode;
 use js_machine::machine::Machine;
+use js_store::store::Store;
 use lava_base::memory::OutOfMemory;
 
 /// The function below so many arguments is called with them.
-pub fn apply_call(machine: &mut Machine, done: u32) -> Result<Mode, OutOfMemory>
+pub fn apply_call<S: Store>(machine: &mut Machine<S>, done: u32) -> Result<Mode, OutOfMemory>
     ensures { let args = args_on done machine.old.values in
         let below = drop done machine.old.values in
         let rest = record machine.old { values = drop (done + 2) machine.old.values } in
@@ -28,7 +29,7 @@ pub fn apply_call(machine: &mut Machine, done: u32) -> Result<Mode, OutOfMemory>
 }
 
 /// The function below so many arguments constructs with them.
-pub fn apply_new(machine: &mut Machine, done: u32) -> Result<Mode, OutOfMemory>
+pub fn apply_new<S: Store>(machine: &mut Machine<S>, done: u32) -> Result<Mode, OutOfMemory>
     ensures { let args = args_on done machine.old.values in
         let below = drop done machine.old.values in
         let rest = record machine.old { values = drop (done + 1) machine.old.values } in
@@ -41,7 +42,7 @@ pub fn apply_new(machine: &mut Machine, done: u32) -> Result<Mode, OutOfMemory>
 }
 
 /// The row of a call's arguments.
-pub fn argument_row(machine: &Machine, at: u32) -> ArgumentRow
+pub fn argument_row<S: Store>(machine: &Machine<S>, at: u32) -> ArgumentRow
     ensures { result ≡ get_or machine.now.code.arguments at no_argument_row }
 {
     machine.code.arguments(at)

@@ -14,14 +14,15 @@ use js_desc::fault::FaultText;
 use js_machine::decisions::object_of_value;
 use js_machine::frame::{Frame, Mode};
 use js_machine::machine::Machine;
+use js_store::store::Store;
 use js_text::value::Value;
 use lava_base::ids::Ref;
 use lava_base::list::List;
 use lava_base::memory::OutOfMemory;
 
 /// An object is called, where it is callable.
-fn call_object(
-    machine: &mut Machine,
+fn call_object<S: Store>(
+    machine: &mut Machine<S>,
     function: Ref,
     this: Value,
     args: List<Value>,
@@ -37,8 +38,8 @@ fn call_object(
 }
 
 /// A value is called (ECMA-262, Call).
-pub fn call_value(
-    machine: &mut Machine,
+pub fn call_value<S: Store>(
+    machine: &mut Machine<S>,
     callee: Value,
     this: Value,
     args: List<Value>,
@@ -53,8 +54,8 @@ pub fn call_value(
 }
 
 /// An object constructs, where it is a constructor.
-fn construct_object(
-    machine: &mut Machine,
+fn construct_object<S: Store>(
+    machine: &mut Machine<S>,
     function: Ref,
     args: List<Value>,
 ) -> Result<Mode, OutOfMemory>
@@ -73,8 +74,8 @@ fn construct_object(
 }
 
 /// A value constructs (ECMA-262, EvaluateNew).
-pub fn construct_value(
-    machine: &mut Machine,
+pub fn construct_value<S: Store>(
+    machine: &mut Machine<S>,
     callee: Value,
     args: List<Value>,
 ) -> Result<Mode, OutOfMemory>

@@ -18,6 +18,7 @@ use js_machine::body::Body;
 use js_machine::frame::{Frame, Mode};
 use js_machine::machine::Machine;
 use js_store::slot::Lexical;
+use js_store::store::Store;
 use js_term::term::TemplateKind;
 use js_text::value::Value;
 use lava_base::ids::Ref;
@@ -65,7 +66,7 @@ fn called_body(
 /// The place of the template of a number.
 #[inline]
 #[tactic(auto, using(crate::proofs::Numbered::in_common, crate::proofs::Numbered::in_own, crate::proofs::Numbered::nowhere), unfolding(js_machine::specs::Defaults::KnowsTemplates))]
-pub fn template_place(machine: &Machine, number: u32) -> u32
+pub fn template_place<S: Store>(machine: &Machine<S>, number: u32) -> u32
     ensures { template_of machine.now result ≡ template_numbered machine.now number }
 {
     let number = number as usize;
@@ -81,8 +82,8 @@ pub fn template_place(machine: &Machine, number: u32) -> u32
 
 /// The body of a function is called, by the kind of its template (ECMA-262, "ECMAScript Function Objects", [[Call]]).
 #[inline(always)]
-pub fn call_by_kind(
-    machine: &mut Machine,
+pub fn call_by_kind<S: Store>(
+    machine: &mut Machine<S>,
     at: u32,
     function: Ref,
     outer: u32,
@@ -108,8 +109,8 @@ pub fn call_by_kind(
 }
 
 /// The body of the constructor of a class with a parent runs.
-pub fn construct_derived(
-    machine: &mut Machine,
+pub fn construct_derived<S: Store>(
+    machine: &mut Machine<S>,
     at: u32,
     function: Ref,
     outer: u32,
@@ -136,8 +137,8 @@ pub fn construct_derived(
 }
 
 /// The body of a constructor of the common part runs.
-pub fn construct_built(
-    machine: &mut Machine,
+pub fn construct_built<S: Store>(
+    machine: &mut Machine<S>,
     at: u32,
     function: Ref,
     outer: u32,
@@ -164,8 +165,8 @@ pub fn construct_built(
 }
 
 /// The body of a constructor runs, by the kind of its template (ECMA-262, "ECMAScript Function Objects", [[Construct]]).
-pub fn construct_by_kind(
-    machine: &mut Machine,
+pub fn construct_by_kind<S: Store>(
+    machine: &mut Machine<S>,
     at: u32,
     function: Ref,
     outer: u32,
@@ -200,8 +201,8 @@ pub fn construct_by_kind(
 
 /// The body of a function runs with so many arguments.
 #[inline(always)]
-pub fn run_template(
-    machine: &mut Machine,
+pub fn run_template<S: Store>(
+    machine: &mut Machine<S>,
     at: u32,
     function: Ref,
     outer: u32,

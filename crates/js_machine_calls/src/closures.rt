@@ -70,7 +70,7 @@ pub fn closure_in(slot: &Slot) -> Result<Option<Closure>, OutOfMemory>
 
 /// What an object keeps, if it is a function of a source.
 #[inline]
-pub fn closure_at(machine: &Machine, me: Ref) -> Result<Option<Closure>, OutOfMemory>
+pub fn closure_at<S: Store>(machine: &Machine<S>, me: Ref) -> Result<Option<Closure>, OutOfMemory>
     ensures { let slot = (object_in machine.now me).slot in
         IfOk result (λ closure. closure ≡ closure_in slot) }
 {
@@ -82,7 +82,7 @@ pub fn closure_at(machine: &Machine, me: Ref) -> Result<Option<Closure>, OutOfMe
 
 /// Where the body of a function stands: one of the common part in the outermost scope.
 #[inline]
-fn outer_scope(machine: &Machine, me: Ref, scope: u32) -> u32
+fn outer_scope<S: Store>(machine: &Machine<S>, me: Ref, scope: u32) -> u32
     ensures { result ≡ outer_of ((naming_of machine.now.me).origin me) scope }
 {
     match me {
@@ -92,8 +92,8 @@ fn outer_scope(machine: &Machine, me: Ref, scope: u32) -> u32
 }
 
 /// The body of a function runs (ECMA-262, "ECMAScript Function Objects", [[Call]] and [[Construct]]).
-pub fn run_function(
-    machine: &mut Machine,
+pub fn run_function<S: Store>(
+    machine: &mut Machine<S>,
     me: Ref,
     body: BodyId,
     this: Value,
@@ -112,8 +112,8 @@ pub fn run_function(
 
 /// A function of a source runs with so many arguments, which are on the stack of values.
 #[inline(always)]
-pub fn run_listed(
-    machine: &mut Machine,
+pub fn run_listed<S: Store>(
+    machine: &mut Machine<S>,
     me: Ref,
     body: BodyId,
     closure: Closure,
@@ -143,8 +143,8 @@ pub fn run_listed(
 }
 
 /// A function of a source runs with these arguments.
-fn run_closure(
-    machine: &mut Machine,
+fn run_closure<S: Store>(
+    machine: &mut Machine<S>,
     me: Ref,
     body: BodyId,
     closure: Closure,

@@ -37,8 +37,8 @@ fn prototype_given(value: &Value) -> Ref
 }
 
 /// The new target is asked for the prototype, and the construction waits (ECMA-262, OrdinaryCreateFromConstructor).
-pub fn construct_base(
-    machine: &mut Machine,
+pub fn construct_base<S: Store>(
+    machine: &mut Machine<S>,
     construction: Construction,
     count: u32,
 ) -> Result<Mode, OutOfMemory>
@@ -59,7 +59,7 @@ pub fn construct_base(
 }
 
 /// Makes an object with this prototype (ECMA-262, OrdinaryObjectCreate).
-fn make_instance(machine: &mut Machine, prototype: Ref) -> Result<ObjId, OutOfMemory>
+fn make_instance<S: Store>(machine: &mut Machine<S>, prototype: Ref) -> Result<ObjId, OutOfMemory>
     ensures id { IfOk result (λ id. id.0 ≡ length machine.old.objects) }
     ensures made { let object = ordinary (Some prototype) [] in
         OnOk result (machine.new ≡ with_object object machine.old) }
@@ -70,7 +70,7 @@ fn make_instance(machine: &mut Machine, prototype: Ref) -> Result<ObjId, OutOfMe
 }
 
 /// The body of a constructor, which has yet to stand in a scope.
-fn constructing_body(machine: &Machine, construction: Construction, this: Ref) -> Body
+fn constructing_body<S: Store>(machine: &Machine<S>, construction: Construction, this: Ref) -> Body
     ensures { let kind = (row_of machine.now construction.at).kind in
         running_of 0 (Some result) ≡ constructing_body 0 kind construction this }
 {
@@ -85,8 +85,8 @@ fn constructing_body(machine: &Machine, construction: Construction, this: Ref) -
 }
 
 /// The prototype has come: an object is made, and the body of the constructor runs (ECMA-262, "ECMAScript Function Objects", [[Construct]]).
-fn construct_made(
-    machine: &mut Machine,
+fn construct_made<S: Store>(
+    machine: &mut Machine<S>,
     construction: Construction,
     args: &List<Value>,
     prototype: Value,
@@ -109,8 +109,8 @@ fn construct_made(
 }
 
 /// A construction goes on with the prototype; what is no value passes.
-pub fn resume_construct(
-    machine: &mut Machine,
+pub fn resume_construct<S: Store>(
+    machine: &mut Machine<S>,
     construction: Construction,
     args: List<Value>,
     reply: Reply,

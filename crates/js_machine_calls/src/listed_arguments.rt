@@ -12,6 +12,7 @@ use js_desc::descriptor::Descriptor;
 use js_machine::decisions::object_of_value;
 use js_machine::machine::Machine;
 use js_ordinary::target::{Target, find_target, own_property};
+use js_store::store::Store;
 use js_text::copy::copy_value;
 use js_text::value::{Key, Value};
 use lava_base::ids::Ref;
@@ -39,7 +40,7 @@ fn length_read(value: &Value) -> u64
 }
 
 /// What an own property of an object gives.
-fn own_data(machine: &Machine, target: Target, key: &Key) -> Result<Value, OutOfMemory>
+fn own_data<S: Store>(machine: &Machine<S>, target: Target, key: &Key) -> Result<Value, OutOfMemory>
     requires { IsSeen machine.now.objects machine.now.common target }
     ensures { let object = object_seen machine.now.objects machine.now.common target in
         let there = own_data (naming_of machine.now.me) object key.now in
@@ -49,7 +50,7 @@ fn own_data(machine: &Machine, target: Target, key: &Key) -> Result<Value, OutOf
 }
 
 /// How many items an object says that it has.
-fn item_count(machine: &Machine, target: Target) -> Result<u32, OutOfMemory>
+fn item_count<S: Store>(machine: &Machine<S>, target: Target) -> Result<u32, OutOfMemory>
     requires { IsSeen machine.now.objects machine.now.common target }
     ensures { let object = object_seen machine.now.objects machine.now.common target in
         let items = items_of (naming_of machine.now.me) object in
@@ -65,7 +66,7 @@ fn item_count(machine: &Machine, target: Target) -> Result<u32, OutOfMemory>
 }
 
 /// So many items of an object come on the stack of values.
-fn push_items(machine: &mut Machine, target: Target, count: u32) -> Result<(), OutOfMemory>
+fn push_items<S: Store>(machine: &mut Machine<S>, target: Target, count: u32) -> Result<(), OutOfMemory>
     requires { IsSeen machine.old.objects machine.old.common target }
     ensures { let object = object_seen machine.old.objects machine.old.common target in
         let items = items_from (naming_of machine.old.me) object 0 count in
@@ -80,7 +81,7 @@ fn push_items(machine: &mut Machine, target: Target, count: u32) -> Result<(), O
 }
 
 /// The items of an object come on the stack of values; how many there are.
-fn push_all_items(machine: &mut Machine, target: Target) -> Result<u32, OutOfMemory>
+fn push_all_items<S: Store>(machine: &mut Machine<S>, target: Target) -> Result<u32, OutOfMemory>
     requires { IsSeen machine.old.objects machine.old.common target }
     ensures count { let object = object_seen machine.old.objects machine.old.common target in
         let items = items_of (naming_of machine.old.me) object in
@@ -96,7 +97,7 @@ fn push_all_items(machine: &mut Machine, target: Target) -> Result<u32, OutOfMem
 }
 
 /// The object of a reference, if the party can look at it.
-fn item_target(machine: &Machine, object: Ref) -> Option<Target>
+fn item_target<S: Store>(machine: &Machine<S>, object: Ref) -> Option<Target>
     ensures found { let origin = (naming_of machine.now.me).origin object in
         option_map origin_of_target result ≡ there machine.now.objects machine.now.common origin }
     ensures seen { IfSome result (λ t. IsSeen machine.now.objects machine.now.common t) }
@@ -105,7 +106,7 @@ fn item_target(machine: &Machine, object: Ref) -> Option<Target>
 }
 
 /// The items of an object come on the stack of values, where the party can look at it.
-fn push_items_of(machine: &mut Machine, object: Ref) -> Result<u32, OutOfMemory>
+fn push_items_of<S: Store>(machine: &mut Machine<S>, object: Ref) -> Result<u32, OutOfMemory>
     ensures count { let items = items_of (naming_of machine.old.me) (object_in machine.old object)
         in
         IfOk result (λ n. n ≡ length items) }
@@ -121,7 +122,7 @@ fn push_items_of(machine: &mut Machine, object: Ref) -> Result<u32, OutOfMemory>
 }
 
 /// The items of an array come on the stack of values; how many there are (ECMA-262, CreateListFromArrayLike).
-pub fn push_listed(machine: &mut Machine, list: &Value) -> Result<u32, OutOfMemory>
+pub fn push_listed<S: Store>(machine: &mut Machine<S>, list: &Value) -> Result<u32, OutOfMemory>
     ensures count { IfOk result (λ n. n ≡ length (items_in machine.old list.now)) }
     ensures pushed { let values = reverse (items_in machine.old list.now) ++ machine.old.values in
         OnOk result (machine.new ≡ record machine.old { values = values }) }

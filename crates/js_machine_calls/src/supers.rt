@@ -22,6 +22,7 @@ use js_machine::body::Body;
 use js_machine::decisions::object_of_value;
 use js_machine::frame::{Frame, Mode};
 use js_machine::machine::Machine;
+use js_store::store::Store;
 use js_text::copy::copy_value;
 use js_text::value::Value;
 use lava_base::ids::Ref;
@@ -40,7 +41,7 @@ pub fn parent_of(parent: Option<Ref>) -> Value
 
 // PROPERTIES
 /// The key of a property of `super` has its value: the home object is asked for its prototype (ECMA-262, MakeSuperPropertyReference).
-pub fn super_key_comes(machine: &mut Machine, key: Value) -> Result<Mode, OutOfMemory>
+pub fn super_key_comes<S: Store>(machine: &mut Machine<S>, key: Value) -> Result<Mode, OutOfMemory>
     ensures { IfOk result (LeadsTo (λ a. super_key (naming_of machine.old.me) a.shared key
         (party_of a machine.old)) machine.old machine.new) }
 {
@@ -55,8 +56,8 @@ pub fn super_key_comes(machine: &mut Machine, key: Value) -> Result<Mode, OutOfM
 
 // METHODS
 /// The key of a method of `super` has its value: the home object is asked for its prototype (ECMA-262, MakeSuperPropertyReference).
-pub fn super_method_key_comes(
-    machine: &mut Machine,
+pub fn super_method_key_comes<S: Store>(
+    machine: &mut Machine<S>,
     arguments: u32,
     key: Value,
 ) -> Result<Mode, OutOfMemory>
@@ -78,8 +79,8 @@ pub fn super_method_key_comes(
 }
 
 /// A function is called with the `this` of the body that runs.
-fn call_on_this(
-    machine: &mut Machine,
+fn call_on_this<S: Store>(
+    machine: &mut Machine<S>,
     callee: Value,
     args: List<Value>,
 ) -> Result<Mode, OutOfMemory>
@@ -95,7 +96,7 @@ fn call_on_this(
 }
 
 /// The method of `super` below so many arguments is called with them.
-pub fn apply_super_call(machine: &mut Machine, done: u32) -> Result<Mode, OutOfMemory>
+pub fn apply_super_call<S: Store>(machine: &mut Machine<S>, done: u32) -> Result<Mode, OutOfMemory>
     ensures { let args = args_on done machine.old.values in
         let below = drop done machine.old.values in
         let purpose = purpose_kind.SuperCall in
@@ -110,7 +111,7 @@ pub fn apply_super_call(machine: &mut Machine, done: u32) -> Result<Mode, OutOfM
 
 // CONSTRUCTIONS
 /// A `super` call: the function that runs is asked for its prototype (ECMA-262, SuperCall).
-pub fn begin_super_new(machine: &mut Machine, arguments: u32) -> Result<Mode, OutOfMemory>
+pub fn begin_super_new<S: Store>(machine: &mut Machine<S>, arguments: u32) -> Result<Mode, OutOfMemory>
     ensures { let names = naming_of machine.old.me in
         let arguments = arguments_at machine.old.code (term_at machine.old.code) arguments in
         IfOk result (LeadsTo (λ a. super_news names a.shared arguments (party_of a machine.old))
@@ -129,8 +130,8 @@ pub fn begin_super_new(machine: &mut Machine, arguments: u32) -> Result<Mode, Ou
 }
 
 /// An object constructs with a new target, where it is a constructor, and a frame waits for what is to be `this`.
-fn parent_constructs(
-    machine: &mut Machine,
+fn parent_constructs<S: Store>(
+    machine: &mut Machine<S>,
     parent: Ref,
     target: Ref,
     args: List<Value>,
@@ -152,8 +153,8 @@ fn parent_constructs(
 }
 
 /// A value constructs with a new target.
-fn construct_by(
-    machine: &mut Machine,
+fn construct_by<S: Store>(
+    machine: &mut Machine<S>,
     parent: Value,
     target: Ref,
     args: List<Value>,
@@ -170,8 +171,8 @@ fn construct_by(
 }
 
 /// The parent constructs with the new target of the body that runs.
-fn super_construct(
-    machine: &mut Machine,
+fn super_construct<S: Store>(
+    machine: &mut Machine<S>,
     parent: Value,
     args: List<Value>,
 ) -> Result<Mode, OutOfMemory>
@@ -187,7 +188,7 @@ fn super_construct(
 }
 
 /// The parent below so many arguments constructs with them.
-pub fn apply_super_new(machine: &mut Machine, done: u32) -> Result<Mode, OutOfMemory>
+pub fn apply_super_new<S: Store>(machine: &mut Machine<S>, done: u32) -> Result<Mode, OutOfMemory>
     ensures { let args = args_on done machine.old.values in
         let below = drop done machine.old.values in
         let purpose = purpose_kind.SuperNew in
@@ -202,7 +203,7 @@ pub fn apply_super_new(machine: &mut Machine, done: u32) -> Result<Mode, OutOfMe
 
 /// The body that runs has its `this` (ECMA-262, BindThisValue).
 #[tactic(auto, using(js_machine::proofs::Reversed::reverse_push))]
-fn set_this(machine: &mut Machine, value: Value) -> Result<(), OutOfMemory>
+fn set_this<S: Store>(machine: &mut Machine<S>, value: Value) -> Result<(), OutOfMemory>
     ensures { let body = record (first_body machine.old.bodies) { this = Some value } in
         let bodies = replaces_body body machine.old.bodies in
         OnOk result (machine.new ≡ record machine.old { bodies = bodies }) }
@@ -215,7 +216,7 @@ fn set_this(machine: &mut Machine, value: Value) -> Result<(), OutOfMemory>
 }
 
 /// What a `super` call constructs is `this`, which is given; it is so only once (ECMA-262, BindThisValue).
-pub fn bind_this(machine: &mut Machine, value: Value) -> Result<Mode, OutOfMemory>
+pub fn bind_this<S: Store>(machine: &mut Machine<S>, value: Value) -> Result<Mode, OutOfMemory>
     ensures { let names = naming_of machine.old.me in
         let this = (first_body machine.old.bodies).this in
         IfOk result (LeadsTo (λ a. binds_this names a.shared this value (party_of a machine.old))
@@ -232,7 +233,7 @@ pub fn bind_this(machine: &mut Machine, value: Value) -> Result<Mode, OutOfMemor
 
 // ANSWERS
 /// The answer, where it is a prototype.
-pub fn prototype_in(machine: &Machine) -> Option<Option<Ref>>
+pub fn prototype_in<S: Store>(machine: &Machine<S>) -> Option<Option<Ref>>
     ensures { result ≡ prototype_in machine.now.answer }
 {
     match &machine.answer {

@@ -27,7 +27,6 @@ use js_machine::holding::Holding;
 use js_machine::js_run::intrinsics::{FUNCTION_PROTOTYPE, OBJECT_PROTOTYPE};
 use js_machine::keys::KnownKeys;
 use js_machine::machine::Machine;
-use js_store::flat::FlatStore;
 use js_store::slot::Slot;
 use js_store::store::{PLAIN_MARKS, Store};
 use js_text::text::Text;
@@ -37,8 +36,8 @@ use lava_base::memory::OutOfMemory;
 
 /// Makes the object that instances inherit from, and then the constructor (ECMA-262, MakeClassConstructor, MakeConstructor).
 #[tactic(auto, using(js_machine::proofs::Faulted::last_within))]
-fn add_class(
-    store: &mut FlatStore,
+fn add_class<S: Store>(
+    store: &mut S,
     keys: &KnownKeys,
     above: Option<Ref>,
     over: Ref,
@@ -47,13 +46,13 @@ fn add_class(
     arity: u32,
     name: Text,
 ) -> Result<(), OutOfMemory>
-    ensures made { let count = length store.old.objects in
-        let names = naming_of store.old.party.0 in
+    ensures made { let count = length (S.objects store.old) in
+        let names = naming_of (S.owner store.old).0 in
         let instance = class_instance above (names.own (suc count)) in
         let prototype = class_prototype (names.own count) in
         let function = new_function (Some over) constructor slot arity name (prototype ∷ []) in
-        OnOk result (store.new.objects ≡ (store.old.objects ++ instance ∷ []) ++ function ∷ []) }
-    ensures party { store.new.party ≡ store.old.party }
+        OnOk result (S.objects store.new ≡ (S.objects store.old ++ instance ∷ []) ++ function ∷ []) }
+    ensures party { S.owner store.new ≡ S.owner store.old }
 {
     let party = store.party();
     let instances = store.make(above, PLAIN_MARKS, Slot::Plain)?;
@@ -79,7 +78,7 @@ fn object_or_null(value: &Value) -> Option<Option<Ref>>
 }
 
 /// The row of a class.
-fn class_row(machine: &Machine, class: u32) -> ClassRow
+fn class_row<S: Store>(machine: &Machine<S>, class: u32) -> ClassRow
     ensures { result ≡ class_row machine.now.code class }
 {
     machine.code.class(class)
@@ -87,8 +86,8 @@ fn class_row(machine: &Machine, class: u32) -> ClassRow
 
 /// The template of a class's constructor (ECMA-262, ClassDefinitionEvaluation, step 14). Want of memory is answered too where a class without one has been added to the code since the machine was made.
 #[tactic(auto, unfolding(js_machine::specs::Defaults::KnowsTemplates))]
-fn constructor_template(
-    machine: &Machine,
+fn constructor_template<S: Store>(
+    machine: &Machine<S>,
     class: u32,
     row: ClassRow,
     derived: bool,
@@ -108,7 +107,7 @@ fn constructor_template(
 }
 
 /// The object after the next one.
-fn second_own(machine: &Machine) -> Result<Ref, OutOfMemory>
+fn second_own<S: Store>(machine: &Machine<S>) -> Result<Ref, OutOfMemory>
     ensures { IfOk result (λ r. r ≡ second_own machine.now) }
 {
     let count = machine.store.count();
@@ -120,8 +119,8 @@ fn second_own(machine: &Machine) -> Result<Ref, OutOfMemory>
 
 /// Makes a class (ECMA-262, MakeClassConstructor).
 #[tactic(auto, using(js_machine::proofs::Reversed::reverse_push))]
-fn make_class(
-    machine: &mut Machine,
+fn make_class<S: Store>(
+    machine: &mut Machine<S>,
     template: u32,
     above: Option<Ref>,
     over: Ref,
@@ -146,8 +145,8 @@ fn make_class(
 }
 
 /// A class is made, and its parts begin (ECMA-262, ClassDefinitionEvaluation).
-fn define_class(
-    machine: &mut Machine,
+fn define_class<S: Store>(
+    machine: &mut Machine<S>,
     class: u32,
     row: ClassRow,
     derived: bool,
@@ -166,8 +165,8 @@ fn define_class(
 }
 
 /// What `prototype` of the parent is, is there (ECMA-262, ClassDefinitionEvaluation, step 8).
-fn class_above(
-    machine: &mut Machine,
+fn class_above<S: Store>(
+    machine: &mut Machine<S>,
     class: u32,
     parent: Ref,
     value: Value,
@@ -185,7 +184,7 @@ fn class_above(
 }
 
 /// A parent is asked for its `prototype`.
-fn ask_prototype(machine: &mut Machine, class: u32, parent: Ref) -> Result<Mode, OutOfMemory>
+fn ask_prototype<S: Store>(machine: &mut Machine<S>, class: u32, parent: Ref) -> Result<Mode, OutOfMemory>
     ensures { let names = naming_of machine.old.me in
         let code = machine.old.code in
         let get = ask_kind.Get prototype_key (value_kind.Ref parent) in
@@ -203,7 +202,7 @@ fn ask_prototype(machine: &mut Machine, class: u32, parent: Ref) -> Result<Mode,
 }
 
 /// The parent of a class is an object: its `prototype` is asked for, where it constructs.
-fn class_over(machine: &mut Machine, class: u32, parent: Ref) -> Result<Mode, OutOfMemory>
+fn class_over<S: Store>(machine: &mut Machine<S>, class: u32, parent: Ref) -> Result<Mode, OutOfMemory>
     ensures { let names = naming_of machine.old.me in
         let code = machine.old.code in
         IfOk result (LeadsTo (λ a. parent_comes names a.shared code class (value_kind.Ref parent)
@@ -216,7 +215,7 @@ fn class_over(machine: &mut Machine, class: u32, parent: Ref) -> Result<Mode, Ou
 }
 
 /// The parent of a class is an object or null.
-fn class_under(machine: &mut Machine, class: u32, parent: Option<Ref>) -> Result<Mode, OutOfMemory>
+fn class_under<S: Store>(machine: &mut Machine<S>, class: u32, parent: Option<Ref>) -> Result<Mode, OutOfMemory>
     ensures { let names = naming_of machine.old.me in
         let code = machine.old.code in
         IfOk result (LeadsTo (λ a. parent_comes names a.shared code class (proto_value parent)
@@ -233,7 +232,7 @@ fn class_under(machine: &mut Machine, class: u32, parent: Option<Ref>) -> Result
 }
 
 /// The parent of a class comes (ECMA-262, ClassDefinitionEvaluation, step 8).
-pub fn parent_comes(machine: &mut Machine, class: u32, value: Value) -> Result<Mode, OutOfMemory>
+pub fn parent_comes<S: Store>(machine: &mut Machine<S>, class: u32, value: Value) -> Result<Mode, OutOfMemory>
     ensures { let names = naming_of machine.old.me in
         let code = machine.old.code in
         IfOk result (LeadsTo (λ a. parent_comes names a.shared code class value
@@ -246,8 +245,8 @@ pub fn parent_comes(machine: &mut Machine, class: u32, value: Value) -> Result<M
 }
 
 /// What `prototype` of the parent is comes to the frame that has the parent.
-pub fn class_prototype_comes(
-    machine: &mut Machine,
+pub fn class_prototype_comes<S: Store>(
+    machine: &mut Machine<S>,
     class: u32,
     value: Value,
 ) -> Result<Mode, OutOfMemory>
@@ -260,7 +259,7 @@ pub fn class_prototype_comes(
 }
 
 /// A class begins.
-pub fn begin_class(machine: &mut Machine, class: u32) -> Result<Mode, OutOfMemory>
+pub fn begin_class<S: Store>(machine: &mut Machine<S>, class: u32) -> Result<Mode, OutOfMemory>
     ensures { let names = naming_of machine.old.me in
         let code = machine.old.code in
         let row = class_row code class in

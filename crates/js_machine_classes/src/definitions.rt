@@ -45,7 +45,7 @@ fn length_said(property: Option<&Descriptor>) -> Result<u32, OutOfMemory>
 }
 
 /// The id of an own object.
-pub fn own_id(machine: &Machine, object: Ref) -> Option<ObjId>
+pub fn own_id<S: Store>(machine: &Machine<S>, object: Ref) -> Option<ObjId>
     ensures own { IfSome result (λ id. (naming_of machine.now.me).origin object ≡ Own id.0) }
     ensures within { IfSome result (λ id. id.0 < length machine.now.objects) }
 {
@@ -61,8 +61,8 @@ pub fn own_id(machine: &Machine, object: Ref) -> Option<ObjId>
 }
 
 /// What a definition makes of a property of an own object.
-fn definition(
-    machine: &Machine,
+fn definition<S: Store>(
+    machine: &Machine<S>,
     id: ObjId,
     key: &Key,
     fields: &PartialDescriptor,
@@ -75,8 +75,8 @@ fn definition(
 }
 
 /// A property of an own object changes.
-fn change_property(
-    machine: &mut Machine,
+fn change_property<S: Store>(
+    machine: &mut Machine<S>,
     id: ObjId,
     key: Key,
     change: Change,
@@ -89,8 +89,8 @@ fn change_property(
 }
 
 /// A property of an own object is defined; whether nothing forbids it (ECMA-262, DefinePropertyOrThrow).
-pub fn define_own(
-    machine: &mut Machine,
+pub fn define_own<S: Store>(
+    machine: &mut Machine<S>,
     id: ObjId,
     key: Key,
     fields: &PartialDescriptor,
@@ -110,7 +110,7 @@ pub fn define_own(
 }
 
 /// How many items an own array has.
-fn items(machine: &Machine, id: ObjId) -> Result<u32, OutOfMemory>
+fn items<S: Store>(machine: &Machine<S>, id: ObjId) -> Result<u32, OutOfMemory>
     requires { id.0 < length machine.now.objects }
     ensures { IfOk result (λ n. n ≡ items_in machine.now id.0) }
 {
@@ -118,7 +118,7 @@ fn items(machine: &Machine, id: ObjId) -> Result<u32, OutOfMemory>
 }
 
 /// An own array has another number of items.
-fn set_length(machine: &mut Machine, id: ObjId, count: u32) -> Result<(), OutOfMemory>
+fn set_length<S: Store>(machine: &mut Machine<S>, id: ObjId, count: u32) -> Result<(), OutOfMemory>
     requires { id.0 < length machine.old.objects }
     ensures { OnOk result (machine.new ≡ with_length id.0 count machine.old) }
 {
@@ -133,7 +133,7 @@ fn set_length(machine: &mut Machine, id: ObjId, count: u32) -> Result<(), OutOfM
 }
 
 /// An own array has one place more, which is empty (ECMA-262, ArrayAccumulation, of an Elision).
-pub fn add_hole(machine: &mut Machine, id: ObjId) -> Result<(), OutOfMemory>
+pub fn add_hole<S: Store>(machine: &mut Machine<S>, id: ObjId) -> Result<(), OutOfMemory>
     requires { id.0 < length machine.old.objects }
     ensures { OnOk result (machine.new ≡ with_hole id.0 machine.old) }
 {
@@ -145,7 +145,7 @@ pub fn add_hole(machine: &mut Machine, id: ObjId) -> Result<(), OutOfMemory>
 }
 
 /// An own array has one item more (ECMA-262, ArrayAccumulation, of an AssignmentExpression).
-pub fn add_item(machine: &mut Machine, id: ObjId, value: Value) -> Result<(), OutOfMemory>
+pub fn add_item<S: Store>(machine: &mut Machine<S>, id: ObjId, value: Value) -> Result<(), OutOfMemory>
     requires { id.0 < length machine.old.objects }
     ensures { OnOk result (machine.new ≡ with_item id.0 value machine.old) }
 {

@@ -146,7 +146,7 @@ fn pair(alloc: Global, first: Value, second: Value) -> Result<List<Value>, OutOf
 }
 
 /// The row of a part.
-fn part(machine: &Machine, at: u32) -> PartRow
+fn part<S: Store>(machine: &Machine<S>, at: u32) -> PartRow
     ensures { result ≡ part_at machine.now.code at }
 {
     machine.code.part(at)
@@ -154,7 +154,7 @@ fn part(machine: &Machine, at: u32) -> PartRow
 
 /// How many there are of so many parts from a place on.
 #[tactic(auto, using(crate::proofs::Parted::part_most, crate::proofs::Parted::part_within))]
-fn parts_there(machine: &Machine, start: u32, count: u32) -> Result<u32, OutOfMemory>
+fn parts_there<S: Store>(machine: &Machine<S>, start: u32, count: u32) -> Result<u32, OutOfMemory>
     ensures there { let part = part_of start count machine.now.code.parts in
         IfOk result (λ n. n ≡ length part) }
     ensures fits { IfOk result (λ n. start + n ≤ 4294967296) }
@@ -168,7 +168,7 @@ fn parts_there(machine: &Machine, start: u32, count: u32) -> Result<u32, OutOfMe
 }
 
 /// The objects on which parts are defined come on the stack of values.
-fn hold(machine: &mut Machine, holding: Holding) -> Result<(), OutOfMemory>
+fn hold<S: Store>(machine: &mut Machine<S>, holding: Holding) -> Result<(), OutOfMemory>
     ensures { OnOk result (machine.new ≡ with_held holding machine.old) }
 {
     machine.push(Value::Ref(holding.instance))?;
@@ -176,7 +176,7 @@ fn hold(machine: &mut Machine, holding: Holding) -> Result<(), OutOfMemory>
 }
 
 /// The objects on which parts are defined are taken off the stack of values.
-fn take_holding(machine: &mut Machine, enumerable: bool) -> Holding
+fn take_holding<S: Store>(machine: &mut Machine<S>, enumerable: bool) -> Holding
     ensures held { result ≡ holding_on enumerable machine.old.values }
     ensures rest { machine.new ≡ record machine.old { values = drop 2 machine.old.values } }
 {
@@ -190,7 +190,7 @@ fn take_holding(machine: &mut Machine, enumerable: bool) -> Holding
 }
 
 /// An array has one place more, which is empty.
-fn add_hole_to(machine: &mut Machine, array: Ref) -> Result<(), OutOfMemory>
+fn add_hole_to<S: Store>(machine: &mut Machine<S>, array: Ref) -> Result<(), OutOfMemory>
     ensures hole { OnOk result (HasHole array machine.old machine.new) }
     ensures rest { OnOk result (HasOtherObjects machine.old machine.new) }
 {
@@ -202,7 +202,7 @@ fn add_hole_to(machine: &mut Machine, array: Ref) -> Result<(), OutOfMemory>
 }
 
 /// An array has one item more.
-fn add_item_to(machine: &mut Machine, array: Ref, value: Value) -> Result<(), OutOfMemory>
+fn add_item_to<S: Store>(machine: &mut Machine<S>, array: Ref, value: Value) -> Result<(), OutOfMemory>
     ensures item { OnOk result (HasItem array value machine.old machine.new) }
     ensures rest { OnOk result (HasOtherObjects machine.old machine.new) }
 {
@@ -214,8 +214,8 @@ fn add_item_to(machine: &mut Machine, array: Ref, value: Value) -> Result<(), Ou
 }
 
 /// A property is defined; whether nothing forbids it.
-fn define_in(
-    machine: &mut Machine,
+fn define_in<S: Store>(
+    machine: &mut Machine<S>,
     object: Ref,
     key: Key,
     fields: &PartialDescriptor,
@@ -232,8 +232,8 @@ fn define_in(
 }
 
 /// The holes that stand first are added to an array, and how many these are.
-fn add_holes(
-    machine: &mut Machine,
+fn add_holes<S: Store>(
+    machine: &mut Machine<S>,
     holding: Holding,
     start: u32,
     count: u32,
@@ -255,8 +255,8 @@ fn add_holes(
 }
 
 /// A part begins, behind which so many stand.
-fn begin_part(
-    machine: &mut Machine,
+fn begin_part<S: Store>(
+    machine: &mut Machine<S>,
     holding: Holding,
     at: u32,
     left: u32,
@@ -284,8 +284,8 @@ fn begin_part(
 }
 
 /// The next part begins; what all are for is given where there is no other (ECMA-262, PropertyDefinitionEvaluation).
-pub fn next_part(
-    machine: &mut Machine,
+pub fn next_part<S: Store>(
+    machine: &mut Machine<S>,
     holding: Holding,
     start: u32,
     count: u32,
@@ -304,8 +304,8 @@ pub fn next_part(
 }
 
 /// The part behind one begins.
-fn part_behind(
-    machine: &mut Machine,
+fn part_behind<S: Store>(
+    machine: &mut Machine<S>,
     holding: Holding,
     at: u32,
     left: u32,
@@ -322,8 +322,8 @@ fn part_behind(
 }
 
 /// A property is defined, and the part behind it begins.
-fn define_part(
-    machine: &mut Machine,
+fn define_part<S: Store>(
+    machine: &mut Machine<S>,
     holding: Holding,
     at: u32,
     left: u32,
@@ -343,8 +343,8 @@ fn define_part(
 }
 
 /// The value of a part comes, whose key is there.
-fn define_value(
-    machine: &mut Machine,
+fn define_value<S: Store>(
+    machine: &mut Machine<S>,
     holding: Holding,
     at: u32,
     left: u32,
@@ -362,8 +362,8 @@ fn define_value(
 }
 
 /// The key of a part comes, whose value begins.
-fn part_key_comes(
-    machine: &mut Machine,
+fn part_key_comes<S: Store>(
+    machine: &mut Machine<S>,
     holding: Holding,
     at: u32,
     left: u32,
@@ -391,8 +391,8 @@ fn part_key_comes(
 }
 
 /// The key of a part with a function comes: the function is made, and defined on its home (ECMA-262, MethodDefinitionEvaluation).
-fn function_comes(
-    machine: &mut Machine,
+fn function_comes<S: Store>(
+    machine: &mut Machine<S>,
     holding: Holding,
     at: u32,
     left: u32,
@@ -415,7 +415,7 @@ fn function_comes(
 }
 
 /// Whether an own object is an array.
-fn is_array(machine: &Machine, id: ObjId) -> bool
+fn is_array<S: Store>(machine: &Machine<S>, id: ObjId) -> bool
     requires { id.0 < length machine.now.objects }
     ensures { result ≡ is_array (object_at machine.now.objects id.0) }
 {
@@ -423,7 +423,7 @@ fn is_array(machine: &Machine, id: ObjId) -> bool
 }
 
 /// The helper that copies into an object.
-fn helper_into(machine: &Machine, object: Ref) -> Result<Ref, OutOfMemory>
+fn helper_into<S: Store>(machine: &Machine<S>, object: Ref) -> Result<Ref, OutOfMemory>
     ensures { IfOk result (λ r. r ≡ helper_into machine.now object) }
 {
     match own_id(machine, object) {
@@ -434,8 +434,8 @@ fn helper_into(machine: &Machine, object: Ref) -> Result<Ref, OutOfMemory>
 }
 
 /// What is spread comes: a helper copies its properties into an object, or its items into an array.
-fn spread(
-    machine: &mut Machine,
+fn spread<S: Store>(
+    machine: &mut Machine<S>,
     holding: Holding,
     at: u32,
     left: u32,
@@ -462,8 +462,8 @@ fn spread(
 }
 
 /// An item comes (ECMA-262, ArrayAccumulation).
-fn item_comes(
-    machine: &mut Machine,
+fn item_comes<S: Store>(
+    machine: &mut Machine<S>,
     holding: Holding,
     at: u32,
     left: u32,
@@ -480,8 +480,8 @@ fn item_comes(
 }
 
 /// The key of a part is an object, which becomes a primitive value.
-fn convert_part(
-    machine: &mut Machine,
+fn convert_part<S: Store>(
+    machine: &mut Machine<S>,
     holding: Holding,
     at: u32,
     left: u32,
@@ -504,8 +504,8 @@ fn convert_part(
 }
 
 /// The first operand of a part comes, which is a key and an object, or no object.
-fn operand_comes_to(
-    machine: &mut Machine,
+fn operand_comes_to<S: Store>(
+    machine: &mut Machine<S>,
     holding: Holding,
     at: u32,
     left: u32,
@@ -527,8 +527,8 @@ fn operand_comes_to(
 }
 
 /// The key of a part has become a primitive value.
-fn part_primitive(
-    machine: &mut Machine,
+fn part_primitive<S: Store>(
+    machine: &mut Machine<S>,
     enumerable: bool,
     at: u32,
     left: u32,
@@ -547,8 +547,8 @@ fn part_primitive(
 }
 
 /// What became of the key of a part goes on, where it is a primitive value (ECMA-262, ToPropertyKey, steps 2 and 3).
-pub fn reach_part(
-    machine: &mut Machine,
+pub fn reach_part<S: Store>(
+    machine: &mut Machine<S>,
     enumerable: bool,
     at: u32,
     left: u32,
@@ -567,8 +567,8 @@ pub fn reach_part(
 }
 
 /// The first operand of a part comes.
-fn part_comes(
-    machine: &mut Machine,
+fn part_comes<S: Store>(
+    machine: &mut Machine<S>,
     holding: Holding,
     at: u32,
     left: u32,
@@ -642,8 +642,8 @@ fn part_comes(
 }
 
 /// The object comes on which parts are defined (ECMA-262, "Object Initializer", "Array Initializer").
-pub fn define_comes(
-    machine: &mut Machine,
+pub fn define_comes<S: Store>(
+    machine: &mut Machine<S>,
     start: u32,
     count: u32,
     value: Value,
@@ -667,8 +667,8 @@ pub fn define_comes(
 }
 
 /// The first operand of a part comes to the frame that has the objects on which parts are defined.
-pub fn part_operand_comes(
-    machine: &mut Machine,
+pub fn part_operand_comes<S: Store>(
+    machine: &mut Machine<S>,
     enumerable: bool,
     at: u32,
     left: u32,
@@ -683,8 +683,8 @@ pub fn part_operand_comes(
 }
 
 /// The value of a part comes to the frame that has its key and the objects on which parts are defined.
-pub fn part_value_comes(
-    machine: &mut Machine,
+pub fn part_value_comes<S: Store>(
+    machine: &mut Machine<S>,
     enumerable: bool,
     at: u32,
     left: u32,
@@ -700,8 +700,8 @@ pub fn part_value_comes(
 }
 
 /// The parts go on, whatever value comes.
-pub fn parts_follow(
-    machine: &mut Machine,
+pub fn parts_follow<S: Store>(
+    machine: &mut Machine<S>,
     enumerable: bool,
     start: u32,
     count: u32,

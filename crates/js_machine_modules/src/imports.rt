@@ -14,12 +14,13 @@ use crate::require_calls::{begun, module_at, not_found, numbered};
 use js_machine::asked::Imported;
 use js_machine::frame::{Frame, Mode};
 use js_machine::machine::Machine;
+use js_store::store::Store;
 use js_text::text::Text;
 use lava_base::list::List;
 use lava_base::memory::OutOfMemory;
 
 /// The number of the module that another party imports; the empty path is the main module's.
-fn imported_module(machine: &Machine, path: &[u16]) -> Result<Option<u32>, OutOfMemory>
+fn imported_module<S: Store>(machine: &Machine<S>, path: &[u16]) -> Result<Option<u32>, OutOfMemory>
     ensures { let own = machine.now.own_package in
         IfOk result (λ n. n ≡ imported_place own.modules own.main path.now) }
 {
@@ -30,7 +31,7 @@ fn imported_module(machine: &Machine, path: &[u16]) -> Result<Option<u32>, OutOf
 }
 
 /// A module that is there is imported; of one that has begun, what `exports` is at that moment.
-fn import_numbered(machine: &mut Machine, number: u32, request: &[u16]) -> Result<Mode, OutOfMemory>
+fn import_numbered<S: Store>(machine: &mut Machine<S>, number: u32, request: &[u16]) -> Result<Mode, OutOfMemory>
     ensures { let names = naming_of machine.old.me in
         IfOk result (LeadsTo (λ a. let p = party_of a machine.old in
         imports_there names request.now (Some number) (loaded_at names (Some number) p) p)
@@ -44,8 +45,8 @@ fn import_numbered(machine: &mut Machine, number: u32, request: &[u16]) -> Resul
 }
 
 /// A module is imported, where there is one.
-fn import_there(
-    machine: &mut Machine,
+fn import_there<S: Store>(
+    machine: &mut Machine<S>,
     number: Option<u32>,
     request: &[u16],
 ) -> Result<Mode, OutOfMemory>
@@ -61,7 +62,7 @@ fn import_there(
 }
 
 /// The module that a link and a path name is imported.
-fn import_module(machine: &mut Machine, link: &Text, path: &Text) -> Result<Mode, OutOfMemory>
+fn import_module<S: Store>(machine: &mut Machine<S>, link: &Text, path: &Text) -> Result<Mode, OutOfMemory>
     ensures { let names = naming_of machine.old.me in
         IfOk result (LeadsTo (λ a. imports names link.now path.now (party_of a machine.old))
         machine.old machine.new) }
@@ -74,7 +75,7 @@ fn import_module(machine: &mut Machine, link: &Text, path: &Text) -> Result<Mode
 }
 
 /// What an import of another party runs, which names the link and the path that it imports.
-pub fn import(machine: &mut Machine, link: &Text, path: &Text) -> Result<Mode, OutOfMemory>
+pub fn import<S: Store>(machine: &mut Machine<S>, link: &Text, path: &Text) -> Result<Mode, OutOfMemory>
     requires { machine.now.frames ≡ [] }
     ensures { IfOk result (IsImported link.now path.now machine.old machine.new) }
 {
@@ -82,7 +83,7 @@ pub fn import(machine: &mut Machine, link: &Text, path: &Text) -> Result<Mode, O
 }
 
 /// The import that is sent, once more.
-pub fn sent_import(machine: &Machine) -> Result<Imported, OutOfMemory>
+pub fn sent_import<S: Store>(machine: &Machine<S>) -> Result<Imported, OutOfMemory>
     ensures { IfOk result (λ x. x ≡ machine.now.imported) }
 {
     Ok(Imported {

@@ -29,7 +29,6 @@ use js_machine::js_run::intrinsics::{FUNCTION_PROTOTYPE, OBJECT_PROTOTYPE};
 use js_machine::machine::Machine;
 use js_machine::modules::ModuleObjects;
 use js_machine::package::Module;
-use js_store::flat::FlatStore;
 use js_store::slot::{Held, Slot};
 use js_store::store::{PLAIN_MARKS, Store};
 use js_term::term::TemplateKind;
@@ -56,11 +55,11 @@ fn exports_key(alloc: Global) -> Result<Key, OutOfMemory>
 }
 
 /// Makes an object without properties (ECMA-262, OrdinaryObjectCreate).
-fn add_plain(store: &mut FlatStore) -> Result<ObjId, OutOfMemory>
-    ensures id { IfOk result (λ id. id.0 ≡ length store.old.objects) }
-    ensures made { let object = plain_object (naming_of store.old.party.0) [] in
-        OnOk result (store.new.objects ≡ store.old.objects ++ object ∷ []) }
-    ensures party { store.new.party ≡ store.old.party }
+fn add_plain<S: Store>(store: &mut S) -> Result<ObjId, OutOfMemory>
+    ensures id { IfOk result (λ id. id.0 ≡ length (S.objects store.old)) }
+    ensures made { let object = plain_object (naming_of (S.owner store.old).0) [] in
+        OnOk result (S.objects store.new ≡ S.objects store.old ++ object ∷ []) }
+    ensures party { S.owner store.new ≡ S.owner store.old }
 {
     let root = Some(Ref::Common(CommonId(OBJECT_PROTOTYPE)));
     store.make(root, PLAIN_MARKS, Slot::Plain)
@@ -68,13 +67,13 @@ fn add_plain(store: &mut FlatStore) -> Result<ObjId, OutOfMemory>
 
 /// Makes a module object, which has `exports`.
 #[tactic(auto, using(js_machine::proofs::Faulted::last_within))]
-fn add_module(store: &mut FlatStore, key: Key, exports: Value) -> Result<ObjId, OutOfMemory>
+fn add_module<S: Store>(store: &mut S, key: Key, exports: Value) -> Result<ObjId, OutOfMemory>
     requires { key ≡ exports_key }
-    ensures id { IfOk result (λ id. id.0 ≡ length store.old.objects) }
+    ensures id { IfOk result (λ id. id.0 ≡ length (S.objects store.old)) }
     ensures made { let property = open_property exports_key exports in
-        let object = plain_object (naming_of store.old.party.0) (property ∷ []) in
-        OnOk result (store.new.objects ≡ store.old.objects ++ object ∷ []) }
-    ensures party { store.new.party ≡ store.old.party }
+        let object = plain_object (naming_of (S.owner store.old).0) (property ∷ []) in
+        OnOk result (S.objects store.new ≡ S.objects store.old ++ object ∷ []) }
+    ensures party { S.owner store.new ≡ S.owner store.old }
 {
     let root = Some(Ref::Common(CommonId(OBJECT_PROTOTYPE)));
     let id = store.make(root, PLAIN_MARKS, Slot::Plain)?;
@@ -110,7 +109,7 @@ fn module_body(exports: Ref) -> Body
 }
 
 /// Makes the `exports` of a module.
-fn make_exports(machine: &mut Machine) -> Result<u32, OutOfMemory>
+fn make_exports<S: Store>(machine: &mut Machine<S>) -> Result<u32, OutOfMemory>
     ensures number { IfOk result (λ n. n ≡ length machine.old.objects) }
     ensures made { let object = plain_object (naming_of machine.old.me) [] in
         OnOk result (machine.new ≡ with_object object machine.old) }
@@ -120,7 +119,7 @@ fn make_exports(machine: &mut Machine) -> Result<u32, OutOfMemory>
 }
 
 /// Makes the module object of a module, which has its `exports`.
-fn make_module(machine: &mut Machine, exports: u32) -> Result<u32, OutOfMemory>
+fn make_module<S: Store>(machine: &mut Machine<S>, exports: u32) -> Result<u32, OutOfMemory>
     ensures number { IfOk result (λ n. n ≡ length machine.old.objects) }
     ensures made { let names = naming_of machine.old.me in
         let property = open_property exports_key (value_kind.Ref (names.own exports)) in
@@ -133,7 +132,7 @@ fn make_module(machine: &mut Machine, exports: u32) -> Result<u32, OutOfMemory>
 }
 
 /// Makes the `require` of a module (LavaMoat, require).
-fn make_require(machine: &mut Machine, number: u32) -> Result<u32, OutOfMemory>
+fn make_require<S: Store>(machine: &mut Machine<S>, number: u32) -> Result<u32, OutOfMemory>
     ensures number { IfOk result (λ n. n ≡ length machine.old.objects) }
     ensures made { let object = require_function (naming_of machine.old.me) number in
         OnOk result (machine.new ≡ with_object object machine.old) }
@@ -150,7 +149,7 @@ fn make_require(machine: &mut Machine, number: u32) -> Result<u32, OutOfMemory>
 }
 
 /// Makes the three objects of a module.
-fn make_module_objects(machine: &mut Machine, number: u32) -> Result<ModuleObjects, OutOfMemory>
+fn make_module_objects<S: Store>(machine: &mut Machine<S>, number: u32) -> Result<ModuleObjects, OutOfMemory>
     ensures numbers { IfOk result (λ o. o ≡ numbers_from (length machine.old.objects)) }
     ensures made { OnOk result (machine.new ≡ with_module_objects number machine.old) }
 {
@@ -165,8 +164,8 @@ fn make_module_objects(machine: &mut Machine, number: u32) -> Result<ModuleObjec
 }
 
 /// Opens the scope of a module's body, which has what the module is given (ECMA-262, InitializeEnvironment of a module).
-fn open_module_scope(
-    machine: &mut Machine,
+fn open_module_scope<S: Store>(
+    machine: &mut Machine<S>,
     at: u32,
     objects: ModuleObjects,
 ) -> Result<u32, OutOfMemory>
@@ -189,8 +188,8 @@ fn open_module_scope(
 }
 
 /// A module has another standing. Want of memory is answered too where there is no such module.
-fn set_module(
-    machine: &mut Machine,
+fn set_module<S: Store>(
+    machine: &mut Machine<S>,
     number: u32,
     path: Text,
     template: u32,
@@ -211,7 +210,7 @@ fn set_module(
 }
 
 /// The path of a module and the place of its template. Want of memory is answered too where there is no such module.
-fn source(machine: &Machine, number: u32) -> Result<(Text, u32), OutOfMemory>
+fn source<S: Store>(machine: &Machine<S>, number: u32) -> Result<(Text, u32), OutOfMemory>
     ensures path { let there = module_numbered machine.now number in
         IfOk result (λ s. s.0 ≡ there.path) }
     ensures template { let there = module_numbered machine.now number in
@@ -224,7 +223,7 @@ fn source(machine: &Machine, number: u32) -> Result<(Text, u32), OutOfMemory>
 }
 
 /// A module is evaluated that has not begun (ECMA-262, Evaluate of a module).
-pub fn evaluate_module(machine: &mut Machine, number: u32) -> Result<Mode, OutOfMemory>
+pub fn evaluate_module<S: Store>(machine: &mut Machine<S>, number: u32) -> Result<Mode, OutOfMemory>
     ensures { let names = naming_of machine.old.me in
         let loaded = unbegun machine.old number in
         IfOk result (LeadsTo (λ a. evaluates_module names number loaded (party_of a machine.old))
@@ -248,7 +247,7 @@ pub fn evaluate_module(machine: &mut Machine, number: u32) -> Result<Mode, OutOf
 }
 
 /// A Get of `exports` at a module object.
-fn exports_ask(machine: &Machine, object: u32) -> Result<Ask, OutOfMemory>
+fn exports_ask<S: Store>(machine: &Machine<S>, object: u32) -> Result<Ask, OutOfMemory>
     ensures { let receiver = value_kind.Ref ((naming_of machine.now.me).own object) in
         IfOk result (λ x. x ≡ ask_kind.Get exports_key receiver) }
 {
@@ -258,7 +257,7 @@ fn exports_ask(machine: &Machine, object: u32) -> Result<Ask, OutOfMemory>
 }
 
 /// The `exports` of a module that has begun is waited for.
-pub fn wait_for_exports(machine: &mut Machine, object: u32) -> Result<Mode, OutOfMemory>
+pub fn wait_for_exports<S: Store>(machine: &mut Machine<S>, object: u32) -> Result<Mode, OutOfMemory>
     ensures { let names = naming_of machine.old.me in
         IfOk result (LeadsTo (λ a. waits_for_exports names object (party_of a machine.old))
         machine.old machine.new) }
@@ -268,7 +267,7 @@ pub fn wait_for_exports(machine: &mut Machine, object: u32) -> Result<Mode, OutO
 }
 
 /// The `exports` of a module object is asked for, and a frame waits.
-pub fn get_exports(machine: &mut Machine, object: u32, frame: Frame) -> Result<Mode, OutOfMemory>
+pub fn get_exports<S: Store>(machine: &mut Machine<S>, object: u32, frame: Frame) -> Result<Mode, OutOfMemory>
     ensures { let names = naming_of machine.old.me in
         IfOk result (LeadsTo (λ a. get_exports names object (party_of a machine.old)
         (over frame machine.old a)) (under frame machine.old) machine.new) }
@@ -278,7 +277,7 @@ pub fn get_exports(machine: &mut Machine, object: u32, frame: Frame) -> Result<M
 }
 
 /// An import is sent over a link, and what comes is waited for.
-fn send_import(machine: &mut Machine, link: Text, path: Text) -> Result<Mode, OutOfMemory>
+fn send_import<S: Store>(machine: &mut Machine<S>, link: Text, path: Text) -> Result<Mode, OutOfMemory>
     ensures mode { IfOk result (λ m. m ≡ mode_kind.Import) }
     ensures sent { OnOk result (machine.new ≡ import_sent link path machine.old) }
 {
@@ -293,22 +292,22 @@ fn send_import(machine: &mut Machine, link: Text, path: Text) -> Result<Mode, Ou
 }
 
 /// Whether it is one of the package's links.
-fn has_link(machine: &Machine, link: &Text) -> bool
+fn has_link<S: Store>(machine: &Machine<S>, link: &Text) -> bool
     ensures { result ≡ is_link link.now machine.now.own_package.links }
 {
     is_link(link, &machine.own_package.links)
 }
 
 /// Whether the party may import over a link.
-fn may_import(machine: &Machine, link: &Text) -> bool
+fn may_import<S: Store>(machine: &Machine<S>, link: &Text) -> bool
     ensures { result ≡ is_link link.now machine.now.allowed }
 {
     is_link(link, &machine.allowed)
 }
 
 /// A module is imported over one of the package's links, where that is allowed.
-fn import_over(
-    machine: &mut Machine,
+fn import_over<S: Store>(
+    machine: &mut Machine<S>,
     link: Text,
     path: Text,
     request: &[u16],
@@ -327,8 +326,8 @@ fn import_over(
 }
 
 /// A module of another package is required (LavaMoat policy, packages).
-pub fn require_package(
-    machine: &mut Machine,
+pub fn require_package<S: Store>(
+    machine: &mut Machine<S>,
     link: Text,
     path: Text,
     request: &[u16],
@@ -344,7 +343,7 @@ pub fn require_package(
 }
 
 /// Takes a text off the stack. Want of memory is answered too where there is none.
-fn take_text(machine: &mut Machine) -> Result<Text, OutOfMemory>
+fn take_text<S: Store>(machine: &mut Machine<S>) -> Result<Text, OutOfMemory>
     ensures text { IfOk result (λ t. t ≡ text_of (top machine.old.values)) }
     ensures rest { OnOk result (machine.new ≡ record machine.old {
       values = below machine.old.values;
@@ -357,7 +356,7 @@ fn take_text(machine: &mut Machine) -> Result<Text, OutOfMemory>
 }
 
 /// A module whose body or whose `exports` threw counts as not begun.
-fn module_throws(machine: &mut Machine, number: u32, template: u32) -> Result<Mode, OutOfMemory>
+fn module_throws<S: Store>(machine: &mut Machine<S>, number: u32, template: u32) -> Result<Mode, OutOfMemory>
     ensures mode { IfOk result (λ m. m ≡ mode_kind.Throw) }
     ensures state { OnOk result (machine.new ≡ module_threw number template machine.old) }
 {
@@ -370,7 +369,7 @@ fn module_throws(machine: &mut Machine, number: u32, template: u32) -> Result<Mo
 }
 
 /// A module is over, with its `exports`.
-fn module_gives(machine: &mut Machine) -> Result<Mode, OutOfMemory>
+fn module_gives<S: Store>(machine: &mut Machine<S>) -> Result<Mode, OutOfMemory>
     ensures mode { IfOk result (λ m. m ≡ mode_kind.Value) }
     ensures state { OnOk result (machine.new ≡ module_over machine.old) }
 {
@@ -382,8 +381,8 @@ fn module_gives(machine: &mut Machine) -> Result<Mode, OutOfMemory>
 }
 
 /// The body of a module is over, and `exports` is asked for.
-pub fn deliver_module_body(
-    machine: &mut Machine,
+pub fn deliver_module_body<S: Store>(
+    machine: &mut Machine<S>,
     number: u32,
     template: u32,
     object: u32,
@@ -401,8 +400,8 @@ pub fn deliver_module_body(
 }
 
 /// The `exports` of a module whose body is over comes.
-pub fn deliver_module_ends(
-    machine: &mut Machine,
+pub fn deliver_module_ends<S: Store>(
+    machine: &mut Machine<S>,
     number: u32,
     template: u32,
     mode: Mode,

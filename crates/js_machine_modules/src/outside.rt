@@ -92,7 +92,7 @@ fn number_value(number: u64) -> Result<Value, OutOfMemory>
 }
 
 /// A value as the host prints it.
-fn printed(machine: &Machine, value: &Value) -> Result<Text, OutOfMemory>
+fn printed<S: Store>(machine: &Machine<S>, value: &Value) -> Result<Text, OutOfMemory>
     ensures { IfOk result (λ text. text ≡ printed_in machine.now value.now) }
 {
     match value {
@@ -102,7 +102,7 @@ fn printed(machine: &Machine, value: &Value) -> Result<Text, OutOfMemory>
 }
 
 /// Values as the host prints them.
-fn printed_all(machine: &Machine, values: &[Value]) -> Result<List<Text>, OutOfMemory>
+fn printed_all<S: Store>(machine: &Machine<S>, values: &[Value]) -> Result<List<Text>, OutOfMemory>
     ensures { IfOk result (λ texts. texts ≡ map (printed_in machine.now) values.now) }
 {
     let mut texts = List::new(machine.alloc);
@@ -113,7 +113,7 @@ fn printed_all(machine: &Machine, values: &[Value]) -> Result<List<Text>, OutOfM
 }
 
 /// The arguments of the call that is asked, as the host prints them.
-fn printed_arguments(machine: &Machine) -> Result<List<Text>, OutOfMemory>
+fn printed_arguments<S: Store>(machine: &Machine<S>) -> Result<List<Text>, OutOfMemory>
     ensures { let args = arguments_in machine.now.asked.ask in
         IfOk result (λ texts. texts ≡ map (printed_in machine.now) args) }
 {
@@ -124,7 +124,7 @@ fn printed_arguments(machine: &Machine) -> Result<List<Text>, OutOfMemory>
 }
 
 /// The number of a function of the host.
-fn host_number(machine: &Machine, me: Ref) -> u32
+fn host_number<S: Store>(machine: &Machine<S>, me: Ref) -> u32
     ensures { result ≡ number_at ((naming_of machine.now.me).origin me) }
 {
     match me {
@@ -135,7 +135,7 @@ fn host_number(machine: &Machine, me: Ref) -> u32
 
 /// A call is the newest one.
 #[tactic(auto, using(js_machine::proofs::Reversed::reverse_push))]
-fn add_call(machine: &mut Machine, call: HostCall) -> Result<(), OutOfMemory>
+fn add_call<S: Store>(machine: &mut Machine<S>, call: HostCall) -> Result<(), OutOfMemory>
     ensures { OnOk result (machine.new ≡ with_call call machine.old) }
 {
     machine.calls.push(call)?;
@@ -144,7 +144,7 @@ fn add_call(machine: &mut Machine, call: HostCall) -> Result<(), OutOfMemory>
 
 /// A function of the host is called: the outside is asked, with the arguments as they are
 /// printed.
-pub fn call_host(machine: &mut Machine, me: Ref) -> Result<Mode, OutOfMemory>
+pub fn call_host<S: Store>(machine: &mut Machine<S>, me: Ref) -> Result<Mode, OutOfMemory>
     ensures { let args = arguments_in machine.old.asked.ask in
         IfOk result (LeadsTo (λ a. calls_host (naming_of machine.old.me) a.shared me args
         (party_of a machine.old)) machine.old machine.new) }
@@ -163,14 +163,14 @@ pub fn call_host(machine: &mut Machine, me: Ref) -> Result<Mode, OutOfMemory>
 
 /// The newest call of a function of the host, if there is one.
 #[tactic(auto, using(crate::proofs::Outside_laws::last_is))]
-pub fn newest_call(machine: &Machine) -> Option<&HostCall>
+pub fn newest_call<S: Store>(machine: &Machine<S>) -> Option<&HostCall>
     ensures { option_copied result ≡ newest_call machine.now.calls }
 {
     machine.calls.last()
 }
 
 /// What the outside answers is given.
-fn give_answer(machine: &mut Machine, answer: HostAnswer) -> Result<Mode, OutOfMemory>
+fn give_answer<S: Store>(machine: &mut Machine<S>, answer: HostAnswer) -> Result<Mode, OutOfMemory>
     ensures { let told = answer_of answer in
         IfOk result (LeadsTo (λ a. outside_answers (naming_of machine.old.me) a.shared
         (party_of a machine.old) told) machine.old machine.new) }
@@ -193,7 +193,7 @@ fn give_answer(machine: &mut Machine, answer: HostAnswer) -> Result<Mode, OutOfM
 }
 
 /// The outside answers the newest call, at which the run paused.
-pub fn answer_outside(machine: &mut Machine, answer: HostAnswer) -> Result<Mode, OutOfMemory>
+pub fn answer_outside<S: Store>(machine: &mut Machine<S>, answer: HostAnswer) -> Result<Mode, OutOfMemory>
     ensures { IfOk result (IsAnswered answer machine.old machine.new) }
 {
     give_answer(machine, answer)

@@ -26,6 +26,7 @@ use js_machine::machine::Machine;
 use js_machine::package::Module;
 use js_ordinary::target::{find_target, slot};
 use js_store::slot::{Held, Slot};
+use js_store::store::Store;
 use js_text::copy::copy_value;
 use js_text::fault::TextFault;
 use js_text::text::{Text, from_units};
@@ -89,7 +90,7 @@ fn value_of(mapped: &[(Text, Value)], request: &Text) -> Result<Option<Value>, O
 }
 
 /// Makes an error of no other kind and throws it.
-fn throw_plain_text(machine: &mut Machine, message: Text) -> Result<Mode, OutOfMemory>
+fn throw_plain_text<S: Store>(machine: &mut Machine<S>, message: Text) -> Result<Mode, OutOfMemory>
     ensures mode { IfOk result (λ m. m ≡ mode_kind.Throw) }
     ensures thrown { OnOk result (machine.new ≡ with_plain_error message machine.old) }
 {
@@ -103,7 +104,7 @@ fn throw_plain_text(machine: &mut Machine, message: Text) -> Result<Mode, OutOfM
 
 /// Makes an error of no other kind and throws it; the run ends where its text would be too long (ECMA-262, "Error Objects").
 #[tactic(auto, using(crate::proofs::Required::plain_too_long))]
-pub fn throw_plain(machine: &mut Machine, message: &[u16]) -> Result<Mode, OutOfMemory>
+pub fn throw_plain<S: Store>(machine: &mut Machine<S>, message: &[u16]) -> Result<Mode, OutOfMemory>
     ensures { let names = naming_of machine.old.me in
         IfOk result (LeadsTo (λ a. throws_plain_error names message.now (party_of a machine.old))
         machine.old machine.new) }
@@ -116,7 +117,7 @@ pub fn throw_plain(machine: &mut Machine, message: &[u16]) -> Result<Mode, OutOf
 }
 
 /// A request names nothing.
-pub fn not_found(machine: &mut Machine, request: &[u16]) -> Result<Mode, OutOfMemory>
+pub fn not_found<S: Store>(machine: &mut Machine<S>, request: &[u16]) -> Result<Mode, OutOfMemory>
     ensures { let names = naming_of machine.old.me in
         let message = not_found_text request.now in
         IfOk result (LeadsTo (λ a. throws_plain_error names message (party_of a machine.old))
@@ -127,14 +128,14 @@ pub fn not_found(machine: &mut Machine, request: &[u16]) -> Result<Mode, OutOfMe
 }
 
 /// The canonical name of the party's package.
-fn package_name(machine: &Machine) -> Result<List<u16>, OutOfMemory>
+fn package_name<S: Store>(machine: &Machine<S>) -> Result<List<u16>, OutOfMemory>
     ensures { IfOk result (λ units. units ≡ machine.now.own_package.name) }
 {
     machine.own_package.name.to_units(machine.alloc)
 }
 
 /// A request is not allowed.
-pub fn not_allowed(machine: &mut Machine, request: &[u16]) -> Result<Mode, OutOfMemory>
+pub fn not_allowed<S: Store>(machine: &mut Machine<S>, request: &[u16]) -> Result<Mode, OutOfMemory>
     ensures { let names = naming_of machine.old.me in
         IfOk result (LeadsTo (λ a. not_allowed names request.now (party_of a machine.old))
         machine.old machine.new) }
@@ -145,7 +146,7 @@ pub fn not_allowed(machine: &mut Machine, request: &[u16]) -> Result<Mode, OutOf
 }
 
 /// The number of the module with a path.
-pub fn numbered(machine: &Machine, path: &Text) -> Result<Option<u32>, OutOfMemory>
+pub fn numbered<S: Store>(machine: &Machine<S>, path: &Text) -> Result<Option<u32>, OutOfMemory>
     ensures { IfOk result (λ n. n ≡ place_from 0 machine.now.own_package.modules path.now) }
 {
     match module_of(&machine.own_package.modules, path) {
@@ -160,7 +161,7 @@ pub fn numbered(machine: &Machine, path: &Text) -> Result<Option<u32>, OutOfMemo
 }
 
 /// The number of the module that has the first of these paths which any has.
-fn first_module(machine: &Machine, paths: &[Text]) -> Result<Option<u32>, OutOfMemory>
+fn first_module<S: Store>(machine: &Machine<S>, paths: &[Text]) -> Result<Option<u32>, OutOfMemory>
     ensures { IfOk result (λ n. n ≡ first_place machine.now.own_package.modules paths.now) }
 {
     for path in paths {
@@ -172,8 +173,8 @@ fn first_module(machine: &Machine, paths: &[Text]) -> Result<Option<u32>, OutOfM
 }
 
 /// The number of the module that a path leads to from a directory of the package.
-pub fn module_at(
-    machine: &Machine,
+pub fn module_at<S: Store>(
+    machine: &Machine<S>,
     dir: List<List<u16>>,
     path: &[u16],
 ) -> Result<Option<u32>, OutOfMemory>
@@ -190,7 +191,7 @@ pub fn module_at(
 }
 
 /// The path of a module, and nothing where there is none.
-fn path_of(machine: &Machine, number: u32) -> Result<List<u16>, OutOfMemory>
+fn path_of<S: Store>(machine: &Machine<S>, number: u32) -> Result<List<u16>, OutOfMemory>
     ensures { let there = slice_get machine.now.own_package.modules number in
         IfOk result (λ path. path ≡ module_path there) }
 {
@@ -201,7 +202,7 @@ fn path_of(machine: &Machine, number: u32) -> Result<List<u16>, OutOfMemory>
 }
 
 /// The module object of a module, if it has begun, and where there is such a module.
-pub fn begun(machine: &Machine, number: u32) -> Option<Option<u32>>
+pub fn begun<S: Store>(machine: &Machine<S>, number: u32) -> Option<Option<u32>>
     ensures { result ≡ begun_at machine.now number }
 {
     match machine.own_package.modules.get(number as usize) {
@@ -211,7 +212,7 @@ pub fn begun(machine: &Machine, number: u32) -> Option<Option<u32>>
 }
 
 /// The module of a `require` that is an object.
-fn module_here(machine: &Machine, me: Ref) -> u32
+fn module_here<S: Store>(machine: &Machine<S>, me: Ref) -> u32
     ensures { result ≡ module_in (object_in machine.now me).slot }
 {
     match find_target(&machine.store, &machine.common, me) {
@@ -221,7 +222,7 @@ fn module_here(machine: &Machine, me: Ref) -> u32
 }
 
 /// What the builtin gives, if it may be required (LavaMoat policy, builtin).
-fn require_builtin(machine: &mut Machine, request: &[u16]) -> Result<Mode, OutOfMemory>
+fn require_builtin<S: Store>(machine: &mut Machine<S>, request: &[u16]) -> Result<Mode, OutOfMemory>
     ensures { let names = naming_of machine.old.me in
         let builtin = machine.old.own_package.builtin in
         IfOk result (LeadsTo (λ a. requires_builtin names request.now builtin (party_of a
@@ -234,7 +235,7 @@ fn require_builtin(machine: &mut Machine, request: &[u16]) -> Result<Mode, OutOf
 }
 
 /// The builtin of the package.
-fn builtin(machine: &Machine) -> Result<Option<Value>, OutOfMemory>
+fn builtin<S: Store>(machine: &Machine<S>) -> Result<Option<Value>, OutOfMemory>
     ensures { IfOk result (λ value. value ≡ machine.now.own_package.builtin) }
 {
     match &machine.own_package.builtin {
@@ -244,8 +245,8 @@ fn builtin(machine: &Machine) -> Result<Option<Value>, OutOfMemory>
 }
 
 /// A module that is there is required.
-fn require_numbered(
-    machine: &mut Machine,
+fn require_numbered<S: Store>(
+    machine: &mut Machine<S>,
     number: u32,
     request: &[u16],
 ) -> Result<Mode, OutOfMemory>
@@ -262,8 +263,8 @@ fn require_numbered(
 }
 
 /// The module that a path leads to is required, where there is one.
-fn require_there(
-    machine: &mut Machine,
+fn require_there<S: Store>(
+    machine: &mut Machine<S>,
     number: Option<u32>,
     request: &[u16],
 ) -> Result<Mode, OutOfMemory>
@@ -279,7 +280,7 @@ fn require_there(
 }
 
 /// A path is required that is relative to the directory of a module.
-fn require_path(machine: &mut Machine, number: u32, request: &[u16]) -> Result<Mode, OutOfMemory>
+fn require_path<S: Store>(machine: &mut Machine<S>, number: u32, request: &[u16]) -> Result<Mode, OutOfMemory>
     ensures { let names = naming_of machine.old.me in
         let path = module_path (slice_get machine.old.own_package.modules number) in
         IfOk result (LeadsTo (λ a. requires_path names path request.now (party_of a machine.old))
@@ -292,7 +293,7 @@ fn require_path(machine: &mut Machine, number: u32, request: &[u16]) -> Result<M
 }
 
 /// A request of a module.
-fn require(machine: &mut Machine, number: u32, request: &[u16]) -> Result<Mode, OutOfMemory>
+fn require<S: Store>(machine: &mut Machine<S>, number: u32, request: &[u16]) -> Result<Mode, OutOfMemory>
     ensures { let names = naming_of machine.old.me in
         let path = module_path (slice_get machine.old.own_package.modules number) in
         IfOk result (LeadsTo (λ a. requires_by names path request.now (party_of a machine.old))
@@ -310,14 +311,14 @@ fn require(machine: &mut Machine, number: u32, request: &[u16]) -> Result<Mode, 
 }
 
 /// The request of the call that is asked, where it is a text.
-fn request(machine: &Machine) -> Result<Option<Text>, OutOfMemory>
+fn request<S: Store>(machine: &Machine<S>) -> Result<Option<Text>, OutOfMemory>
     ensures { IfOk result (λ text. text ≡ request_in machine.now.asked.ask) }
 {
     request_in(&machine.asked.ask)
 }
 
 /// The value of a request of the texts that a compartment evaluates, where there is one.
-fn mapped_value(machine: &Machine, request: &Text) -> Result<Option<Value>, OutOfMemory>
+fn mapped_value<S: Store>(machine: &Machine<S>, request: &Text) -> Result<Option<Value>, OutOfMemory>
     ensures { let own = machine.now.own_package in
         IfOk result (λ value. value ≡ lookup (same_units request.now) own.mapped) }
 {
@@ -325,7 +326,7 @@ fn mapped_value(machine: &Machine, request: &Text) -> Result<Option<Value>, OutO
 }
 
 /// A module's `require` is called (LavaMoat, require).
-pub fn call_require(machine: &mut Machine, me: Ref) -> Result<Mode, OutOfMemory>
+pub fn call_require<S: Store>(machine: &mut Machine<S>, me: Ref) -> Result<Mode, OutOfMemory>
     ensures { let names = naming_of machine.old.me in
         let there = module_in (object_in machine.old me).slot in
         let request = request_in machine.old.asked.ask in
@@ -343,7 +344,7 @@ pub fn call_require(machine: &mut Machine, me: Ref) -> Result<Mode, OutOfMemory>
 }
 
 /// A request of the texts that a compartment evaluates (SES, Compartment, modules).
-fn require_mapped(machine: &mut Machine, request: &Text) -> Result<Mode, OutOfMemory>
+fn require_mapped<S: Store>(machine: &mut Machine<S>, request: &Text) -> Result<Mode, OutOfMemory>
     ensures { let names = naming_of machine.old.me in
         let value = lookup (same_units request.now) machine.old.own_package.mapped in
         IfOk result (LeadsTo (λ a. mapped names request.now value (party_of a machine.old))
@@ -359,7 +360,7 @@ fn require_mapped(machine: &mut Machine, request: &Text) -> Result<Mode, OutOfMe
 }
 
 /// The `require` of a made party is called.
-pub fn call_mapped(machine: &mut Machine) -> Result<Mode, OutOfMemory>
+pub fn call_mapped<S: Store>(machine: &mut Machine<S>) -> Result<Mode, OutOfMemory>
     ensures { let names = naming_of machine.old.me in
         let request = request_in machine.old.asked.ask in
         IfOk result (LeadsTo (λ a. mapped_given names request (party_of a machine.old))

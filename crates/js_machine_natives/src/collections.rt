@@ -18,7 +18,6 @@ use js_desc::fault::FaultText;
 use js_machine::frame::Mode;
 use js_machine::machine::Machine;
 use js_ordinary::target::{find_target, slot};
-use js_store::flat::FlatStore;
 use js_store::slot::Slot;
 use js_store::store::Store;
 use js_text::value::Value;
@@ -39,14 +38,14 @@ fn answer_in(slot: &Slot, ask: &Ask) -> Result<Option<Value>, OutOfMemory>
 }
 
 /// What an own collection answers to a native, and what becomes of it.
-fn collect_own(store: &mut FlatStore, id: ObjId, ask: &Ask) -> Result<Option<Value>, OutOfMemory>
-    requires { id.0 < length store.old.objects }
-    ensures answer { let entries = entries_of (object_at store.old.objects id.0).slot in
+fn collect_own<S: Store>(store: &mut S, id: ObjId, ask: &Ask) -> Result<Option<Value>, OutOfMemory>
+    requires { id.0 < length (S.objects store.old) }
+    ensures answer { let entries = entries_of (object_at (S.objects store.old) id.0).slot in
         IfOk result (λ v. v ≡ (table_by entries ask.now).0) }
-    ensures changed { let entries = entries_of (object_at store.old.objects id.0).slot in
+    ensures changed { let entries = entries_of (object_at (S.objects store.old) id.0).slot in
         let table = (table_by entries ask.now).1 in
-        OnOk result (store.new.objects ≡ with_entries store.old.objects (Own id.0) table) }
-    ensures party { store.new.party ≡ store.old.party }
+        OnOk result (S.objects store.new ≡ with_entries (S.objects store.old) (Own id.0) table) }
+    ensures party { S.owner store.new ≡ S.owner store.old }
 {
     match ask {
         Ask::Slot { which, args } => store.collect(id, *which, args.as_slice()),
@@ -56,7 +55,7 @@ fn collect_own(store: &mut FlatStore, id: ObjId, ask: &Ask) -> Result<Option<Val
 }
 
 /// What a collection answers to the native that the machine asks for.
-fn collection_answer(machine: &Machine, me: Ref) -> Result<Option<Value>, OutOfMemory>
+fn collection_answer<S: Store>(machine: &Machine<S>, me: Ref) -> Result<Option<Value>, OutOfMemory>
     ensures { IfOk result (λ v. v ≡ (collected machine.now me).0) }
 {
     match find_target(&machine.store, &machine.common, me) {
@@ -72,7 +71,7 @@ fn collection_answer(machine: &Machine, me: Ref) -> Result<Option<Value>, OutOfM
 }
 
 /// What an own object answers to that native, and what becomes of it.
-fn collect_object(machine: &mut Machine, id: ObjId) -> Result<Option<Value>, OutOfMemory>
+fn collect_object<S: Store>(machine: &mut Machine<S>, id: ObjId) -> Result<Option<Value>, OutOfMemory>
     ensures answer { let entries = entries_of (object_at machine.old.objects id.0).slot in
         IfOk result (λ v. v ≡ (table_by entries machine.old.asked.ask).0) }
     ensures changed { let entries = entries_of (object_at machine.old.objects id.0).slot in
@@ -87,7 +86,7 @@ fn collect_object(machine: &mut Machine, id: ObjId) -> Result<Option<Value>, Out
 }
 
 /// What a collection answers to that native, and what becomes of it; only an own one is changed.
-fn collect(machine: &mut Machine, me: Ref) -> Result<Option<Value>, OutOfMemory>
+fn collect<S: Store>(machine: &mut Machine<S>, me: Ref) -> Result<Option<Value>, OutOfMemory>
     ensures answer { IfOk result (λ v. v ≡ (collected machine.old me).0) }
     ensures changed { let table = (collected machine.old me).1 in
         let objects = with_entries machine.old.objects ((naming_of machine.old.me).origin me) table
@@ -103,7 +102,7 @@ fn collect(machine: &mut Machine, me: Ref) -> Result<Option<Value>, OutOfMemory>
 }
 
 /// What a table gives.
-fn give_found(machine: &mut Machine, answer: Option<Value>) -> Result<Mode, OutOfMemory>
+fn give_found<S: Store>(machine: &mut Machine<S>, answer: Option<Value>) -> Result<Mode, OutOfMemory>
     ensures { let decision = table_given answer in
         IfOk result (LeadsTo (λ a. follows_by (naming_of machine.old.me) (λ n. as_it_is) decision
         (party_of a machine.old)) machine.old machine.new) }
@@ -115,7 +114,7 @@ fn give_found(machine: &mut Machine, answer: Option<Value>) -> Result<Mode, OutO
 }
 
 /// A collection decides of the ask of the machine.
-pub fn decide_collection(machine: &mut Machine, me: Ref) -> Result<Mode, OutOfMemory>
+pub fn decide_collection<S: Store>(machine: &mut Machine<S>, me: Ref) -> Result<Mode, OutOfMemory>
     ensures { let given = collected machine.old me in
         IfOk result (LeadsTo (λ a. follows_table (naming_of machine.old.me) me
         (table_given given.0, given.1) (party_of a machine.old)) machine.old machine.new) }

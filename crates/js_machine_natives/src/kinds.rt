@@ -31,7 +31,7 @@ use lava_base::ids::Ref;
 use lava_base::memory::OutOfMemory;
 
 /// What `classOf` decides of these operands.
-fn kind_decision(machine: &Machine, args: &[Value]) -> Result<Decision<MakerNext>, OutOfMemory>
+fn kind_decision<S: Store>(machine: &Machine<S>, args: &[Value]) -> Result<Decision<MakerNext>, OutOfMemory>
     ensures { let known = known_of machine.now (first_object args.now) in
         let names = naming_of machine.now.me in
         let seen = marks_seen names machine.now.objects machine.now.common known in
@@ -44,8 +44,8 @@ fn kind_decision(machine: &Machine, args: &[Value]) -> Result<Decision<MakerNext
 }
 
 /// Asks an object for `classOf`, which remembers whether it can be called.
-fn ask_kind(
-    machine: &mut Machine,
+fn ask_kind<S: Store>(
+    machine: &mut Machine<S>,
     target: Ref,
     ask: Ask,
     next: MakerNext,
@@ -64,8 +64,8 @@ fn ask_kind(
 }
 
 /// Asks an object for `classOf`, where one is named.
-fn ask_kind_of(
-    machine: &mut Machine,
+fn ask_kind_of<S: Store>(
+    machine: &mut Machine<S>,
     target: Option<Ref>,
     ask: Ask,
     next: MakerNext,
@@ -81,7 +81,7 @@ fn ask_kind_of(
 }
 
 /// Follows what `classOf` decides.
-fn follow_kind(machine: &mut Machine, decision: Decision<MakerNext>) -> Result<Mode, OutOfMemory>
+fn follow_kind<S: Store>(machine: &mut Machine<S>, decision: Decision<MakerNext>) -> Result<Mode, OutOfMemory>
     ensures { IfOk result (LeadsTo (λ a. kind_follows (naming_of machine.old.me) a.shared decision
         (party_of a machine.old)) machine.old machine.new) }
 {
@@ -92,7 +92,7 @@ fn follow_kind(machine: &mut Machine, decision: Decision<MakerNext>) -> Result<M
 }
 
 /// `classOf`, once it is charged, with the newest values as its operands.
-pub fn act_kind(machine: &mut Machine, count: u32) -> Result<Mode, OutOfMemory>
+pub fn act_kind<S: Store>(machine: &mut Machine<S>, count: u32) -> Result<Mode, OutOfMemory>
     ensures { let args = args_on count machine.old.values in
         let rest = record machine.old { values = drop count machine.old.values } in
         IfOk result (LeadsTo (λ a. tells_kind (naming_of machine.old.me) a.shared args

@@ -32,6 +32,7 @@ use js_native::costs::{makes_text, unit_steps};
 use js_natives::costs::cost;
 use js_natives::natives::native;
 use js_natives::resume::resume;
+use js_store::store::Store;
 use js_text::native::Native;
 use js_text::text::Text;
 use js_text::value::Value;
@@ -57,7 +58,7 @@ fn asks_slots(which: Native) -> bool
 }
 
 /// A text that is made is charged for its units, and then given; no text is past the limit.
-pub fn give_made_text(machine: &mut Machine, text: Text) -> Result<Mode, OutOfMemory>
+pub fn give_made_text<S: Store>(machine: &mut Machine<S>, text: Text) -> Result<Mode, OutOfMemory>
     ensures { IfOk result (LeadsTo (λ a. given_text text (party_of a machine.old)) machine.old
         machine.new) }
 {
@@ -70,7 +71,7 @@ pub fn give_made_text(machine: &mut Machine, text: Text) -> Result<Mode, OutOfMe
 }
 
 /// A text that a native gives: one that it makes is charged.
-fn give_text_of(machine: &mut Machine, which: Native, text: Text) -> Result<Mode, OutOfMemory>
+fn give_text_of<S: Store>(machine: &mut Machine<S>, which: Native, text: Text) -> Result<Mode, OutOfMemory>
     ensures { let made = makes_text which in
         IfOk result (LeadsTo (λ a. gives_text made text (party_of a machine.old))
         machine.old machine.new) }
@@ -82,7 +83,7 @@ fn give_text_of(machine: &mut Machine, which: Native, text: Text) -> Result<Mode
 }
 
 /// A value that a native gives: a text that it makes is charged once it is known.
-fn give_value_of(machine: &mut Machine, which: Native, value: Value) -> Result<Mode, OutOfMemory>
+fn give_value_of<S: Store>(machine: &mut Machine<S>, which: Native, value: Value) -> Result<Mode, OutOfMemory>
     ensures { let reply = reply_kind.Value value in
         IfOk result (LeadsTo (λ a. native_gives which reply (party_of a machine.old))
         machine.old machine.new) }
@@ -94,7 +95,7 @@ fn give_value_of(machine: &mut Machine, which: Native, value: Value) -> Result<M
 }
 
 /// What a native gives.
-fn give_native(machine: &mut Machine, which: Native, reply: Reply) -> Result<Mode, OutOfMemory>
+fn give_native<S: Store>(machine: &mut Machine<S>, which: Native, reply: Reply) -> Result<Mode, OutOfMemory>
     ensures { IfOk result (LeadsTo (λ a. native_gives which reply (party_of a machine.old))
         machine.old machine.new) }
 {
@@ -109,8 +110,8 @@ fn give_native(machine: &mut Machine, which: Native, reply: Reply) -> Result<Mod
 }
 
 /// The ask of a native, which waits for the answer.
-fn ask_native(
-    machine: &mut Machine,
+fn ask_native<S: Store>(
+    machine: &mut Machine<S>,
     which: Native,
     target: Option<Ref>,
     ask: Ask,
@@ -127,8 +128,8 @@ fn ask_native(
 }
 
 /// Follows the decision of a native.
-pub(crate) fn follow_native(
-    machine: &mut Machine,
+pub(crate) fn follow_native<S: Store>(
+    machine: &mut Machine<S>,
     which: Native,
     decision: Decision<NativeNext>,
 ) -> Result<Mode, OutOfMemory>
@@ -146,8 +147,8 @@ pub(crate) fn follow_native(
 }
 
 /// What a native decides, with these operands.
-fn native_decision(
-    machine: &mut Machine,
+fn native_decision<S: Store>(
+    machine: &mut Machine<S>,
     which: Native,
     args: &[Value],
 ) -> Result<Decision<NativeNext>, OutOfMemory>
@@ -167,7 +168,7 @@ fn native_decision(
 }
 
 /// A native that asks no `Slot` does what it does with the newest values, its operands.
-fn act_decided(machine: &mut Machine, which: Native, count: u32) -> Result<Mode, OutOfMemory>
+fn act_decided<S: Store>(machine: &mut Machine<S>, which: Native, count: u32) -> Result<Mode, OutOfMemory>
     ensures { let args = args_on count machine.old.values in
         let rest = record machine.old { values = drop count machine.old.values } in
         IfOk result (LeadsTo (λ a. native_acts (naming_of machine.old.me) a.shared which args
@@ -179,7 +180,7 @@ fn act_decided(machine: &mut Machine, which: Native, count: u32) -> Result<Mode,
 }
 
 /// A native that is charged does what it does with the newest values, its operands.
-fn act_native(machine: &mut Machine, which: Native, count: u32) -> Result<Mode, OutOfMemory>
+fn act_native<S: Store>(machine: &mut Machine<S>, which: Native, count: u32) -> Result<Mode, OutOfMemory>
     ensures { let args = args_on count machine.old.values in
         let rest = record machine.old { values = drop count machine.old.values } in
         IfOk result (LeadsTo (λ a. native_acts (naming_of machine.old.me) a.shared which args
@@ -193,7 +194,7 @@ fn act_native(machine: &mut Machine, which: Native, count: u32) -> Result<Mode, 
 }
 
 /// So many newest values, the oldest of them first.
-pub fn last_values(machine: &Machine, count: u32) -> &[Value]
+pub fn last_values<S: Store>(machine: &Machine<S>, count: u32) -> &[Value]
     ensures { result.now ≡ args_on count machine.now.values }
 {
     let first = machine.values.len() - machine.given(count) as usize;
@@ -201,7 +202,7 @@ pub fn last_values(machine: &Machine, count: u32) -> &[Value]
 }
 
 /// What a native costs, whose operands are the newest values.
-pub fn native_cost(machine: &Machine, which: Native, count: u32) -> Result<u64, OutOfMemory>
+pub fn native_cost<S: Store>(machine: &Machine<S>, which: Native, count: u32) -> Result<u64, OutOfMemory>
     ensures { let items = list_items (naming_of machine.now.me) machine.now.objects
         machine.now.common in
         let args = args_on count machine.now.values in
@@ -217,7 +218,7 @@ pub fn native_cost(machine: &Machine, which: Native, count: u32) -> Result<u64, 
 }
 
 /// A native is charged, and its operands stay on the stack of values meanwhile.
-fn charge_native(machine: &mut Machine, which: Native, count: u32) -> Result<Mode, OutOfMemory>
+fn charge_native<S: Store>(machine: &mut Machine<S>, which: Native, count: u32) -> Result<Mode, OutOfMemory>
     ensures { let args = args_on count machine.old.values in
         let rest = record machine.old { values = drop count machine.old.values } in
         IfOk result (LeadsTo (λ a. charged (naming_of machine.old.me) a.shared which args (party_of
@@ -236,7 +237,7 @@ fn charge_native(machine: &mut Machine, which: Native, count: u32) -> Result<Mod
 }
 
 /// A native begins, whose operands are the newest values.
-pub fn run_native(machine: &mut Machine, which: Native, count: u32) -> Result<Mode, OutOfMemory>
+pub fn run_native<S: Store>(machine: &mut Machine<S>, which: Native, count: u32) -> Result<Mode, OutOfMemory>
     ensures { let args = args_on count machine.old.values in
         let rest = record machine.old { values = drop count machine.old.values } in
         IfOk result (LeadsTo (λ a. runs_native (naming_of machine.old.me) a.shared which args
@@ -249,7 +250,7 @@ pub fn run_native(machine: &mut Machine, which: Native, count: u32) -> Result<Mo
 }
 
 /// What was charged for comes: the native does what it does.
-fn native_paid(machine: &mut Machine, which: Native, count: u32) -> Result<Mode, OutOfMemory>
+fn native_paid<S: Store>(machine: &mut Machine<S>, which: Native, count: u32) -> Result<Mode, OutOfMemory>
     ensures { IfOk result (IsDelivered (frame_kind.Charged which count) mode_kind.Value
         machine.old machine.new) }
 {
@@ -258,8 +259,8 @@ fn native_paid(machine: &mut Machine, which: Native, count: u32) -> Result<Mode,
 }
 
 /// A completion comes to a native that was charged.
-pub fn deliver_charged(
-    machine: &mut Machine,
+pub fn deliver_charged<S: Store>(
+    machine: &mut Machine<S>,
     which: Native,
     count: u32,
     mode: Mode,
@@ -276,7 +277,7 @@ pub fn deliver_charged(
 }
 
 /// What was charged for comes: the text that was made is given.
-fn made_paid(machine: &mut Machine) -> Result<Mode, OutOfMemory>
+fn made_paid<S: Store>(machine: &mut Machine<S>) -> Result<Mode, OutOfMemory>
     ensures { IfOk result (IsDelivered frame_kind.Made mode_kind.Value machine.old machine.new) }
 {
     let _value = machine.take();
@@ -284,7 +285,7 @@ fn made_paid(machine: &mut Machine) -> Result<Mode, OutOfMemory>
 }
 
 /// A completion comes to a text that was made and charged.
-pub fn deliver_made(machine: &mut Machine, mode: Mode) -> Result<Mode, OutOfMemory>
+pub fn deliver_made<S: Store>(machine: &mut Machine<S>, mode: Mode) -> Result<Mode, OutOfMemory>
     requires { is_completion mode ≡ Bool.true }
     ensures { IfOk result (IsDelivered frame_kind.Made mode machine.old machine.new) }
 {
@@ -296,8 +297,8 @@ pub fn deliver_made(machine: &mut Machine, mode: Mode) -> Result<Mode, OutOfMemo
 }
 
 /// What a native that waited decides, with the answer.
-fn native_resumed(
-    machine: &mut Machine,
+fn native_resumed<S: Store>(
+    machine: &mut Machine<S>,
     which: Native,
     next: NativeNext,
     reply: Reply,
@@ -319,8 +320,8 @@ fn native_resumed(
 }
 
 /// A native goes on with the answer that it waited for.
-pub fn resume_native(
-    machine: &mut Machine,
+pub fn resume_native<S: Store>(
+    machine: &mut Machine<S>,
     which: Native,
     next: NativeNext,
     reply: Reply,

@@ -66,7 +66,7 @@ pub fn known_if<'a>(
 }
 
 /// The target of an object that is a proxy.
-fn target(machine: &Machine, me: Ref) -> Option<Ref>
+fn target<S: Store>(machine: &Machine<S>, me: Ref) -> Option<Ref>
     ensures { result ≡ target_of (object_in machine.now me).slot }
 {
     match find_target(&machine.store, &machine.common, me) {
@@ -76,7 +76,7 @@ fn target(machine: &Machine, me: Ref) -> Option<Ref>
 }
 
 /// What a proxy decides of the ask of the machine.
-pub fn proxy_decision(machine: &Machine, me: Ref) -> Result<Decision<ProxyNext>, OutOfMemory>
+pub fn proxy_decision<S: Store>(machine: &Machine<S>, me: Ref) -> Result<Decision<ProxyNext>, OutOfMemory>
     ensures { IfOk result (λ d. d ≡ proxy_decided machine.now me) }
 {
     let target = target(machine, me);
@@ -93,8 +93,8 @@ pub fn proxy_decision(machine: &Machine, me: Ref) -> Result<Decision<ProxyNext>,
 }
 
 /// The ask of a proxy's decision that waits.
-fn follow_proxy_ask(
-    machine: &mut Machine,
+fn follow_proxy_ask<S: Store>(
+    machine: &mut Machine<S>,
     target: Option<Ref>,
     ask: Ask,
     next: ProxyNext,
@@ -110,8 +110,8 @@ fn follow_proxy_ask(
 }
 
 /// Follows the decision of a proxy, where no number is wanted.
-pub fn follow_proxy_once(
-    machine: &mut Machine,
+pub fn follow_proxy_once<S: Store>(
+    machine: &mut Machine<S>,
     decision: Decision<ProxyNext>,
 ) -> Result<Mode, OutOfMemory>
     ensures { IfOk result (LeadsTo (λ a. follows_by (naming_of machine.old.me) Proxy_decides
@@ -128,8 +128,8 @@ pub fn follow_proxy_once(
 }
 
 /// What the decision of a proxy says that waits, with the answer.
-pub fn next_of_proxy(
-    machine: &mut Machine,
+pub fn next_of_proxy<S: Store>(
+    machine: &mut Machine<S>,
     next: ProxyNext,
     reply: Reply,
 ) -> Result<Decision<ProxyNext>, OutOfMemory>
@@ -153,8 +153,8 @@ pub fn next_of_proxy(
 }
 
 /// The decision of a proxy goes on with the number that it wanted.
-pub fn proxy_has_number(
-    machine: &mut Machine,
+pub fn proxy_has_number<S: Store>(
+    machine: &mut Machine<S>,
     next: ProxyNext,
     number: i64,
 ) -> Result<Mode, OutOfMemory>

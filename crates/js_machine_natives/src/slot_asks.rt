@@ -126,8 +126,8 @@ pub(crate) fn first_object(args: &[Value]) -> Option<Ref>
 }
 
 /// What a native does whose first operand is this object, if it is one.
-fn slot_step(
-    machine: &Machine,
+fn slot_step<S: Store>(
+    machine: &Machine<S>,
     which: Native,
     object: Option<Ref>,
     args: &[Value],
@@ -159,7 +159,7 @@ fn slot_step(
 }
 
 /// What a native does whose operands are the newest values; None where it has none.
-fn first_step(machine: &Machine, which: Native, count: u32) -> Result<Option<SlotStep>, OutOfMemory>
+fn first_step<S: Store>(machine: &Machine<S>, which: Native, count: u32) -> Result<Option<SlotStep>, OutOfMemory>
     ensures { let args = args_on count machine.now.values in
         IfOk result (λ s. s ≡ first_step machine.now which args) }
 {
@@ -172,7 +172,7 @@ fn first_step(machine: &Machine, which: Native, count: u32) -> Result<Option<Slo
 }
 
 /// Whether the first operand is a foreign object.
-fn asks_foreign(machine: &Machine, count: u32) -> bool
+fn asks_foreign<S: Store>(machine: &Machine<S>, count: u32) -> bool
     ensures { let args = args_on count machine.now.values in
         result ≡ asks_foreign (naming_of machine.now.me) (first_object args) }
 {
@@ -183,7 +183,7 @@ fn asks_foreign(machine: &Machine, count: u32) -> bool
 }
 
 /// What a native costs beside its first step.
-fn cost_behind(machine: &Machine, which: Native, count: u32) -> Result<u32, OutOfMemory>
+fn cost_behind<S: Store>(machine: &Machine<S>, which: Native, count: u32) -> Result<u32, OutOfMemory>
     ensures { let items = list_items (naming_of machine.now.me) machine.now.objects
         machine.now.common in
         let args = args_on count machine.now.values in
@@ -201,7 +201,7 @@ fn cost_behind(machine: &Machine, which: Native, count: u32) -> Result<u32, OutO
 }
 
 /// A native that asks is charged, and its operands stay on the stack of values meanwhile.
-fn charge_slot(machine: &mut Machine, which: Native, count: u32) -> Result<Mode, OutOfMemory>
+fn charge_slot<S: Store>(machine: &mut Machine<S>, which: Native, count: u32) -> Result<Mode, OutOfMemory>
     ensures { let names = naming_of machine.old.me in
         let args = args_on count machine.old.values in
         let rest = record machine.old { values = drop count machine.old.values } in
@@ -213,8 +213,8 @@ fn charge_slot(machine: &mut Machine, which: Native, count: u32) -> Result<Mode,
 }
 
 /// A native that tells a truth value is charged.
-fn charge_told(
-    machine: &mut Machine,
+fn charge_told<S: Store>(
+    machine: &mut Machine<S>,
     which: Native,
     count: u32,
     truth: bool,
@@ -232,8 +232,8 @@ fn charge_told(
 }
 
 /// A native that is refused is charged.
-fn charge_refused(
-    machine: &mut Machine,
+fn charge_refused<S: Store>(
+    machine: &mut Machine<S>,
     which: Native,
     count: u32,
     converts: bool,
@@ -250,7 +250,7 @@ fn charge_refused(
 }
 
 /// The first operand is asked: a foreign object at once, and any other once that is charged.
-fn charge_or_ask(machine: &mut Machine, which: Native, count: u32) -> Result<Mode, OutOfMemory>
+fn charge_or_ask<S: Store>(machine: &mut Machine<S>, which: Native, count: u32) -> Result<Mode, OutOfMemory>
     ensures { let names = naming_of machine.old.me in
         let args = args_on count machine.old.values in
         let rest = record machine.old { values = drop count machine.old.values } in
@@ -264,8 +264,8 @@ fn charge_or_ask(machine: &mut Machine, which: Native, count: u32) -> Result<Mod
 }
 
 /// A native does what the marks of its first operand say.
-fn take_step(
-    machine: &mut Machine,
+fn take_step<S: Store>(
+    machine: &mut Machine<S>,
     which: Native,
     count: u32,
     step: SlotStep,
@@ -283,8 +283,8 @@ fn take_step(
 }
 
 /// A native that asks a `Slot` begins, whose operands are the newest values.
-pub fn run_slot_native(
-    machine: &mut Machine,
+pub fn run_slot_native<S: Store>(
+    machine: &mut Machine<S>,
     which: Native,
     count: u32,
 ) -> Result<Mode, OutOfMemory>
@@ -304,7 +304,7 @@ pub fn run_slot_native(
 }
 
 /// The first operand is asked.
-fn ask_first(machine: &mut Machine, which: Native, count: u32) -> Result<Mode, OutOfMemory>
+fn ask_first<S: Store>(machine: &mut Machine<S>, which: Native, count: u32) -> Result<Mode, OutOfMemory>
     ensures { let args = args_on count machine.old.values in
         let rest = record machine.old { values = drop count machine.old.values } in
         IfOk result (LeadsTo (λ a. asks_first (naming_of machine.old.me) a.shared which args
@@ -315,7 +315,7 @@ fn ask_first(machine: &mut Machine, which: Native, count: u32) -> Result<Mode, O
 }
 
 /// The first of these operands is asked.
-fn ask_with(machine: &mut Machine, which: Native, args: List<Value>) -> Result<Mode, OutOfMemory>
+fn ask_with<S: Store>(machine: &mut Machine<S>, which: Native, args: List<Value>) -> Result<Mode, OutOfMemory>
     ensures { IfOk result (LeadsTo (λ a. asks_first (naming_of machine.old.me) a.shared which args
         (party_of a machine.old)) machine.old machine.new) }
 {
@@ -326,8 +326,8 @@ fn ask_with(machine: &mut Machine, which: Native, args: List<Value>) -> Result<M
 }
 
 /// An object is asked a `Slot` with the operands behind the first one.
-fn ask_slot(
-    machine: &mut Machine,
+fn ask_slot<S: Store>(
+    machine: &mut Machine<S>,
     object: Ref,
     which: Native,
     args: List<Value>,
@@ -349,8 +349,8 @@ fn ask_slot(
 }
 
 /// An object is asked for a native, which waits for the answer.
-pub fn ask_object(
-    machine: &mut Machine,
+pub fn ask_object<S: Store>(
+    machine: &mut Machine<S>,
     object: Ref,
     which: Native,
     kind: Option<bool>,
@@ -369,8 +369,8 @@ pub fn ask_object(
 }
 
 /// A foreign object is asked.
-fn send_slot(
-    machine: &mut Machine,
+fn send_slot<S: Store>(
+    machine: &mut Machine<S>,
     object: Ref,
     which: Native,
     kind: Option<bool>,
@@ -389,8 +389,8 @@ fn send_slot(
 }
 
 /// An object that is not foreign is asked. The native is open meanwhile.
-fn ask_object_here(
-    machine: &mut Machine,
+fn ask_object_here<S: Store>(
+    machine: &mut Machine<S>,
     object: Ref,
     which: Native,
     kind: Option<bool>,
@@ -408,8 +408,8 @@ fn ask_object_here(
 }
 
 /// An object tells what it is asked, for a native that is open.
-fn tell_slot(
-    machine: &mut Machine,
+fn tell_slot<S: Store>(
+    machine: &mut Machine<S>,
     object: Ref,
     which: Native,
     kind: Option<bool>,
@@ -430,7 +430,7 @@ fn tell_slot(
 }
 
 /// The object of a native that is open has no answer.
-fn tell_wrong_kind(machine: &mut Machine) -> Result<Mode, OutOfMemory>
+fn tell_wrong_kind<S: Store>(machine: &mut Machine<S>) -> Result<Mode, OutOfMemory>
     ensures { let wrong = fault_kind.WrongKind in
         IfOk result (LeadsTo (λ a. faults (naming_of machine.old.me) wrong
         (shallower (party_of a machine.old))) machine.old machine.new) }
@@ -440,8 +440,8 @@ fn tell_wrong_kind(machine: &mut Machine) -> Result<Mode, OutOfMemory>
 }
 
 /// A proxy tells what it is asked, for a native that is open.
-fn ask_proxy(
-    machine: &mut Machine,
+fn ask_proxy<S: Store>(
+    machine: &mut Machine<S>,
     object: Ref,
     which: Native,
     kind: Option<bool>,
@@ -457,8 +457,8 @@ fn ask_proxy(
 }
 
 /// Follows what a proxy tells a native that is open.
-fn follow_told(
-    machine: &mut Machine,
+fn follow_told<S: Store>(
+    machine: &mut Machine<S>,
     which: Native,
     kind: Option<bool>,
     decision: Decision<ProxyNext>,
@@ -487,8 +487,8 @@ fn follow_told(
 }
 
 /// A proxy asks its target, which has the answer for the native too.
-fn follow_told_ask(
-    machine: &mut Machine,
+fn follow_told_ask<S: Store>(
+    machine: &mut Machine<S>,
     which: Native,
     kind: Option<bool>,
     target: Option<Ref>,
@@ -508,8 +508,8 @@ fn follow_told_ask(
 }
 
 /// The target of a proxy is asked, where its answer is that of the proxy.
-fn wait_told(
-    machine: &mut Machine,
+fn wait_told<S: Store>(
+    machine: &mut Machine<S>,
     which: Native,
     kind: Option<bool>,
     target: Ref,
@@ -535,8 +535,8 @@ fn wait_told(
 }
 
 /// The answer of a proxy's target comes to the native.
-pub fn resume_told(
-    machine: &mut Machine,
+pub fn resume_told<S: Store>(
+    machine: &mut Machine<S>,
     which: Native,
     next: NativeNext,
     reply: Reply,
@@ -549,7 +549,7 @@ pub fn resume_told(
 }
 
 /// What was charged for comes: the first operand is asked.
-fn slot_paid(machine: &mut Machine, which: Native, count: u32) -> Result<Mode, OutOfMemory>
+fn slot_paid<S: Store>(machine: &mut Machine<S>, which: Native, count: u32) -> Result<Mode, OutOfMemory>
     ensures { IfOk result (IsDelivered (frame_kind.SlotCharged which count) mode_kind.Value
         machine.old machine.new) }
 {
@@ -558,8 +558,8 @@ fn slot_paid(machine: &mut Machine, which: Native, count: u32) -> Result<Mode, O
 }
 
 /// A completion comes to a native that was charged and is to ask.
-pub fn deliver_slot(
-    machine: &mut Machine,
+pub fn deliver_slot<S: Store>(
+    machine: &mut Machine<S>,
     which: Native,
     count: u32,
     mode: Mode,
@@ -576,7 +576,7 @@ pub fn deliver_slot(
 }
 
 /// What was charged for comes: the native is refused.
-fn refused_paid(machine: &mut Machine, converts: bool) -> Result<Mode, OutOfMemory>
+fn refused_paid<S: Store>(machine: &mut Machine<S>, converts: bool) -> Result<Mode, OutOfMemory>
     ensures { IfOk result (IsDelivered (frame_kind.Refused converts) mode_kind.Value
         machine.old machine.new) }
 {
@@ -585,8 +585,8 @@ fn refused_paid(machine: &mut Machine, converts: bool) -> Result<Mode, OutOfMemo
 }
 
 /// A completion comes to a native that was charged and is refused.
-pub fn deliver_refused(
-    machine: &mut Machine,
+pub fn deliver_refused<S: Store>(
+    machine: &mut Machine<S>,
     converts: bool,
     mode: Mode,
 ) -> Result<Mode, OutOfMemory>

@@ -22,14 +22,15 @@ use js_machine::frame::Mode;
 use js_machine::js_conversions::next::Wanted;
 use js_machine::js_operations::names::name_key;
 use js_machine::machine::Machine;
+use js_store::store::Store;
 use js_text::value::{Key, Value};
 use lava_base::ids::Ref;
 use lava_base::list::List;
 use lava_base::memory::OutOfMemory;
 
 /// An object is asked for a method by its key.
-fn ask_number_by(
-    machine: &mut Machine,
+fn ask_number_by<S: Store>(
+    machine: &mut Machine<S>,
     object: Ref,
     last: bool,
     wanted: NumberFor,
@@ -54,8 +55,8 @@ fn ask_number_by(
 }
 
 /// An object is asked for one of the two methods (ECMA-262, OrdinaryToPrimitive, step 3.a).
-pub fn ask_number_method(
-    machine: &mut Machine,
+pub fn ask_number_method<S: Store>(
+    machine: &mut Machine<S>,
     object: Ref,
     last: bool,
     wanted: NumberFor,
@@ -77,8 +78,8 @@ pub fn ask_number_method(
 }
 
 /// The other method is tried, if it is still to come (ECMA-262, OrdinaryToPrimitive, step 4).
-pub fn try_number_rest(
-    machine: &mut Machine,
+pub fn try_number_rest<S: Store>(
+    machine: &mut Machine<S>,
     object: Ref,
     last: bool,
     wanted: NumberFor,
@@ -95,8 +96,8 @@ pub fn try_number_rest(
 }
 
 /// A method that is an object is called, where it can be (ECMA-262, OrdinaryToPrimitive, step 3.b).
-fn call_number_method(
-    machine: &mut Machine,
+fn call_number_method<S: Store>(
+    machine: &mut Machine<S>,
     object: Ref,
     last: bool,
     wanted: NumberFor,
@@ -123,8 +124,8 @@ fn call_number_method(
 }
 
 /// A method was got.
-fn number_method_got(
-    machine: &mut Machine,
+fn number_method_got<S: Store>(
+    machine: &mut Machine<S>,
     object: Ref,
     last: bool,
     wanted: NumberFor,
@@ -142,8 +143,8 @@ fn number_method_got(
 
 /// An answer comes for a method.
 #[tactic(auto, unfolding(js_machine::specs::Views::next_of_want))]
-pub fn resume_got(
-    machine: &mut Machine,
+pub fn resume_got<S: Store>(
+    machine: &mut Machine<S>,
     object: Ref,
     last: bool,
     wanted: NumberFor,

@@ -24,6 +24,7 @@ use js_machine::js_conversions::next::Next;
 use js_machine::js_conversions::primitives::to_number;
 use js_machine::js_operations::lists::list_items;
 use js_machine::machine::Machine;
+use js_store::store::Store;
 use js_text::fault::TextFault;
 use js_text::text::from_units;
 use js_text::value::Value;
@@ -103,7 +104,7 @@ fn read_units(
 }
 
 /// The text of these units is given, and charged for them.
-fn give_units(machine: &mut Machine, units: &[u16]) -> Result<Mode, OutOfMemory>
+fn give_units<S: Store>(machine: &mut Machine<S>, units: &[u16]) -> Result<Mode, OutOfMemory>
     ensures { IfOk result (LeadsTo (λ a. given_text units.now (party_of a machine.old)) machine.old
         machine.new) }
 {
@@ -116,8 +117,8 @@ fn give_units(machine: &mut Machine, units: &[u16]) -> Result<Mode, OutOfMemory>
 }
 
 /// What is done after the items have become units as far as this.
-fn go_after(
-    machine: &mut Machine,
+fn go_after<S: Store>(
+    machine: &mut Machine<S>,
     reading: Reading,
     units: List<u16>,
     items: List<Value>,
@@ -137,8 +138,8 @@ fn go_after(
 }
 
 /// The items from a place on become units behind those that are there, and the text is given.
-fn go_on_units(
-    machine: &mut Machine,
+fn go_on_units<S: Store>(
+    machine: &mut Machine<S>,
     mut units: List<u16>,
     items: List<Value>,
     from: usize,
@@ -152,8 +153,8 @@ fn go_on_units(
 }
 
 /// An item that is an object became a number.
-pub fn unit_comes(
-    machine: &mut Machine,
+pub fn unit_comes<S: Store>(
+    machine: &mut Machine<S>,
     mut units: List<u16>,
     items: List<Value>,
     next: usize,
@@ -168,7 +169,7 @@ pub fn unit_comes(
 }
 
 /// `fromUnits` with its list.
-fn act_on_list(machine: &mut Machine, list: &Value) -> Result<Mode, OutOfMemory>
+fn act_on_list<S: Store>(machine: &mut Machine<S>, list: &Value) -> Result<Mode, OutOfMemory>
     ensures { let names = naming_of machine.old.me in
         IfOk result (LeadsTo (λ a. units_of names a.shared (given_items names a.shared
         (party_of a machine.old) list.now) (party_of a machine.old)) machine.old machine.new) }
@@ -180,7 +181,7 @@ fn act_on_list(machine: &mut Machine, list: &Value) -> Result<Mode, OutOfMemory>
 }
 
 /// `fromUnits`, once it is charged, with the newest values as its operands.
-pub fn act_units(machine: &mut Machine, count: u32) -> Result<Mode, OutOfMemory>
+pub fn act_units<S: Store>(machine: &mut Machine<S>, count: u32) -> Result<Mode, OutOfMemory>
     ensures { let args = args_on count machine.old.values in
         let rest = record machine.old { values = drop count machine.old.values } in
         IfOk result (LeadsTo (λ a. from_units (naming_of machine.old.me) a.shared args

@@ -15,6 +15,7 @@ use js_machine::decisions::object_of_value;
 use js_machine::frame::{Frame, Goal, KeyGoal, Mode};
 use js_machine::machine::Machine;
 use js_machine::plain_keys::plain_key;
+use js_store::store::Store;
 use js_text::value::{Key, Value};
 use lava_base::ids::Ref;
 use lava_base::list::List;
@@ -32,7 +33,7 @@ pub fn key_at_once(alloc: Global, value: &Value) -> Result<Option<Key>, OutOfMem
 }
 
 /// The object that can be called that a value is (ECMA-262, IsCallable).
-fn callable_of(machine: &Machine, value: &Value) -> Option<Ref>
+fn callable_of<S: Store>(machine: &Machine<S>, value: &Value) -> Option<Ref>
     ensures { result ≡ callable_in machine.now value.now }
 {
     match value {
@@ -47,8 +48,8 @@ fn callable_of(machine: &Machine, value: &Value) -> Option<Ref>
 }
 
 /// The next method is tried, if there is one.
-pub fn next_method(
-    machine: &mut Machine,
+pub fn next_method<S: Store>(
+    machine: &mut Machine<S>,
     object: Ref,
     goal: Goal,
     last: bool,
@@ -64,8 +65,8 @@ pub fn next_method(
 }
 
 /// A method of an object is called.
-fn call_method(
-    machine: &mut Machine,
+fn call_method<S: Store>(
+    machine: &mut Machine<S>,
     object: Ref,
     goal: Goal,
     last: bool,
@@ -82,8 +83,8 @@ fn call_method(
 }
 
 /// A method of an object is known: it is called where it can be, and else the next one is tried.
-fn method_known(
-    machine: &mut Machine,
+fn method_known<S: Store>(
+    machine: &mut Machine<S>,
     object: Ref,
     goal: Goal,
     last: bool,
@@ -98,8 +99,8 @@ fn method_known(
 }
 
 /// A method comes to the frame that has the object.
-pub fn method_got(
-    machine: &mut Machine,
+pub fn method_got<S: Store>(
+    machine: &mut Machine<S>,
     last: bool,
     goal: Goal,
     method: Value,
@@ -113,7 +114,7 @@ pub fn method_got(
 }
 
 /// A primitive value becomes a property key (ECMA-262, ToPropertyKey, steps 2 and 3).
-pub fn reach_key(machine: &mut Machine, goal: KeyGoal, value: Value) -> Result<Mode, OutOfMemory>
+pub fn reach_key<S: Store>(machine: &mut Machine<S>, goal: KeyGoal, value: Value) -> Result<Mode, OutOfMemory>
     ensures { let goal = goal_kind.Key goal in
         IfOk result (Reaches goal value machine.old machine.new) }
 {
@@ -127,7 +128,7 @@ pub fn reach_key(machine: &mut Machine, goal: KeyGoal, value: Value) -> Result<M
 }
 
 /// What a property key is for goes on with it.
-fn key_comes(machine: &mut Machine, goal: KeyGoal, key: Key) -> Result<Mode, OutOfMemory>
+fn key_comes<S: Store>(machine: &mut Machine<S>, goal: KeyGoal, key: Key) -> Result<Mode, OutOfMemory>
     ensures { IfOk result (KeyReaches goal key machine.old machine.new) }
 {
     match goal {
@@ -140,7 +141,7 @@ fn key_comes(machine: &mut Machine, goal: KeyGoal, key: Key) -> Result<Mode, Out
 }
 
 /// A value becomes a property key, and what that is for goes on with it: at once, or once an object became a primitive value (ECMA-262, ToPropertyKey). What it is for stands on the stack of values.
-pub fn with_key_of(machine: &mut Machine, value: Value, goal: KeyGoal) -> Result<Mode, OutOfMemory>
+pub fn with_key_of<S: Store>(machine: &mut Machine<S>, value: Value, goal: KeyGoal) -> Result<Mode, OutOfMemory>
     ensures { IfOk result (BecomesKey value goal machine.old machine.new) }
 {
     match object_of_value(&value) {

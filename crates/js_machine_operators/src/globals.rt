@@ -14,12 +14,13 @@ use js_desc::ask::Ask;
 use js_desc::fault::FaultText;
 use js_machine::frame::{Frame, Mode};
 use js_machine::machine::Machine;
+use js_store::store::Store;
 use js_text::copy::copy_value;
 use js_text::value::{Key, Value};
 use lava_base::memory::OutOfMemory;
 
 /// The key of a name.
-fn name_key(machine: &Machine, name: u32) -> Result<Key, OutOfMemory>
+fn name_key<S: Store>(machine: &Machine<S>, name: u32) -> Result<Key, OutOfMemory>
     ensures { let name = text_at machine.now.code name in
         IfOk result (λ k. k ≡ key_kind.Text name) }
 {
@@ -27,7 +28,7 @@ fn name_key(machine: &Machine, name: u32) -> Result<Key, OutOfMemory>
 }
 
 /// There is no such name.
-fn fault_undefined(machine: &mut Machine, name: u32) -> Result<Mode, OutOfMemory>
+fn fault_undefined<S: Store>(machine: &mut Machine<S>, name: u32) -> Result<Mode, OutOfMemory>
     ensures { let missing = fault_kind.NotDefined (text_at machine.old.code name) in
         IfOk result (LeadsTo (λ a. faults (naming_of machine.old.me) missing (party_of a
         machine.old)) machine.old machine.new) }
@@ -37,7 +38,7 @@ fn fault_undefined(machine: &mut Machine, name: u32) -> Result<Mode, OutOfMemory
 }
 
 /// Asks whether there is a free name, which is read.
-pub fn begin_global(machine: &mut Machine, name: u32, soft: bool) -> Result<Mode, OutOfMemory>
+pub fn begin_global<S: Store>(machine: &mut Machine<S>, name: u32, soft: bool) -> Result<Mode, OutOfMemory>
     ensures { let text = text_at machine.old.code name in
         IfOk result (LeadsTo (λ a. global_value (naming_of machine.old.me) text soft
         (party_of a machine.old))
@@ -52,7 +53,7 @@ pub fn begin_global(machine: &mut Machine, name: u32, soft: bool) -> Result<Mode
 }
 
 /// Reads a free name that is there.
-fn get_global(machine: &mut Machine, name: u32) -> Result<Mode, OutOfMemory>
+fn get_global<S: Store>(machine: &mut Machine<S>, name: u32) -> Result<Mode, OutOfMemory>
     ensures { let key = key_kind.Text (text_at machine.old.code name) in
         IfOk result (LeadsTo (λ a. get_global (naming_of machine.old.me) key (party_of a
         machine.old)) machine.old machine.new) }
@@ -67,7 +68,7 @@ fn get_global(machine: &mut Machine, name: u32) -> Result<Mode, OutOfMemory>
 }
 
 /// A free name that is not there: under `typeof` it is undefined.
-fn missing_global(machine: &mut Machine, name: u32, soft: bool) -> Result<Mode, OutOfMemory>
+fn missing_global<S: Store>(machine: &mut Machine<S>, name: u32, soft: bool) -> Result<Mode, OutOfMemory>
     ensures { let text = text_at machine.old.code name in
         IfOk result (LeadsTo (λ a. missing_global (naming_of machine.old.me) text soft
         (party_of a machine.old))
@@ -80,8 +81,8 @@ fn missing_global(machine: &mut Machine, name: u32, soft: bool) -> Result<Mode, 
 }
 
 /// Reads a free name, as it is there or not (ECMA-262, GetValue).
-pub fn global_found(
-    machine: &mut Machine,
+pub fn global_found<S: Store>(
+    machine: &mut Machine<S>,
     name: u32,
     soft: bool,
     there: bool,
@@ -99,7 +100,7 @@ pub fn global_found(
 }
 
 /// Asks whether there is a free name, which is written.
-pub fn begin_set_global(machine: &mut Machine, name: u32, value: u32) -> Result<Mode, OutOfMemory>
+pub fn begin_set_global<S: Store>(machine: &mut Machine<S>, name: u32, value: u32) -> Result<Mode, OutOfMemory>
     ensures { let text = text_at machine.old.code name in
         let term = term_at machine.old.code value in
         IfOk result (LeadsTo (λ a. set_global (naming_of machine.old.me) text term
@@ -115,7 +116,7 @@ pub fn begin_set_global(machine: &mut Machine, name: u32, value: u32) -> Result<
 }
 
 /// Writes a free name that is there.
-fn write_global(machine: &mut Machine, name: u32, value: Value) -> Result<Mode, OutOfMemory>
+fn write_global<S: Store>(machine: &mut Machine<S>, name: u32, value: Value) -> Result<Mode, OutOfMemory>
     ensures { let text = text_at machine.old.code name in
         IfOk result (LeadsTo (λ a. put_global (naming_of machine.old.me) text Bool.true value
         (party_of a machine.old)) machine.old machine.new) }
@@ -132,8 +133,8 @@ fn write_global(machine: &mut Machine, name: u32, value: Value) -> Result<Mode, 
 }
 
 /// Writes a free name, as it was there or not (ECMA-262, PutValue).
-pub fn put_global(
-    machine: &mut Machine,
+pub fn put_global<S: Store>(
+    machine: &mut Machine<S>,
     name: u32,
     there: bool,
     value: Value,

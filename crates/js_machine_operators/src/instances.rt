@@ -34,7 +34,7 @@ fn bound_target(slot: &Slot) -> Option<Ref>
 
 /// The function that an object stands for, where it is a bound function of the party or of the common part.
 #[tactic(auto, using(js_machine::proofs::Instance_laws::target_there, js_machine::proofs::Instance_laws::no_target))]
-fn target_behind(machine: &Machine, function: Ref) -> Option<Ref>
+fn target_behind<S: Store>(machine: &Machine<S>, function: Ref) -> Option<Ref>
     ensures { result ≡ bound_target_in machine.now function }
 {
     match find_target(&machine.store, &machine.common, function) {
@@ -44,7 +44,7 @@ fn target_behind(machine: &Machine, function: Ref) -> Option<Ref>
 }
 
 /// The function behind bound ones (ECMA-262, OrdinaryHasInstance, step 2).
-fn unbound(machine: &Machine, function: Ref) -> Ref
+fn unbound<S: Store>(machine: &Machine<S>, function: Ref) -> Ref
     ensures { result ≡ unbound_in machine.now (length machine.now.objects) function }
 {
     let mut found = function;
@@ -59,8 +59,8 @@ fn unbound(machine: &Machine, function: Ref) -> Ref
 
 /// What a function has as `prototype` is known (ECMA-262, OrdinaryHasInstance, steps 5 and 6).
 #[tactic(auto, using(js_machine::proofs::Instance_laws::inherited_object, js_machine::proofs::Instance_laws::inherited_other))]
-fn prototype_inherited(
-    machine: &mut Machine,
+fn prototype_inherited<S: Store>(
+    machine: &mut Machine<S>,
     object: Ref,
     prototype: Value,
 ) -> Result<Mode, OutOfMemory>
@@ -74,7 +74,7 @@ fn prototype_inherited(
 }
 
 /// What a function has as `prototype` comes to the frame that has the object.
-pub fn prototype_comes(machine: &mut Machine, prototype: Value) -> Result<Mode, OutOfMemory>
+pub fn prototype_comes<S: Store>(machine: &mut Machine<S>, prototype: Value) -> Result<Mode, OutOfMemory>
     ensures { let frame = frame_kind.InstanceOf in
         IfOk result (LeadsTo (deed_with frame prototype machine.old)
         (under frame machine.old) machine.new) }
@@ -84,7 +84,7 @@ pub fn prototype_comes(machine: &mut Machine, prototype: Value) -> Result<Mode, 
 }
 
 /// A function that is not bound is asked for its `prototype`, from which an object may inherit.
-pub fn get_prototype(machine: &mut Machine, function: Ref, object: Ref) -> Result<Mode, OutOfMemory>
+pub fn get_prototype<S: Store>(machine: &mut Machine<S>, function: Ref, object: Ref) -> Result<Mode, OutOfMemory>
     ensures { let instance = value_kind.Ref object in
         IfOk result (LeadsTo (λ a. has_instance_by (naming_of machine.old.me) a.shared function
         instance (party_of a machine.old)) machine.old machine.new) }
@@ -100,7 +100,7 @@ pub fn get_prototype(machine: &mut Machine, function: Ref, object: Ref) -> Resul
 
 /// Whether a value inherits from a function that is not bound (ECMA-262, OrdinaryHasInstance, steps 3 to 6).
 #[tactic(auto, using(js_machine::proofs::Instance_laws::instance_other))]
-fn has_instance_by(machine: &mut Machine, function: Ref, value: Value) -> Result<Mode, OutOfMemory>
+fn has_instance_by<S: Store>(machine: &mut Machine<S>, function: Ref, value: Value) -> Result<Mode, OutOfMemory>
     ensures { IfOk result (LeadsTo (λ a. has_instance_by (naming_of machine.old.me) a.shared
         function value (party_of a machine.old)) machine.old machine.new) }
 {
@@ -111,7 +111,7 @@ fn has_instance_by(machine: &mut Machine, function: Ref, value: Value) -> Result
 }
 
 /// Whether a value inherits from a function (ECMA-262, OrdinaryHasInstance).
-pub fn has_instance(machine: &mut Machine, function: Ref, value: Value) -> Result<Mode, OutOfMemory>
+pub fn has_instance<S: Store>(machine: &mut Machine<S>, function: Ref, value: Value) -> Result<Mode, OutOfMemory>
     ensures { let callee = value_kind.Ref function in
         IfOk result (LeadsTo (λ a. has_instance (naming_of machine.old.me) a.shared value callee
         (party_of a machine.old)) machine.old machine.new) }

@@ -28,6 +28,7 @@ use js_operators::binary::binary_operation;
 use js_operators::integers::integer_operation;
 use js_operators::rests::converted;
 use js_operators::unary::unary_operation;
+use js_store::store::Store;
 use js_text::text::Text;
 use js_text::value::Value;
 use js_tree::operator::{BinaryOperator, UnaryOperator};
@@ -76,7 +77,7 @@ fn operation_on(
 }
 
 /// A text that was made is given, once its units are paid for.
-fn give_made(machine: &mut Machine, text: Text) -> Result<Mode, OutOfMemory>
+fn give_made<S: Store>(machine: &mut Machine<S>, text: Text) -> Result<Mode, OutOfMemory>
     ensures { IfOk result (LeadsTo (λ a. given_text text (party_of a machine.old))
         machine.old machine.new) }
 {
@@ -89,7 +90,7 @@ fn give_made(machine: &mut Machine, text: Text) -> Result<Mode, OutOfMemory>
 }
 
 /// What was charged for is paid: the value is given.
-pub fn deliver_paid(machine: &mut Machine, mode: Mode) -> Result<Mode, OutOfMemory>
+pub fn deliver_paid<S: Store>(machine: &mut Machine<S>, mode: Mode) -> Result<Mode, OutOfMemory>
     requires { is_completion mode ≡ true }
     ensures { IfOk result (IsDelivered frame_kind.Paid mode machine.old machine.new) }
 {
@@ -101,7 +102,7 @@ pub fn deliver_paid(machine: &mut Machine, mode: Mode) -> Result<Mode, OutOfMemo
 }
 
 /// The name of an object's type (ECMA-262, The typeof Operator).
-fn give_type(machine: &mut Machine, callable: bool) -> Result<Mode, OutOfMemory>
+fn give_type<S: Store>(machine: &mut Machine<S>, callable: bool) -> Result<Mode, OutOfMemory>
     ensures { let name = type_name callable in
         IfOk result (LeadsTo (λ a. give (value_kind.Text name) (party_of a machine.old))
         machine.old machine.new) }
@@ -111,8 +112,8 @@ fn give_type(machine: &mut Machine, callable: bool) -> Result<Mode, OutOfMemory>
 }
 
 /// It is known whether an object can be called.
-fn looked(
-    machine: &mut Machine,
+fn looked<S: Store>(
+    machine: &mut Machine<S>,
     look: Look,
     object: Ref,
     held: Value,
@@ -133,7 +134,7 @@ fn looked(
 }
 
 /// Looks whether an object can be called (ECMA-262, IsCallable).
-fn look_at(machine: &mut Machine, look: Look, object: Ref, held: Value) -> Result<Mode, OutOfMemory>
+fn look_at<S: Store>(machine: &mut Machine<S>, look: Look, object: Ref, held: Value) -> Result<Mode, OutOfMemory>
     ensures { let names = naming_of machine.old.me in
         let target = value_kind.Ref object in
         IfOk result (LeadsTo (λ a. see_callable names a.shared target (party_of a machine.old)
@@ -145,8 +146,8 @@ fn look_at(machine: &mut Machine, look: Look, object: Ref, held: Value) -> Resul
 }
 
 /// An object becomes a primitive value for an operator, which holds an operand.
-fn convert_operand(
-    machine: &mut Machine,
+fn convert_operand<S: Store>(
+    machine: &mut Machine<S>,
     object: Ref,
     rest: Rest,
     held: Value,
@@ -161,7 +162,7 @@ fn convert_operand(
 }
 
 /// Does what an operation says, whatever it is.
-fn operate_any(machine: &mut Machine, operation: Operation) -> Result<Mode, OutOfMemory>
+fn operate_any<S: Store>(machine: &mut Machine<S>, operation: Operation) -> Result<Mode, OutOfMemory>
     ensures { IfOk result (LeadsTo (λ a. act_of (naming_of machine.old.me) a.shared operation
         (party_of a machine.old)) machine.old machine.new) }
 {
@@ -183,7 +184,7 @@ fn operate_any(machine: &mut Machine, operation: Operation) -> Result<Mode, OutO
 
 /// Does what an operation says. (A value, which is what comes of most, is given at once: what the others move would be laid out for it, too.)
 #[inline]
-pub fn operate(machine: &mut Machine, operation: Operation) -> Result<Mode, OutOfMemory>
+pub fn operate<S: Store>(machine: &mut Machine<S>, operation: Operation) -> Result<Mode, OutOfMemory>
     ensures { IfOk result (LeadsTo (λ a. act_of (naming_of machine.old.me) a.shared operation
         (party_of a machine.old)) machine.old machine.new) }
 {
@@ -194,8 +195,8 @@ pub fn operate(machine: &mut Machine, operation: Operation) -> Result<Mode, OutO
 }
 
 /// A unary operator has its operand (ECMA-262, Unary Operators).
-pub fn unary(
-    machine: &mut Machine,
+pub fn unary<S: Store>(
+    machine: &mut Machine<S>,
     operator: UnaryOperator,
     value: Value,
 ) -> Result<Mode, OutOfMemory>
@@ -208,8 +209,8 @@ pub fn unary(
 
 /// A binary operator has its operands (ECMA-262, EvaluateStringOrNumericBinaryExpression).
 #[inline]
-fn binary(
-    machine: &mut Machine,
+fn binary<S: Store>(
+    machine: &mut Machine<S>,
     operator: BinaryOperator,
     left: Value,
     right: Value,
@@ -224,8 +225,8 @@ fn binary(
 
 /// The right operand comes to the frame that has the left one.
 #[inline]
-pub fn go_on_binary(
-    machine: &mut Machine,
+pub fn go_on_binary<S: Store>(
+    machine: &mut Machine<S>,
     operator: BinaryOperator,
     right: Value,
 ) -> Result<Mode, OutOfMemory>
@@ -238,7 +239,7 @@ pub fn go_on_binary(
 }
 
 /// The operand of an operator became a primitive value; another one is held.
-pub fn operand_comes(machine: &mut Machine, rest: Rest, value: Value) -> Result<Mode, OutOfMemory>
+pub fn operand_comes<S: Store>(machine: &mut Machine<S>, rest: Rest, value: Value) -> Result<Mode, OutOfMemory>
     ensures { let goal = goal_kind.Operand rest in
         IfOk result (Reaches goal value machine.old machine.new) }
 {

@@ -22,13 +22,14 @@ use js_desc::fault::FaultText;
 use js_machine::branches::is_nullish;
 use js_machine::frame::{Frame, KeyGoal, Mode};
 use js_machine::machine::Machine;
+use js_store::store::Store;
 use js_text::copy::copy_value;
 use js_text::value::{Key, Value};
 use lava_base::memory::OutOfMemory;
 
 /// The value of a property that has this key.
 #[tactic(auto, using(js_machine::proofs::Referenced::named))]
-fn get_named(machine: &mut Machine, object: Value, key: Key) -> Result<Mode, OutOfMemory>
+fn get_named<S: Store>(machine: &mut Machine<S>, object: Value, key: Key) -> Result<Mode, OutOfMemory>
     ensures { let ask = ask_kind.Get key object in
         IfOk result (WaitsForValue frame_kind.Given object ask machine.old machine.new) }
 {
@@ -41,7 +42,7 @@ fn get_named(machine: &mut Machine, object: Value, key: Key) -> Result<Mode, Out
 }
 
 /// The key of a property that is read is known; its object is on the stack.
-pub fn key_to_get(machine: &mut Machine, key: Key) -> Result<Mode, OutOfMemory>
+pub fn key_to_get<S: Store>(machine: &mut Machine<S>, key: Key) -> Result<Mode, OutOfMemory>
     ensures { IfOk result (KeyReaches key_goal.Get key machine.old machine.new) }
 {
     let object = machine.take();
@@ -49,7 +50,7 @@ pub fn key_to_get(machine: &mut Machine, key: Key) -> Result<Mode, OutOfMemory>
 }
 
 /// The key of a property that is read is an object.
-fn convert_to_get(machine: &mut Machine, object: Value, key: Value) -> Result<Mode, OutOfMemory>
+fn convert_to_get<S: Store>(machine: &mut Machine<S>, object: Value, key: Value) -> Result<Mode, OutOfMemory>
     requires { is_nullish object ≡ Bool.false }
     ensures { IfOk result (LeadsTo (λ a. get_key (naming_of machine.old.me) a.shared object key
         (party_of a machine.old)) machine.old machine.new) }
@@ -59,7 +60,7 @@ fn convert_to_get(machine: &mut Machine, object: Value, key: Value) -> Result<Mo
 }
 
 /// The value of a property of a value (ECMA-262, GetValue, step 3).
-pub fn get_key(machine: &mut Machine, object: Value, key: Value) -> Result<Mode, OutOfMemory>
+pub fn get_key<S: Store>(machine: &mut Machine<S>, object: Value, key: Value) -> Result<Mode, OutOfMemory>
     ensures { IfOk result (LeadsTo (λ a. get_key (naming_of machine.old.me) a.shared object key
         (party_of a machine.old)) machine.old machine.new) }
 {
@@ -73,8 +74,8 @@ pub fn get_key(machine: &mut Machine, object: Value, key: Value) -> Result<Mode,
 }
 
 /// A property that has this key is set, and a frame that has the value waits for whether it is.
-fn ask_to_set(
-    machine: &mut Machine,
+fn ask_to_set<S: Store>(
+    machine: &mut Machine<S>,
     object: Value,
     key: Key,
     value: Value,
@@ -95,7 +96,7 @@ fn ask_to_set(
 }
 
 /// The key of a property that is set is known; the value and the object below it are on the stack.
-pub fn key_to_put(machine: &mut Machine, key: Key) -> Result<Mode, OutOfMemory>
+pub fn key_to_put<S: Store>(machine: &mut Machine<S>, key: Key) -> Result<Mode, OutOfMemory>
     ensures { IfOk result (KeyReaches key_goal.Put key machine.old machine.new) }
 {
     let value = machine.take();
@@ -104,8 +105,8 @@ pub fn key_to_put(machine: &mut Machine, key: Key) -> Result<Mode, OutOfMemory>
 }
 
 /// The key of a property that is set is an object.
-fn convert_to_put(
-    machine: &mut Machine,
+fn convert_to_put<S: Store>(
+    machine: &mut Machine<S>,
     object: Value,
     key: Value,
     value: Value,
@@ -120,8 +121,8 @@ fn convert_to_put(
 }
 
 /// A property of a value is set (ECMA-262, PutValue, step 3).
-pub fn put_property(
-    machine: &mut Machine,
+pub fn put_property<S: Store>(
+    machine: &mut Machine<S>,
     object: Value,
     key: Value,
     value: Value,
@@ -139,7 +140,7 @@ pub fn put_property(
 }
 
 /// Whether a property was set: the value is given, or there is an error.
-pub fn set_done(machine: &mut Machine, done: bool, value: Value) -> Result<Mode, OutOfMemory>
+pub fn set_done<S: Store>(machine: &mut Machine<S>, done: bool, value: Value) -> Result<Mode, OutOfMemory>
     ensures { IfOk result (LeadsTo (λ a. if done then give value (party_of a machine.old)
         else faults (naming_of machine.old.me) fault_kind.CannotSet
         (party_of a machine.old)) machine.old machine.new) }
@@ -151,7 +152,7 @@ pub fn set_done(machine: &mut Machine, done: bool, value: Value) -> Result<Mode,
 }
 
 /// The key of a property that is deleted is an object.
-fn convert_to_delete(machine: &mut Machine, object: Value, key: Value) -> Result<Mode, OutOfMemory>
+fn convert_to_delete<S: Store>(machine: &mut Machine<S>, object: Value, key: Value) -> Result<Mode, OutOfMemory>
     requires { is_nullish object ≡ Bool.false }
     ensures { IfOk result (LeadsTo (λ a. delete_property (naming_of machine.old.me) a.shared object
         key (party_of a machine.old)) machine.old machine.new) }
@@ -161,8 +162,8 @@ fn convert_to_delete(machine: &mut Machine, object: Value, key: Value) -> Result
 }
 
 /// A property of a value is deleted (ECMA-262, "The delete Operator").
-pub fn delete_property(
-    machine: &mut Machine,
+pub fn delete_property<S: Store>(
+    machine: &mut Machine<S>,
     object: Value,
     key: Value,
 ) -> Result<Mode, OutOfMemory>
@@ -179,7 +180,7 @@ pub fn delete_property(
 }
 
 /// The key of a property that is deleted is known; its object is on the stack.
-pub fn key_to_delete(machine: &mut Machine, key: Key) -> Result<Mode, OutOfMemory>
+pub fn key_to_delete<S: Store>(machine: &mut Machine<S>, key: Key) -> Result<Mode, OutOfMemory>
     ensures { IfOk result (KeyReaches key_goal.Delete key machine.old machine.new) }
 {
     let object = machine.take();
@@ -187,7 +188,7 @@ pub fn key_to_delete(machine: &mut Machine, key: Key) -> Result<Mode, OutOfMemor
 }
 
 /// Whether a property was deleted: true is given, or there is an error.
-pub fn delete_done(machine: &mut Machine, done: bool) -> Result<Mode, OutOfMemory>
+pub fn delete_done<S: Store>(machine: &mut Machine<S>, done: bool) -> Result<Mode, OutOfMemory>
     ensures { IfOk result (LeadsTo (λ a. if done then give (truth_value.Bool Bool.true) (party_of a
         machine.old) else faults (naming_of machine.old.me) fault_kind.CannotDelete (party_of a
         machine.old)) machine.old machine.new) }

@@ -16,12 +16,13 @@ use js_machine::frame::{Frame, Mode};
 use js_machine::machine::Machine;
 use js_machine_operators::globals::global_found;
 use js_machine_operators::properties::{delete_done, set_done};
+use js_store::store::Store;
 use js_text::value::Value;
 use lava_base::ids::Ref;
 use lava_base::memory::OutOfMemory;
 
 /// The answer, where it is a truth value.
-pub fn flag(machine: &Machine) -> Option<bool>
+pub fn flag<S: Store>(machine: &Machine<S>) -> Option<bool>
     ensures { result ≡ flag_in machine.now.answer }
 {
     match &machine.answer {
@@ -32,7 +33,7 @@ pub fn flag(machine: &Machine) -> Option<bool>
 
 /// Whether a property was set comes to the frame that has the value.
 #[tactic(auto, using(crate::proofs::Replied::set_known))]
-fn deliver_set(machine: &mut Machine, done: bool) -> Result<Mode, OutOfMemory>
+fn deliver_set<S: Store>(machine: &mut Machine<S>, done: bool) -> Result<Mode, OutOfMemory>
     ensures { let reply = reply_kind.Flag done in
         IfOk result (LeadsTo (deed_replied frame_kind.HasSet reply machine.old)
         (under frame_kind.HasSet machine.old) machine.new) }
@@ -42,7 +43,7 @@ fn deliver_set(machine: &mut Machine, done: bool) -> Result<Mode, OutOfMemory>
 }
 
 /// A frame that waits for a truth value goes on with it.
-fn go_on_flag(machine: &mut Machine, frame: Frame, flag: bool) -> Result<Mode, OutOfMemory>
+fn go_on_flag<S: Store>(machine: &mut Machine<S>, frame: Frame, flag: bool) -> Result<Mode, OutOfMemory>
     ensures { let reply = reply_kind.Flag flag in
         IfOk result (LeadsTo (deed_replied frame reply machine.old)
         (under frame machine.old) machine.new) }
@@ -61,7 +62,7 @@ fn go_on_flag(machine: &mut Machine, frame: Frame, flag: bool) -> Result<Mode, O
 }
 
 /// An answer passes a frame that takes values alone.
-fn pass_answer(machine: &mut Machine, frame: Frame) -> Result<Mode, OutOfMemory>
+fn pass_answer<S: Store>(machine: &mut Machine<S>, frame: Frame) -> Result<Mode, OutOfMemory>
     requires takes { takes_values frame ≡ Bool.true }
     requires none { takes_answers frame ≡ Bool.false }
     ensures { IfOk result (IsDelivered frame mode_kind.Answer machine.old machine.new) }
@@ -72,7 +73,7 @@ fn pass_answer(machine: &mut Machine, frame: Frame) -> Result<Mode, OutOfMemory>
 
 /// An answer comes to a frame that waits for a truth value.
 #[tactic(auto, using(crate::proofs::Replied::flag_comes))]
-fn deliver_flag(machine: &mut Machine, frame: Frame) -> Result<Mode, OutOfMemory>
+fn deliver_flag<S: Store>(machine: &mut Machine<S>, frame: Frame) -> Result<Mode, OutOfMemory>
     ensures { IfOk result (IsDelivered frame mode_kind.Answer machine.old machine.new) }
 {
     match flag(machine) {
@@ -82,7 +83,7 @@ fn deliver_flag(machine: &mut Machine, frame: Frame) -> Result<Mode, OutOfMemory
 }
 
 /// An answer leaves a scope.
-fn leave_scope(machine: &mut Machine, scope: u32) -> Result<Mode, OutOfMemory>
+fn leave_scope<S: Store>(machine: &mut Machine<S>, scope: u32) -> Result<Mode, OutOfMemory>
     ensures { IfOk result (IsDelivered (frame_kind.ScopeExit scope) mode_kind.Answer machine.old
         machine.new) }
 {
@@ -91,7 +92,7 @@ fn leave_scope(machine: &mut Machine, scope: u32) -> Result<Mode, OutOfMemory>
 }
 
 /// A value comes to a frame that waits for another answer, and passes it.
-pub fn pass_value(machine: &mut Machine, frame: Frame, value: Value) -> Result<Mode, OutOfMemory>
+pub fn pass_value<S: Store>(machine: &mut Machine<S>, frame: Frame, value: Value) -> Result<Mode, OutOfMemory>
     requires { takes_answers frame ≡ Bool.true }
     ensures { IfOk result (LeadsTo (deed_with frame value machine.old)
         (under frame machine.old) machine.new) }
@@ -102,7 +103,7 @@ pub fn pass_value(machine: &mut Machine, frame: Frame, value: Value) -> Result<M
 
 /// An answer comes to a frame that was taken off.
 #[tactic(auto, using(crate::proofs::Replied::leaves_label, crate::proofs::Replied::leaves_loop))]
-pub fn deliver_answer(machine: &mut Machine, frame: Frame) -> Result<Mode, OutOfMemory>
+pub fn deliver_answer<S: Store>(machine: &mut Machine<S>, frame: Frame) -> Result<Mode, OutOfMemory>
     ensures { IfOk result (IsDelivered frame mode_kind.Answer machine.old machine.new) }
 {
     if frame.takes_answers() {

@@ -15,11 +15,12 @@ use js_in_place::js_machine_calls::supers::{apply_super_call, apply_super_new};
 use js_machine::frame::{Frame, Mode, Purpose};
 use js_machine::machine::Machine;
 use js_machine_natives::natives::run_native;
+use js_store::store::Store;
 use js_text::value::Value;
 use lava_base::memory::OutOfMemory;
 
 /// What so many arguments are for goes on with them.
-pub fn apply(machine: &mut Machine, purpose: Purpose, done: u32) -> Result<Mode, OutOfMemory>
+pub fn apply<S: Store>(machine: &mut Machine<S>, purpose: Purpose, done: u32) -> Result<Mode, OutOfMemory>
     ensures { let args = args_on done machine.old.values in
         let below = drop done machine.old.values in
         let rest = record machine.old { values = drop (done + held purpose) machine.old.values } in
@@ -36,8 +37,8 @@ pub fn apply(machine: &mut Machine, purpose: Purpose, done: u32) -> Result<Mode,
 }
 
 /// The next argument is evaluated, where so many are there; what they are for goes on where there is no other (ECMA-262, ArgumentListEvaluation).
-pub fn next_argument(
-    machine: &mut Machine,
+pub fn next_argument<S: Store>(
+    machine: &mut Machine<S>,
     purpose: Purpose,
     done: u32,
     start: u32,
@@ -68,8 +69,8 @@ pub fn next_argument(
 }
 
 /// An argument has its value.
-pub fn argument_comes(
-    machine: &mut Machine,
+pub fn argument_comes<S: Store>(
+    machine: &mut Machine<S>,
     purpose: Purpose,
     done: u32,
     start: u32,
@@ -91,8 +92,8 @@ pub fn argument_comes(
 }
 
 /// The arguments of a call begin.
-pub fn begin_arguments(
-    machine: &mut Machine,
+pub fn begin_arguments<S: Store>(
+    machine: &mut Machine<S>,
     purpose: Purpose,
     arguments: u32,
 ) -> Result<Mode, OutOfMemory>
@@ -109,8 +110,8 @@ pub fn begin_arguments(
 }
 
 /// What is called has its value, and its arguments begin (ECMA-262, EvaluateCall).
-pub fn callee_comes(
-    machine: &mut Machine,
+pub fn callee_comes<S: Store>(
+    machine: &mut Machine<S>,
     this: Value,
     arguments: u32,
     callee: Value,
@@ -126,8 +127,8 @@ pub fn callee_comes(
 }
 
 /// A method has its value, which is called on the newest value (ECMA-262, EvaluateCall, of a property reference).
-pub fn method_comes(
-    machine: &mut Machine,
+pub fn method_comes<S: Store>(
+    machine: &mut Machine<S>,
     arguments: u32,
     callee: Value,
 ) -> Result<Mode, OutOfMemory>
@@ -142,8 +143,8 @@ pub fn method_comes(
 }
 
 /// What constructs has its value, and its arguments begin (ECMA-262, EvaluateNew).
-pub fn new_callee_comes(
-    machine: &mut Machine,
+pub fn new_callee_comes<S: Store>(
+    machine: &mut Machine<S>,
     arguments: u32,
     callee: Value,
 ) -> Result<Mode, OutOfMemory>

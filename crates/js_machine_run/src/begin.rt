@@ -30,6 +30,7 @@ use js_machine::frame::{Frame, Halt, Mode, Purpose};
 use js_machine::machine::Machine;
 use js_machine_classes::classes::begin_class;
 use js_machine_operators::globals::{begin_global, begin_set_global};
+use js_store::store::Store;
 use js_text::native::Native;
 use js_text::value::{Symbol, Value};
 use js_tree::operator::{BinaryOperator, LogicalOperator, UnaryOperator};
@@ -37,7 +38,7 @@ use lava_base::ids::{CommonId, Ref};
 use lava_base::memory::OutOfMemory;
 
 /// The row of a place.
-pub fn node(machine: &Machine, at: u32) -> Node
+pub fn node<S: Store>(machine: &Machine<S>, at: u32) -> Node
     ensures { let low = term_at machine.now.code in
         out-Term (low at) ≡ layer_of machine.now.code low result }
 {
@@ -45,7 +46,7 @@ pub fn node(machine: &Machine, at: u32) -> Node
 }
 
 /// A literal that is a text.
-fn give_text(machine: &mut Machine, at: u32) -> Result<Mode, OutOfMemory>
+fn give_text<S: Store>(machine: &mut Machine<S>, at: u32) -> Result<Mode, OutOfMemory>
     ensures { let text = text_at machine.old.code at in
         IfOk result (LeadsTo (λ a. give (text_value.Text text) (party_of a machine.old)) machine.old
         machine.new) }
@@ -56,7 +57,7 @@ fn give_text(machine: &mut Machine, at: u32) -> Result<Mode, OutOfMemory>
 
 /// The value undefined.
 #[inline]
-fn give_undefined(machine: &mut Machine) -> Result<Mode, OutOfMemory>
+fn give_undefined<S: Store>(machine: &mut Machine<S>) -> Result<Mode, OutOfMemory>
     ensures { IfOk result (LeadsTo (λ a. give (text_value.Undefined) (party_of a machine.old)) machine.old
         machine.new) }
 {
@@ -65,7 +66,7 @@ fn give_undefined(machine: &mut Machine) -> Result<Mode, OutOfMemory>
 
 /// The value null.
 #[inline]
-fn give_null(machine: &mut Machine) -> Result<Mode, OutOfMemory>
+fn give_null<S: Store>(machine: &mut Machine<S>) -> Result<Mode, OutOfMemory>
     ensures { IfOk result (LeadsTo (λ a. give (text_value.Null) (party_of a machine.old)) machine.old
         machine.new) }
 {
@@ -74,7 +75,7 @@ fn give_null(machine: &mut Machine) -> Result<Mode, OutOfMemory>
 
 /// A truth value.
 #[inline]
-fn give_truth(machine: &mut Machine, truth: bool) -> Result<Mode, OutOfMemory>
+fn give_truth<S: Store>(machine: &mut Machine<S>, truth: bool) -> Result<Mode, OutOfMemory>
     ensures { IfOk result (LeadsTo (λ a. give (text_value.Bool truth) (party_of a machine.old)) machine.old
         machine.new) }
 {
@@ -83,7 +84,7 @@ fn give_truth(machine: &mut Machine, truth: bool) -> Result<Mode, OutOfMemory>
 
 /// An integer.
 #[inline]
-fn give_integer(machine: &mut Machine, n: i64) -> Result<Mode, OutOfMemory>
+fn give_integer<S: Store>(machine: &mut Machine<S>, n: i64) -> Result<Mode, OutOfMemory>
     ensures { IfOk result (LeadsTo (λ a. give (text_value.Int n) (party_of a machine.old)) machine.old
         machine.new) }
 {
@@ -92,7 +93,7 @@ fn give_integer(machine: &mut Machine, n: i64) -> Result<Mode, OutOfMemory>
 
 /// An object of the common part.
 #[inline]
-fn give_common(machine: &mut Machine, id: u32) -> Result<Mode, OutOfMemory>
+fn give_common<S: Store>(machine: &mut Machine<S>, id: u32) -> Result<Mode, OutOfMemory>
     ensures { IfOk result (LeadsTo (λ a. give (text_value.Ref (ref.Common (record { 0 = id }))) (party_of a machine.old)) machine.old
         machine.new) }
 {
@@ -101,7 +102,7 @@ fn give_common(machine: &mut Machine, id: u32) -> Result<Mode, OutOfMemory>
 
 /// The symbol of iterators.
 #[inline]
-fn give_iterator(machine: &mut Machine) -> Result<Mode, OutOfMemory>
+fn give_iterator<S: Store>(machine: &mut Machine<S>) -> Result<Mode, OutOfMemory>
     ensures { IfOk result (LeadsTo (λ a. give (text_value.Symbol symbol.Iterator) (party_of a machine.old)) machine.old
         machine.new) }
 {
@@ -110,8 +111,8 @@ fn give_iterator(machine: &mut Machine) -> Result<Mode, OutOfMemory>
 
 /// A slot waits for its value.
 #[inline]
-fn wait_local(
-    machine: &mut Machine,
+fn wait_local<S: Store>(
+    machine: &mut Machine<S>,
     hops: u32,
     slot: u32,
     constant: bool,
@@ -132,7 +133,7 @@ fn wait_local(
 
 /// A slot waits for its first value.
 #[inline]
-fn wait_first(machine: &mut Machine, hops: u32, slot: u32, value: u32) -> Result<Mode, OutOfMemory>
+fn wait_first<S: Store>(machine: &mut Machine<S>, hops: u32, slot: u32, value: u32) -> Result<Mode, OutOfMemory>
     ensures { let frame = frame_kind.Init hops slot in
         IfOk result (Waits frame value machine.old machine.new) }
 {
@@ -141,8 +142,8 @@ fn wait_first(machine: &mut Machine, hops: u32, slot: u32, value: u32) -> Result
 
 /// An operator waits for its operand.
 #[inline]
-fn wait_operand(
-    machine: &mut Machine,
+fn wait_operand<S: Store>(
+    machine: &mut Machine<S>,
     operator: UnaryOperator,
     operand: u32,
 ) -> Result<Mode, OutOfMemory>
@@ -154,8 +155,8 @@ fn wait_operand(
 
 /// A binary operator waits for its left operand.
 #[inline]
-fn wait_left(
-    machine: &mut Machine,
+fn wait_left<S: Store>(
+    machine: &mut Machine<S>,
     operator: BinaryOperator,
     left: u32,
     right: u32,
@@ -168,8 +169,8 @@ fn wait_left(
 
 /// A logical operator waits for its left operand.
 #[inline]
-fn wait_short(
-    machine: &mut Machine,
+fn wait_short<S: Store>(
+    machine: &mut Machine<S>,
     operator: LogicalOperator,
     left: u32,
     right: u32,
@@ -182,7 +183,7 @@ fn wait_short(
 
 /// A branch without an alternate waits for its test.
 #[inline]
-fn wait_test(machine: &mut Machine, test: u32, consequent: u32) -> Result<Mode, OutOfMemory>
+fn wait_test<S: Store>(machine: &mut Machine<S>, test: u32, consequent: u32) -> Result<Mode, OutOfMemory>
     ensures { let frame = frame_kind.If consequent in
         IfOk result (Waits frame test machine.old machine.new) }
 {
@@ -191,8 +192,8 @@ fn wait_test(machine: &mut Machine, test: u32, consequent: u32) -> Result<Mode, 
 
 /// A branch waits for its test.
 #[inline]
-fn wait_choice(
-    machine: &mut Machine,
+fn wait_choice<S: Store>(
+    machine: &mut Machine<S>,
     test: u32,
     consequent: u32,
     alternate: u32,
@@ -211,7 +212,7 @@ fn wait_choice(
 
 /// A label waits for its body.
 #[inline]
-fn wait_label(machine: &mut Machine, label: u32, body: u32) -> Result<Mode, OutOfMemory>
+fn wait_label<S: Store>(machine: &mut Machine<S>, label: u32, body: u32) -> Result<Mode, OutOfMemory>
     ensures { let frame = frame_kind.Label label in
         IfOk result (Waits frame body machine.old machine.new) }
 {
@@ -220,7 +221,7 @@ fn wait_label(machine: &mut Machine, label: u32, body: u32) -> Result<Mode, OutO
 
 /// A throw waits for its value.
 #[inline]
-fn wait_thrown(machine: &mut Machine, value: u32) -> Result<Mode, OutOfMemory>
+fn wait_thrown<S: Store>(machine: &mut Machine<S>, value: u32) -> Result<Mode, OutOfMemory>
     ensures { let frame = frame_kind.Throw in
         IfOk result (Waits frame value machine.old machine.new) }
 {
@@ -229,7 +230,7 @@ fn wait_thrown(machine: &mut Machine, value: u32) -> Result<Mode, OutOfMemory>
 
 /// A property waits for its object.
 #[inline]
-fn wait_object(machine: &mut Machine, object: u32, key: u32) -> Result<Mode, OutOfMemory>
+fn wait_object<S: Store>(machine: &mut Machine<S>, object: u32, key: u32) -> Result<Mode, OutOfMemory>
     ensures { let frame = frame_kind.GetObject key in
         IfOk result (Waits frame object machine.old machine.new) }
 {
@@ -238,8 +239,8 @@ fn wait_object(machine: &mut Machine, object: u32, key: u32) -> Result<Mode, Out
 
 /// A property that is set waits for its object.
 #[inline]
-fn wait_target(
-    machine: &mut Machine,
+fn wait_target<S: Store>(
+    machine: &mut Machine<S>,
     object: u32,
     key: u32,
     value: u32,
@@ -252,7 +253,7 @@ fn wait_target(
 
 /// A property that is deleted waits for its object.
 #[inline]
-fn wait_deleted(machine: &mut Machine, object: u32, key: u32) -> Result<Mode, OutOfMemory>
+fn wait_deleted<S: Store>(machine: &mut Machine<S>, object: u32, key: u32) -> Result<Mode, OutOfMemory>
     ensures { let frame = frame_kind.DeleteObject key in
         IfOk result (Waits frame object machine.old machine.new) }
 {
@@ -261,7 +262,7 @@ fn wait_deleted(machine: &mut Machine, object: u32, key: u32) -> Result<Mode, Ou
 
 /// A property of `super` waits for its key.
 #[inline]
-fn wait_super(machine: &mut Machine, key: u32) -> Result<Mode, OutOfMemory>
+fn wait_super<S: Store>(machine: &mut Machine<S>, key: u32) -> Result<Mode, OutOfMemory>
     ensures { let frame = frame_kind.SuperKey in
         IfOk result (Waits frame key machine.old machine.new) }
 {
@@ -270,7 +271,7 @@ fn wait_super(machine: &mut Machine, key: u32) -> Result<Mode, OutOfMemory>
 
 /// A call waits for what it calls.
 #[inline]
-fn wait_callee(machine: &mut Machine, callee: u32, arguments: u32) -> Result<Mode, OutOfMemory>
+fn wait_callee<S: Store>(machine: &mut Machine<S>, callee: u32, arguments: u32) -> Result<Mode, OutOfMemory>
     ensures { let frame = frame_kind.Callee arguments in
         IfOk result (Waits frame callee machine.old machine.new) }
 {
@@ -279,7 +280,7 @@ fn wait_callee(machine: &mut Machine, callee: u32, arguments: u32) -> Result<Mod
 
 /// A construction waits for what constructs.
 #[inline]
-fn wait_constructor(machine: &mut Machine, callee: u32, arguments: u32) -> Result<Mode, OutOfMemory>
+fn wait_constructor<S: Store>(machine: &mut Machine<S>, callee: u32, arguments: u32) -> Result<Mode, OutOfMemory>
     ensures { let frame = frame_kind.NewCallee arguments in
         IfOk result (Waits frame callee machine.old machine.new) }
 {
@@ -288,8 +289,8 @@ fn wait_constructor(machine: &mut Machine, callee: u32, arguments: u32) -> Resul
 
 /// A call of a method waits for its object.
 #[inline]
-fn wait_receiver(
-    machine: &mut Machine,
+fn wait_receiver<S: Store>(
+    machine: &mut Machine<S>,
     object: u32,
     key: u32,
     arguments: u32,
@@ -302,7 +303,7 @@ fn wait_receiver(
 
 /// A call of a method of `super` waits for its key.
 #[inline]
-fn wait_method(machine: &mut Machine, key: u32, arguments: u32) -> Result<Mode, OutOfMemory>
+fn wait_method<S: Store>(machine: &mut Machine<S>, key: u32, arguments: u32) -> Result<Mode, OutOfMemory>
     ensures { let frame = frame_kind.CallSuperKey arguments in
         IfOk result (Waits frame key machine.old machine.new) }
 {
@@ -311,8 +312,8 @@ fn wait_method(machine: &mut Machine, key: u32, arguments: u32) -> Result<Mode, 
 
 /// Parts wait for their object.
 #[inline]
-fn wait_defined(
-    machine: &mut Machine,
+fn wait_defined<S: Store>(
+    machine: &mut Machine<S>,
     object: u32,
     start: u32,
     count: u32,
@@ -325,8 +326,8 @@ fn wait_defined(
 
 /// The operands of a native begin.
 #[inline]
-fn begin_native(
-    machine: &mut Machine,
+fn begin_native<S: Store>(
+    machine: &mut Machine<S>,
     which: Native,
     start: u32,
     count: u32,
@@ -344,7 +345,7 @@ fn begin_native(
 
 /// Begins a form, whose own step is paid.
 #[tactic(auto, using(js_machine::proofs::Leads::begun_ok))]
-pub fn begin(machine: &mut Machine, at: u32) -> Result<Mode, OutOfMemory>
+pub fn begin<S: Store>(machine: &mut Machine<S>, at: u32) -> Result<Mode, OutOfMemory>
     ensures { IfOk result (IsBegun at machine.old machine.new) }
 {
     match node(machine, at) {

@@ -11,13 +11,14 @@ use js_machine::machine::Machine;
 use js_machine_classes::parts::reach_part;
 use js_machine_operators::conversions::{next_method, reach_key};
 use js_machine_operators::operators::operand_comes;
+use js_store::store::Store;
 use js_text::value::{Key, Value};
 use lava_base::ids::Ref;
 use lava_base::memory::OutOfMemory;
 
 /// What a method gave is known: a value that is no object is the primitive one, and else the next method is tried.
-fn result_known(
-    machine: &mut Machine,
+fn result_known<S: Store>(
+    machine: &mut Machine<S>,
     object: Ref,
     goal: Goal,
     last: bool,
@@ -32,8 +33,8 @@ fn result_known(
 }
 
 /// What a method gave comes to the frame that has the object.
-pub fn method_gave(
-    machine: &mut Machine,
+pub fn method_gave<S: Store>(
+    machine: &mut Machine<S>,
     last: bool,
     goal: Goal,
     value: Value,
@@ -47,7 +48,7 @@ pub fn method_gave(
 }
 
 /// What a primitive value is for goes on with it.
-fn reach(machine: &mut Machine, goal: Goal, value: Value) -> Result<Mode, OutOfMemory>
+fn reach<S: Store>(machine: &mut Machine<S>, goal: Goal, value: Value) -> Result<Mode, OutOfMemory>
     ensures { IfOk result (Reaches goal value machine.old machine.new) }
 {
     match goal {

@@ -38,12 +38,13 @@ use js_machine_natives::natives::resume_native;
 use js_machine_natives::slot_asks::resume_told;
 use js_machine_natives::to_number::resume_got;
 use js_ordinary::next::Next as OrdinaryNext;
+use js_store::store::Store;
 use lava_base::ids::Ref;
 use lava_base::memory::OutOfMemory;
 
 /// The ask of a decision that waits.
-fn follow_ask(
-    machine: &mut Machine,
+fn follow_ask<S: Store>(
+    machine: &mut Machine<S>,
     me: Ref,
     target: Option<Ref>,
     ask: Ask,
@@ -60,8 +61,8 @@ fn follow_ask(
 }
 
 /// Follows a decision where no number is wanted.
-pub fn follow_once(
-    machine: &mut Machine,
+pub fn follow_once<S: Store>(
+    machine: &mut Machine<S>,
     me: Ref,
     decision: Decision<ExoticNext>,
 ) -> Result<Mode, OutOfMemory>
@@ -84,8 +85,8 @@ pub fn follow_once(
 }
 
 /// Follows a decision.
-fn follow(
-    machine: &mut Machine,
+fn follow<S: Store>(
+    machine: &mut Machine<S>,
     me: Ref,
     decision: Decision<ExoticNext>,
 ) -> Result<Mode, OutOfMemory>
@@ -101,7 +102,7 @@ fn follow(
 }
 
 /// What the table of decisions says of the ask of the machine.
-fn table_decision(machine: &mut Machine, me: Ref) -> Result<Decision<ExoticNext>, OutOfMemory>
+fn table_decision<S: Store>(machine: &mut Machine<S>, me: Ref) -> Result<Decision<ExoticNext>, OutOfMemory>
     ensures decided { let names = naming_of machine.old.me in
         let decided = decided names machine.old.objects machine.old.common me machine.old.asked.ask
         in
@@ -119,7 +120,7 @@ fn table_decision(machine: &mut Machine, me: Ref) -> Result<Decision<ExoticNext>
 }
 
 /// An object decides as every object does.
-fn decide_as_object(machine: &mut Machine, me: Ref) -> Result<Mode, OutOfMemory>
+fn decide_as_object<S: Store>(machine: &mut Machine<S>, me: Ref) -> Result<Mode, OutOfMemory>
     ensures { IfOk result (LeadsTo (λ a. follows_with (naming_of machine.old.me) a.shared me
         (decided (naming_of machine.old.me) machine.old.objects a.shared.objects me
         machine.old.asked.ask) (party_of a machine.old)) machine.old machine.new) }
@@ -129,7 +130,7 @@ fn decide_as_object(machine: &mut Machine, me: Ref) -> Result<Mode, OutOfMemory>
 }
 
 /// An object decides of the ask of the machine.
-fn decide_object(machine: &mut Machine, me: Ref) -> Result<Mode, OutOfMemory>
+fn decide_object<S: Store>(machine: &mut Machine<S>, me: Ref) -> Result<Mode, OutOfMemory>
     ensures { IfOk result (LeadsTo (λ a. decides_object (naming_of machine.old.me) a.shared me
         machine.old.asked.ask (party_of a machine.old)) machine.old machine.new) }
 {
@@ -144,8 +145,8 @@ fn decide_object(machine: &mut Machine, me: Ref) -> Result<Mode, OutOfMemory>
 }
 
 /// Follows the decision of a primitive value.
-fn follow_primitive(
-    machine: &mut Machine,
+fn follow_primitive<S: Store>(
+    machine: &mut Machine<S>,
     decision: Decision<OrdinaryNext>,
 ) -> Result<Mode, OutOfMemory>
     ensures { let names = naming_of machine.old.me in
@@ -172,7 +173,7 @@ fn follow_primitive(
 
 /// Decides the ask of the machine, whose own step is paid.
 #[tactic(auto, using(js_machine::proofs::Followed::object_decides, js_machine::proofs::Followed::value_decides))]
-pub fn decide(machine: &mut Machine) -> Result<Mode, OutOfMemory>
+pub fn decide<S: Store>(machine: &mut Machine<S>) -> Result<Mode, OutOfMemory>
     ensures { IfOk result (IsDecided machine.old machine.new) }
 {
     match object_of_value(&machine.asked.target) {
@@ -185,8 +186,8 @@ pub fn decide(machine: &mut Machine) -> Result<Mode, OutOfMemory>
 }
 
 /// What a decision that waits says, with the answer.
-fn next_decision(
-    machine: &mut Machine,
+fn next_decision<S: Store>(
+    machine: &mut Machine<S>,
     next: ExoticNext,
     reply: Reply,
 ) -> Result<Decision<ExoticNext>, OutOfMemory>
@@ -206,8 +207,8 @@ fn next_decision(
 }
 
 /// The decision of an object goes on with the answer that it waited for.
-pub fn resume_object(
-    machine: &mut Machine,
+pub fn resume_object<S: Store>(
+    machine: &mut Machine<S>,
     me: Ref,
     next: ExoticNext,
     reply: Reply,
@@ -220,7 +221,7 @@ pub fn resume_object(
 }
 
 /// What waited is open no longer, and goes on with a reply.
-pub fn wake(machine: &mut Machine, wait: Wait, reply: Reply) -> Result<Mode, OutOfMemory>
+pub fn wake<S: Store>(machine: &mut Machine<S>, wait: Wait, reply: Reply) -> Result<Mode, OutOfMemory>
     ensures { IfOk result (Wakes wait reply machine.old machine.new) }
 {
     match wait {
@@ -246,7 +247,7 @@ pub fn wake(machine: &mut Machine, wait: Wait, reply: Reply) -> Result<Mode, Out
 }
 
 /// What waits goes on with a reply.
-pub fn resume_wait(machine: &mut Machine, reply: Reply) -> Result<Mode, OutOfMemory>
+pub fn resume_wait<S: Store>(machine: &mut Machine<S>, reply: Reply) -> Result<Mode, OutOfMemory>
     ensures { let old = machine.old in
         IfOk result (LeadsTo (λ a. go_on (naming_of old.me) a.shared (over frame.Decides old a)
         (Replied reply) (party_of a old)) (under frame.Decides old) machine.new) }
@@ -257,7 +258,7 @@ pub fn resume_wait(machine: &mut Machine, reply: Reply) -> Result<Mode, OutOfMem
 }
 
 /// An answer comes to a decision that waits.
-pub fn resume_answered(machine: &mut Machine) -> Result<Mode, OutOfMemory>
+pub fn resume_answered<S: Store>(machine: &mut Machine<S>) -> Result<Mode, OutOfMemory>
     ensures { IfOk result (IsDelivered frame.Decides mode_kind.Answer machine.old machine.new) }
 {
     let reply = machine.take_answer();
@@ -265,7 +266,7 @@ pub fn resume_answered(machine: &mut Machine) -> Result<Mode, OutOfMemory>
 }
 
 /// A throw comes to a decision that waits.
-pub fn resume_thrown(machine: &mut Machine) -> Result<Mode, OutOfMemory>
+pub fn resume_thrown<S: Store>(machine: &mut Machine<S>) -> Result<Mode, OutOfMemory>
     ensures { IfOk result (IsDelivered frame.Decides mode_kind.Throw machine.old machine.new) }
 {
     let thrown = machine.take();

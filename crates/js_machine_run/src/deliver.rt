@@ -28,11 +28,12 @@ use js_machine_operators::globals::put_global;
 use js_machine_operators::instances::prototype_comes;
 use js_machine_operators::operators::{go_on_binary, unary};
 use js_machine_operators::properties::{delete_property, get_key, put_property};
+use js_store::store::Store;
 use js_text::value::Value;
 use lava_base::memory::OutOfMemory;
 
 /// The newest value comes to a frame that was taken off.
-pub fn deliver_value(machine: &mut Machine, frame: Frame) -> Result<Mode, OutOfMemory>
+pub fn deliver_value<S: Store>(machine: &mut Machine<S>, frame: Frame) -> Result<Mode, OutOfMemory>
     ensures { IfOk result (IsDelivered frame mode.Value machine.old machine.new) }
 {
     let value = machine.take();
@@ -41,7 +42,7 @@ pub fn deliver_value(machine: &mut Machine, frame: Frame) -> Result<Mode, OutOfM
 
 /// The key of a property comes to the frame that has the object.
 #[tactic(auto, using(js_machine::proofs::Operands::with_object))]
-pub(crate) fn go_on_key(machine: &mut Machine, key: Value) -> Result<Mode, OutOfMemory>
+pub(crate) fn go_on_key<S: Store>(machine: &mut Machine<S>, key: Value) -> Result<Mode, OutOfMemory>
     ensures { IfOk result (LeadsTo (deed_with frame_kind.GetKey key machine.old)
         (under frame_kind.GetKey machine.old) machine.new) }
 {
@@ -51,7 +52,7 @@ pub(crate) fn go_on_key(machine: &mut Machine, key: Value) -> Result<Mode, OutOf
 
 /// The value for a property comes to the frame that has the object and the key.
 #[tactic(auto, using(js_machine::proofs::Operands::with_both))]
-pub(crate) fn go_on_put(machine: &mut Machine, value: Value) -> Result<Mode, OutOfMemory>
+pub(crate) fn go_on_put<S: Store>(machine: &mut Machine<S>, value: Value) -> Result<Mode, OutOfMemory>
     ensures { IfOk result (LeadsTo (deed_with frame_kind.PutValue value machine.old)
         (under frame_kind.PutValue machine.old) machine.new) }
 {
@@ -62,7 +63,7 @@ pub(crate) fn go_on_put(machine: &mut Machine, value: Value) -> Result<Mode, Out
 
 /// The key of a property that is to be deleted comes to the frame that has the object.
 #[tactic(auto, using(js_machine::proofs::Operands::to_delete))]
-fn go_on_delete(machine: &mut Machine, key: Value) -> Result<Mode, OutOfMemory>
+fn go_on_delete<S: Store>(machine: &mut Machine<S>, key: Value) -> Result<Mode, OutOfMemory>
     ensures { IfOk result (LeadsTo (deed_with frame_kind.DeleteKey key machine.old)
         (under frame_kind.DeleteKey machine.old) machine.new) }
 {
@@ -71,7 +72,7 @@ fn go_on_delete(machine: &mut Machine, key: Value) -> Result<Mode, OutOfMemory>
 }
 
 /// A frame goes on with a value.
-fn go_on(machine: &mut Machine, frame: Frame, value: Value) -> Result<Mode, OutOfMemory>
+fn go_on<S: Store>(machine: &mut Machine<S>, frame: Frame, value: Value) -> Result<Mode, OutOfMemory>
     ensures { IfOk result (LeadsTo (deed_with frame value machine.old)
         (under frame machine.old) machine.new) }
 {

@@ -10,12 +10,13 @@ use crate::arguments::apply;
 use js_in_place::js_machine_calls::listed_arguments::push_listed;
 use js_machine::frame::{Mode, Purpose};
 use js_machine::machine::Machine;
+use js_store::store::Store;
 use js_text::value::Value;
 use lava_base::memory::OutOfMemory;
 
 /// The array of all arguments has come, and what they are for goes on with them (ECMA-262, ArgumentListEvaluation).
-pub fn arguments_listed(
-    machine: &mut Machine,
+pub fn arguments_listed<S: Store>(
+    machine: &mut Machine<S>,
     purpose: Purpose,
     list: Value,
 ) -> Result<Mode, OutOfMemory>

@@ -13,12 +13,13 @@ use js_machine::branches::is_nullish;
 use js_machine::frame::{KeyGoal, Mode};
 use js_machine::machine::Machine;
 use js_machine_operators::conversions::{key_at_once, with_key_of};
+use js_store::store::Store;
 use js_text::value::Value;
 use lava_base::memory::OutOfMemory;
 
 /// The key of a method is an object.
-fn convert_to_call(
-    machine: &mut Machine,
+fn convert_to_call<S: Store>(
+    machine: &mut Machine<S>,
     object: Value,
     key: Value,
     arguments: u32,
@@ -33,8 +34,8 @@ fn convert_to_call(
 }
 
 /// A method of a value is called (ECMA-262, GetValue, step 3).
-fn read_method(
-    machine: &mut Machine,
+fn read_method<S: Store>(
+    machine: &mut Machine<S>,
     object: Value,
     key: Value,
     arguments: u32,
@@ -53,8 +54,8 @@ fn read_method(
 }
 
 /// The key of a method has its value, which is called on the newest value (ECMA-262, EvaluateCall, of a property reference).
-pub fn method_key_comes(
-    machine: &mut Machine,
+pub fn method_key_comes<S: Store>(
+    machine: &mut Machine<S>,
     arguments: u32,
     key: Value,
 ) -> Result<Mode, OutOfMemory>

@@ -17,6 +17,7 @@ use js_in_place::js_machine_statements::slots::{init_slot, set_slot};
 use js_machine::frame::{Frame, Mode, Purpose};
 use js_machine::machine::Machine;
 use js_machine_operators::operators::{go_on_binary, unary};
+use js_store::store::Store;
 use js_text::value::Value;
 use js_tree::operator::{BinaryOperator, LogicalOperator, UnaryOperator};
 use lava_base::memory::OutOfMemory;
@@ -24,8 +25,8 @@ use lava_base::memory::OutOfMemory;
 /// The left operand of a binary operator comes.
 #[inline]
 #[tactic(auto, using(crate::proofs::Coming::stays_there))]
-fn left_comes(
-    machine: &mut Machine,
+fn left_comes<S: Store>(
+    machine: &mut Machine<S>,
     operator: BinaryOperator,
     right: u32,
 ) -> Result<Mode, OutOfMemory>
@@ -38,7 +39,7 @@ fn left_comes(
 /// Its right operand comes.
 #[inline]
 #[tactic(auto, using(crate::proofs::Coming::comes))]
-fn right_comes(machine: &mut Machine, operator: BinaryOperator) -> Result<Mode, OutOfMemory>
+fn right_comes<S: Store>(machine: &mut Machine<S>, operator: BinaryOperator) -> Result<Mode, OutOfMemory>
     ensures { let frame = frame_kind.BinaryRight operator in
         IfOk result (IsDelivered frame mode.Value machine.old machine.new) }
 {
@@ -48,8 +49,8 @@ fn right_comes(machine: &mut Machine, operator: BinaryOperator) -> Result<Mode, 
 
 /// The left operand of a logical operator comes.
 #[inline]
-fn short_comes(
-    machine: &mut Machine,
+fn short_comes<S: Store>(
+    machine: &mut Machine<S>,
     operator: LogicalOperator,
     right: u32,
 ) -> Result<Mode, OutOfMemory>
@@ -62,7 +63,7 @@ fn short_comes(
 
 /// The test of a branch without an alternate comes.
 #[inline]
-fn test_comes(machine: &mut Machine, consequent: u32) -> Result<Mode, OutOfMemory>
+fn test_comes<S: Store>(machine: &mut Machine<S>, consequent: u32) -> Result<Mode, OutOfMemory>
     ensures { let frame = frame_kind.If consequent in
         IfOk result (IsDelivered frame mode.Value machine.old machine.new) }
 {
@@ -72,7 +73,7 @@ fn test_comes(machine: &mut Machine, consequent: u32) -> Result<Mode, OutOfMemor
 
 /// The test of a branch comes.
 #[inline]
-fn choice_comes(machine: &mut Machine, consequent: u32, alternate: u32) -> Result<Mode, OutOfMemory>
+fn choice_comes<S: Store>(machine: &mut Machine<S>, consequent: u32, alternate: u32) -> Result<Mode, OutOfMemory>
     ensures { let frame = frame_kind.IfElse consequent alternate in
         IfOk result (IsDelivered frame mode.Value machine.old machine.new) }
 {
@@ -82,8 +83,8 @@ fn choice_comes(machine: &mut Machine, consequent: u32, alternate: u32) -> Resul
 
 /// The value for a slot comes.
 #[inline]
-fn local_comes(
-    machine: &mut Machine,
+fn local_comes<S: Store>(
+    machine: &mut Machine<S>,
     hops: u32,
     slot: u32,
     constant: bool,
@@ -97,7 +98,7 @@ fn local_comes(
 
 /// The first value of a slot comes.
 #[inline]
-fn first_comes(machine: &mut Machine, hops: u32, slot: u32) -> Result<Mode, OutOfMemory>
+fn first_comes<S: Store>(machine: &mut Machine<S>, hops: u32, slot: u32) -> Result<Mode, OutOfMemory>
     ensures { let frame = frame_kind.Init hops slot in
         IfOk result (IsDelivered frame mode.Value machine.old machine.new) }
 {
@@ -107,7 +108,7 @@ fn first_comes(machine: &mut Machine, hops: u32, slot: u32) -> Result<Mode, OutO
 
 /// The test of a loop's turn comes.
 #[inline]
-fn turn_comes(machine: &mut Machine, turns: u32) -> Result<Mode, OutOfMemory>
+fn turn_comes<S: Store>(machine: &mut Machine<S>, turns: u32) -> Result<Mode, OutOfMemory>
     ensures { let frame = frame_kind.Tested turns in
         IfOk result (IsDelivered frame mode.Value machine.old machine.new) }
 {
@@ -117,7 +118,7 @@ fn turn_comes(machine: &mut Machine, turns: u32) -> Result<Mode, OutOfMemory>
 
 /// What is returned comes.
 #[inline]
-fn returned_comes(machine: &mut Machine) -> Result<Mode, OutOfMemory>
+fn returned_comes<S: Store>(machine: &mut Machine<S>) -> Result<Mode, OutOfMemory>
     ensures { IfOk result (IsDelivered frame_kind.Return mode.Value machine.old machine.new) }
 {
     let value = machine.take();
@@ -127,7 +128,7 @@ fn returned_comes(machine: &mut Machine) -> Result<Mode, OutOfMemory>
 /// The object of a property comes.
 #[inline]
 #[tactic(auto, using(crate::proofs::Coming::stays_there))]
-fn object_comes(machine: &mut Machine, key: u32) -> Result<Mode, OutOfMemory>
+fn object_comes<S: Store>(machine: &mut Machine<S>, key: u32) -> Result<Mode, OutOfMemory>
     ensures { let frame = frame_kind.GetObject key in
         IfOk result (IsDelivered frame mode.Value machine.old machine.new) }
 {
@@ -137,7 +138,7 @@ fn object_comes(machine: &mut Machine, key: u32) -> Result<Mode, OutOfMemory>
 /// The object of a property that is to be set comes.
 #[inline]
 #[tactic(auto, using(crate::proofs::Coming::stays_there))]
-fn target_comes(machine: &mut Machine, key: u32, at: u32) -> Result<Mode, OutOfMemory>
+fn target_comes<S: Store>(machine: &mut Machine<S>, key: u32, at: u32) -> Result<Mode, OutOfMemory>
     ensures { let frame = frame_kind.PutObject key at in
         IfOk result (IsDelivered frame mode.Value machine.old machine.new) }
 {
@@ -147,7 +148,7 @@ fn target_comes(machine: &mut Machine, key: u32, at: u32) -> Result<Mode, OutOfM
 /// Its key comes.
 #[inline]
 #[tactic(auto, using(crate::proofs::Coming::stays_there))]
-fn key_comes(machine: &mut Machine, at: u32) -> Result<Mode, OutOfMemory>
+fn key_comes<S: Store>(machine: &mut Machine<S>, at: u32) -> Result<Mode, OutOfMemory>
     ensures { let frame = frame_kind.PutKey at in
         IfOk result (IsDelivered frame mode.Value machine.old machine.new) }
 {
@@ -157,7 +158,7 @@ fn key_comes(machine: &mut Machine, at: u32) -> Result<Mode, OutOfMemory>
 /// The object of a method comes.
 #[inline]
 #[tactic(auto, using(crate::proofs::Coming::stays_there))]
-fn receiver_comes(machine: &mut Machine, key: u32, arguments: u32) -> Result<Mode, OutOfMemory>
+fn receiver_comes<S: Store>(machine: &mut Machine<S>, key: u32, arguments: u32) -> Result<Mode, OutOfMemory>
     ensures { let frame = frame_kind.CallObject key arguments in
         IfOk result (IsDelivered frame mode.Value machine.old machine.new) }
 {
@@ -166,7 +167,7 @@ fn receiver_comes(machine: &mut Machine, key: u32, arguments: u32) -> Result<Mod
 
 /// The operand of an operator comes.
 #[inline]
-fn operand_comes(machine: &mut Machine, operator: UnaryOperator) -> Result<Mode, OutOfMemory>
+fn operand_comes<S: Store>(machine: &mut Machine<S>, operator: UnaryOperator) -> Result<Mode, OutOfMemory>
     ensures { let frame = frame_kind.Unary operator in
         IfOk result (IsDelivered frame mode.Value machine.old machine.new) }
 {
@@ -176,7 +177,7 @@ fn operand_comes(machine: &mut Machine, operator: UnaryOperator) -> Result<Mode,
 
 /// What a loop does after a turn is done.
 #[inline]
-fn update_comes(machine: &mut Machine, turns: u32) -> Result<Mode, OutOfMemory>
+fn update_comes<S: Store>(machine: &mut Machine<S>, turns: u32) -> Result<Mode, OutOfMemory>
     ensures { let frame = frame_kind.Updated turns in
         IfOk result (IsDelivered frame mode.Value machine.old machine.new) }
 {
@@ -186,7 +187,7 @@ fn update_comes(machine: &mut Machine, turns: u32) -> Result<Mode, OutOfMemory>
 
 /// A form that others follow is done.
 #[inline]
-fn others_follow(machine: &mut Machine, start: u32, count: u32) -> Result<Mode, OutOfMemory>
+fn others_follow<S: Store>(machine: &mut Machine<S>, start: u32, count: u32) -> Result<Mode, OutOfMemory>
     ensures { let frame = frame_kind.Seq start count in
         IfOk result (IsDelivered frame mode.Value machine.old machine.new) }
 {
@@ -197,7 +198,7 @@ fn others_follow(machine: &mut Machine, start: u32, count: u32) -> Result<Mode, 
 /// The key of a property comes.
 #[inline]
 #[tactic(auto, using(crate::proofs::Coming::comes))]
-fn member_comes(machine: &mut Machine) -> Result<Mode, OutOfMemory>
+fn member_comes<S: Store>(machine: &mut Machine<S>) -> Result<Mode, OutOfMemory>
     ensures { let frame = frame_kind.GetKey in
         IfOk result (IsDelivered frame mode.Value machine.old machine.new) }
 {
@@ -208,7 +209,7 @@ fn member_comes(machine: &mut Machine) -> Result<Mode, OutOfMemory>
 /// The value for a property comes.
 #[inline]
 #[tactic(auto, using(crate::proofs::Coming::comes))]
-fn property_comes(machine: &mut Machine) -> Result<Mode, OutOfMemory>
+fn property_comes<S: Store>(machine: &mut Machine<S>) -> Result<Mode, OutOfMemory>
     ensures { let frame = frame_kind.PutValue in
         IfOk result (IsDelivered frame mode.Value machine.old machine.new) }
 {
@@ -218,7 +219,7 @@ fn property_comes(machine: &mut Machine) -> Result<Mode, OutOfMemory>
 
 /// What is called comes.
 #[inline]
-fn function_comes(machine: &mut Machine, arguments: u32) -> Result<Mode, OutOfMemory>
+fn function_comes<S: Store>(machine: &mut Machine<S>, arguments: u32) -> Result<Mode, OutOfMemory>
     ensures { let frame = frame_kind.Callee arguments in
         IfOk result (IsDelivered frame mode.Value machine.old machine.new) }
 {
@@ -228,7 +229,7 @@ fn function_comes(machine: &mut Machine, arguments: u32) -> Result<Mode, OutOfMe
 
 /// The method that is called comes.
 #[inline]
-fn found_comes(machine: &mut Machine, arguments: u32) -> Result<Mode, OutOfMemory>
+fn found_comes<S: Store>(machine: &mut Machine<S>, arguments: u32) -> Result<Mode, OutOfMemory>
     ensures { let frame = frame_kind.CallMethod arguments in
         IfOk result (IsDelivered frame mode.Value machine.old machine.new) }
 {
@@ -238,8 +239,8 @@ fn found_comes(machine: &mut Machine, arguments: u32) -> Result<Mode, OutOfMemor
 
 /// An argument comes.
 #[inline]
-fn next_comes(
-    machine: &mut Machine,
+fn next_comes<S: Store>(
+    machine: &mut Machine<S>,
     purpose: Purpose,
     done: u32,
     start: u32,
@@ -253,7 +254,7 @@ fn next_comes(
 }
 
 /// The newest value comes to a frame that was taken off.
-pub fn deliver_newest(machine: &mut Machine, frame: Frame) -> Result<Mode, OutOfMemory>
+pub fn deliver_newest<S: Store>(machine: &mut Machine<S>, frame: Frame) -> Result<Mode, OutOfMemory>
     ensures { IfOk result (IsDelivered frame mode.Value machine.old machine.new) }
 {
     match frame {

@@ -14,6 +14,7 @@ use js_desc::fault::FaultText;
 use js_desc::reply::Reply;
 use js_machine::machine::Machine;
 use js_ordinary::next::Next;
+use js_store::store::Store;
 use js_ordinary::primitives::{
     BOOLEAN_PROTOTYPE, NUMBER_PROTOTYPE, STRING_PROTOTYPE, SYMBOL_PROTOTYPE, get_v,
 };
@@ -93,7 +94,7 @@ fn decided_set(
 }
 
 /// What a value that is no object decides of the ask of the machine: of a Get, a Set and a Delete. It is asked for nothing else (ECMA-262, ToObject).
-pub fn primitive_decided(machine: &Machine) -> Result<Decision<Next>, OutOfMemory>
+pub fn primitive_decided<S: Store>(machine: &Machine<S>) -> Result<Decision<Next>, OutOfMemory>
     ensures { let names = naming_of machine.now.me in
         IfOk result (λ d. d ≡ primitive_decided names machine.now.asked.target
         machine.now.asked.ask) }

@@ -16,11 +16,12 @@ use js_machine::frame::Mode;
 use js_machine::js_traps::next::Next as ProxyNext;
 use js_machine::machine::Machine;
 use js_machine_natives::proxies::{follow_proxy_once, next_of_proxy, proxy_decision};
+use js_store::store::Store;
 use lava_base::ids::Ref;
 use lava_base::memory::OutOfMemory;
 
 /// Follows the decision of a proxy.
-fn follow_proxy(machine: &mut Machine, decision: Decision<ProxyNext>) -> Result<Mode, OutOfMemory>
+fn follow_proxy<S: Store>(machine: &mut Machine<S>, decision: Decision<ProxyNext>) -> Result<Mode, OutOfMemory>
     ensures { IfOk result (LeadsTo (λ a. follows_proxy (naming_of machine.old.me) a.shared decision
         (party_of a machine.old)) machine.old machine.new) }
 {
@@ -33,7 +34,7 @@ fn follow_proxy(machine: &mut Machine, decision: Decision<ProxyNext>) -> Result<
 }
 
 /// A proxy decides of the ask of the machine.
-pub fn decide_proxy(machine: &mut Machine, me: Ref) -> Result<Mode, OutOfMemory>
+pub fn decide_proxy<S: Store>(machine: &mut Machine<S>, me: Ref) -> Result<Mode, OutOfMemory>
     ensures { let decision = proxy_decided machine.old me in
         IfOk result (LeadsTo (λ a. follows_proxy (naming_of machine.old.me) a.shared decision
         (party_of a machine.old)) machine.old machine.new) }
@@ -43,8 +44,8 @@ pub fn decide_proxy(machine: &mut Machine, me: Ref) -> Result<Mode, OutOfMemory>
 }
 
 /// The decision of a proxy goes on with the answer that it waited for.
-pub fn resume_proxy(
-    machine: &mut Machine,
+pub fn resume_proxy<S: Store>(
+    machine: &mut Machine<S>,
     next: ProxyNext,
     reply: Reply,
 ) -> Result<Mode, OutOfMemory>

@@ -15,6 +15,7 @@ use js_in_place::spot::Spot;
 use js_machine::frame::{Halt, Mode};
 use js_machine::machine::Machine;
 use js_machine::stop::{Charge, Pause, Stop};
+use js_store::store::Store;
 use lava_base::memory::OutOfMemory;
 
 /// How many charges a run may make that is free of charge.
@@ -50,7 +51,7 @@ fn affordable(meter: Option<u64>, spent: u64, limit: u64, left: u64) -> u64
 
 /// What stands at a place is next.
 #[inline]
-fn resumed(machine: &mut Machine, spot: Spot) -> Result<Mode, OutOfMemory>
+fn resumed<S: Store>(machine: &mut Machine<S>, spot: Spot) -> Result<Mode, OutOfMemory>
     ensures { IfOk result (IsNext spot machine.old machine.new) }
 {
     match spot {
@@ -62,8 +63,8 @@ fn resumed(machine: &mut Machine, spot: Spot) -> Result<Mode, OutOfMemory>
 
 /// A form begins, and the run goes on in place as far as its steps can be paid.
 #[inline]
-fn go_in_place(
-    machine: &mut Machine,
+fn go_in_place<S: Store>(
+    machine: &mut Machine<S>,
     at: u32,
     meter: Option<u64>,
     spent: u64,
@@ -88,8 +89,8 @@ fn go_in_place(
 
 /// Completions are handed on, and then the run goes on in place as far as its steps can be paid.
 #[inline]
-fn advance(
-    machine: &mut Machine,
+fn advance<S: Store>(
+    machine: &mut Machine<S>,
     mode: Mode,
     meter: Option<u64>,
     spent: u64,
@@ -128,8 +129,8 @@ fn paused(charges: u64, limit: u64, steps: u64) -> Pause
 }
 
 /// At most so many charges, and steps up to the limit. Forms that the run goes through in place are paid together.
-fn run_for(
-    machine: &mut Machine,
+fn run_for<S: Store>(
+    machine: &mut Machine<S>,
     charges: u64,
     meter: Option<u64>,
     limit: u64,
@@ -172,8 +173,8 @@ fn run_for(
 
 /// Runs until the body is over, the run ends, or the limit lacks what is to be paid. A run that
 /// is free of charge has a bound of its own, and leaves the steps as they are.
-pub fn run(
-    machine: &mut Machine,
+pub fn run<S: Store>(
+    machine: &mut Machine<S>,
     free: bool,
     meter: Option<u64>,
     limit: u64,
@@ -198,8 +199,8 @@ pub fn run(
 }
 
 /// Runs on after a pause, once the outside has answered.
-pub fn run_on(
-    machine: &mut Machine,
+pub fn run_on<S: Store>(
+    machine: &mut Machine<S>,
     meter: Option<u64>,
     pause: Pause,
     mode: Mode,

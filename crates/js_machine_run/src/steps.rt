@@ -26,11 +26,12 @@ use js_machine_modules::modules::{deliver_module_body, deliver_module_ends};
 use js_machine_natives::natives::{deliver_charged, deliver_made};
 use js_machine_natives::slot_asks::{deliver_refused, deliver_slot};
 use js_machine_operators::operators::deliver_paid;
+use js_store::store::Store;
 use js_text::value::Value;
 use lava_base::memory::OutOfMemory;
 
 /// A completion comes to a frame that takes values alone.
-fn deliver_plain(machine: &mut Machine, frame: Frame, mode: Mode) -> Result<Mode, OutOfMemory>
+fn deliver_plain<S: Store>(machine: &mut Machine<S>, frame: Frame, mode: Mode) -> Result<Mode, OutOfMemory>
     requires takes { takes_values frame ≡ true }
     requires comes { is_completion mode ≡ true }
     ensures { IfOk result (IsDelivered frame mode machine.old machine.new) }
@@ -42,7 +43,7 @@ fn deliver_plain(machine: &mut Machine, frame: Frame, mode: Mode) -> Result<Mode
 }
 
 /// A completion comes to a decision that waits.
-fn deliver_decision(machine: &mut Machine, mode: Mode) -> Result<Mode, OutOfMemory>
+fn deliver_decision<S: Store>(machine: &mut Machine<S>, mode: Mode) -> Result<Mode, OutOfMemory>
     requires { is_completion mode ≡ true }
     ensures { IfOk result (IsDelivered frame_kind.Decides mode machine.old machine.new) }
 {
@@ -54,7 +55,7 @@ fn deliver_decision(machine: &mut Machine, mode: Mode) -> Result<Mode, OutOfMemo
 }
 
 /// A completion comes to a frame that was taken off.
-pub fn deliver(machine: &mut Machine, frame: Frame, mode: Mode) -> Result<Mode, OutOfMemory>
+pub fn deliver<S: Store>(machine: &mut Machine<S>, frame: Frame, mode: Mode) -> Result<Mode, OutOfMemory>
     requires { is_completion mode ≡ true }
     ensures { IfOk result (IsDelivered frame mode machine.old machine.new) }
 {
@@ -87,7 +88,7 @@ pub fn deliver(machine: &mut Machine, frame: Frame, mode: Mode) -> Result<Mode, 
 }
 
 /// A completion or an answer comes to a frame that was taken off.
-fn deliver_any(machine: &mut Machine, frame: Frame, mode: Mode) -> Result<Mode, OutOfMemory>
+fn deliver_any<S: Store>(machine: &mut Machine<S>, frame: Frame, mode: Mode) -> Result<Mode, OutOfMemory>
     requires { is_handed mode ≡ true }
     ensures { IfOk result (IsDelivered frame mode machine.old machine.new) }
 {
@@ -99,7 +100,7 @@ fn deliver_any(machine: &mut Machine, frame: Frame, mode: Mode) -> Result<Mode, 
 
 /// The newest value comes to the newest frame; where there is none, the body is over.
 #[inline]
-fn hand_value(machine: &mut Machine) -> Result<Mode, OutOfMemory>
+fn hand_value<S: Store>(machine: &mut Machine<S>) -> Result<Mode, OutOfMemory>
     ensures { IfOk result (Stays mode_kind.Value machine.old machine.new) }
 {
     match take_frame(machine) {
@@ -109,7 +110,7 @@ fn hand_value(machine: &mut Machine) -> Result<Mode, OutOfMemory>
 }
 
 /// A completion or an answer comes to the newest frame; where there is none, the body is over.
-fn hand_any(machine: &mut Machine, mode: Mode) -> Result<Mode, OutOfMemory>
+fn hand_any<S: Store>(machine: &mut Machine<S>, mode: Mode) -> Result<Mode, OutOfMemory>
     requires { is_handed mode ≡ true }
     ensures { IfOk result (Stays mode machine.old machine.new) }
 {
@@ -121,7 +122,7 @@ fn hand_any(machine: &mut Machine, mode: Mode) -> Result<Mode, OutOfMemory>
 
 /// A completion or an answer comes to the newest frame; where there is none, the body is over.
 #[inline]
-fn hand(machine: &mut Machine, mode: Mode) -> Result<Mode, OutOfMemory>
+fn hand<S: Store>(machine: &mut Machine<S>, mode: Mode) -> Result<Mode, OutOfMemory>
     requires { is_handed mode ≡ true }
     ensures { IfOk result (Stays mode machine.old machine.new) }
 {
@@ -135,7 +136,7 @@ fn hand(machine: &mut Machine, mode: Mode) -> Result<Mode, OutOfMemory>
 /// frame off, so as many as there are frames are enough.
 #[inline(never)]
 #[tactic(auto, using(crate::proofs::Handed::stays_so, crate::proofs::Handed::stays_further, crate::proofs::Handed::no_frames))]
-fn settle_handed(machine: &mut Machine, mode: Mode) -> Result<Mode, OutOfMemory>
+fn settle_handed<S: Store>(machine: &mut Machine<S>, mode: Mode) -> Result<Mode, OutOfMemory>
     ensures stays { IfOk result (Stays mode machine.old machine.new) }
     ensures settled { IfOk result (λ m. is_handed m ≡ true → machine.new.frames ≡ []) }
 {
@@ -155,7 +156,7 @@ fn settle_handed(machine: &mut Machine, mode: Mode) -> Result<Mode, OutOfMemory>
 /// Completions are handed on until there is something to do, or the run stops.
 #[inline(always)]
 #[tactic(auto, using(crate::proofs::Handed::stays_so))]
-pub fn settle(machine: &mut Machine, mode: Mode) -> Result<Mode, OutOfMemory>
+pub fn settle<S: Store>(machine: &mut Machine<S>, mode: Mode) -> Result<Mode, OutOfMemory>
     ensures stays { IfOk result (Stays mode machine.old machine.new) }
     ensures settled { IfOk result (λ m. is_handed m ≡ true → machine.new.frames ≡ []) }
 {
@@ -167,7 +168,7 @@ pub fn settle(machine: &mut Machine, mode: Mode) -> Result<Mode, OutOfMemory>
 
 /// An ask that was charged for is decided; one that is sent stays.
 #[tactic(auto, using(crate::proofs::Handed::decided_works, crate::proofs::Handed::sent_works))]
-fn work_ask(machine: &mut Machine) -> Result<Mode, OutOfMemory>
+fn work_ask<S: Store>(machine: &mut Machine<S>) -> Result<Mode, OutOfMemory>
     ensures { IfOk result (IsWorked mode_kind.Ask machine.old machine.new) }
 {
     match machine.sent_to() {
@@ -178,7 +179,7 @@ fn work_ask(machine: &mut Machine) -> Result<Mode, OutOfMemory>
 
 /// What was paid for goes on with undefined.
 #[tactic(auto, using(crate::proofs::Handed::paid_works))]
-fn work_paid(machine: &mut Machine, mode: Mode) -> Result<Mode, OutOfMemory>
+fn work_paid<S: Store>(machine: &mut Machine<S>, mode: Mode) -> Result<Mode, OutOfMemory>
     requires { is_due mode ≡ true }
     ensures { IfOk result (IsWorked mode machine.old machine.new) }
 {
@@ -186,7 +187,7 @@ fn work_paid(machine: &mut Machine, mode: Mode) -> Result<Mode, OutOfMemory>
 }
 
 /// What was charged for is done.
-pub fn work(machine: &mut Machine, mode: Mode) -> Result<Mode, OutOfMemory>
+pub fn work<S: Store>(machine: &mut Machine<S>, mode: Mode) -> Result<Mode, OutOfMemory>
     ensures { IfOk result (IsWorked mode machine.old machine.new) }
 {
     match mode {

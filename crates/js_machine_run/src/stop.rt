@@ -11,6 +11,7 @@ ghost use Rattle.js_machine.specs.Stops.{ask_stop, charge_of, cost_of, stop_at};
 use js_machine::frame::{Mode, halt_coded};
 use js_machine::machine::Machine;
 use js_machine::stop::{Charge, Pause, Stop};
+use js_store::store::Store;
 
 /// Whether a cost would pass a bound.
 fn passes(bound: u64, steps: u64, cost: u64) -> bool
@@ -44,7 +45,7 @@ pub fn charge_steps(meter: Option<u64>, steps: u64, limit: u64, cost: u64) -> Ch
 }
 
 /// What is to be paid for an ask that is decided here.
-fn ask_cost(machine: &Machine) -> Option<u32>
+fn ask_cost<S: Store>(machine: &Machine<S>) -> Option<u32>
     ensures { result ≡ cost_of machine.now mode_kind.Ask }
 {
     match machine.sent_to() {
@@ -55,7 +56,7 @@ fn ask_cost(machine: &Machine) -> Option<u32>
 
 /// What is to be paid for what is next, without the one of each charge; none where nothing is
 /// due.
-pub fn cost(machine: &Machine, mode: Mode) -> Option<u32>
+pub fn cost<S: Store>(machine: &Machine<S>, mode: Mode) -> Option<u32>
     ensures { result ≡ cost_of machine.now mode }
 {
     match mode {
@@ -67,7 +68,7 @@ pub fn cost(machine: &Machine, mode: Mode) -> Option<u32>
 }
 
 /// How a run stops at an ask.
-fn stop_ask(machine: &Machine, steps: u64) -> Stop
+fn stop_ask<S: Store>(machine: &Machine<S>, steps: u64) -> Stop
     ensures { let there = foreign_in (naming_of machine.now.me) machine.now.asked.target in
         result ≡ ask_stop there steps }
 {
@@ -78,7 +79,7 @@ fn stop_ask(machine: &Machine, steps: u64) -> Stop
 }
 
 /// How a run stops where nothing is charged for.
-pub fn stop_at(machine: &Machine, mode: Mode, pause: Pause) -> Stop
+pub fn stop_at<S: Store>(machine: &Machine<S>, mode: Mode, pause: Pause) -> Stop
     ensures { result ≡ stop_at machine.now mode pause }
 {
     let steps = pause.steps;

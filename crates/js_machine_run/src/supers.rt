@@ -20,13 +20,14 @@ use js_machine::asked::Answer;
 use js_machine::frame::{Frame, KeyGoal, Mode, Purpose};
 use js_machine::machine::Machine;
 use js_machine_operators::conversions::{key_at_once, with_key_of};
+use js_store::store::Store;
 use js_text::value::Value;
 use lava_base::ids::Ref;
 use lava_base::memory::OutOfMemory;
 
 /// The key of a property of `super` is an object.
-fn convert_to_super(
-    machine: &mut Machine,
+fn convert_to_super<S: Store>(
+    machine: &mut Machine<S>,
     key: Value,
     above: Ref,
     call: Option<u32>,
@@ -40,8 +41,8 @@ fn convert_to_super(
 }
 
 /// A property of the object where `super` looks is read with `this` as the receiver, and a frame waits for it.
-fn get_from(
-    machine: &mut Machine,
+fn get_from<S: Store>(
+    machine: &mut Machine<S>,
     key: Value,
     above: Ref,
     call: Option<u32>,
@@ -57,8 +58,8 @@ fn get_from(
 }
 
 /// A property of what stands above the home object is read, and a frame waits for it (ECMA-262, "Super References", GetValue).
-fn get_above(
-    machine: &mut Machine,
+fn get_above<S: Store>(
+    machine: &mut Machine<S>,
     key: Value,
     above: Option<Ref>,
     call: Option<u32>,
@@ -74,7 +75,7 @@ fn get_above(
 }
 
 /// The object where `super` looks comes to the frame that has the key of a property.
-fn super_home_comes(machine: &mut Machine, above: Option<Ref>) -> Result<Mode, OutOfMemory>
+fn super_home_comes<S: Store>(machine: &mut Machine<S>, above: Option<Ref>) -> Result<Mode, OutOfMemory>
     ensures { let reply = reply_kind.Proto above in
         IfOk result (LeadsTo (deed_replied frame_kind.SuperHome reply machine.old)
         (under frame_kind.SuperHome machine.old) machine.new) }
@@ -84,8 +85,8 @@ fn super_home_comes(machine: &mut Machine, above: Option<Ref>) -> Result<Mode, O
 }
 
 /// The object where `super` looks comes to the frame that has the key of a method.
-fn super_method_home_comes(
-    machine: &mut Machine,
+fn super_method_home_comes<S: Store>(
+    machine: &mut Machine<S>,
     arguments: u32,
     above: Option<Ref>,
 ) -> Result<Mode, OutOfMemory>
@@ -99,8 +100,8 @@ fn super_method_home_comes(
 }
 
 /// A method of `super` has its value, and its arguments begin (ECMA-262, EvaluateCall, of a super reference).
-pub fn super_method_comes(
-    machine: &mut Machine,
+pub fn super_method_comes<S: Store>(
+    machine: &mut Machine<S>,
     arguments: u32,
     callee: Value,
 ) -> Result<Mode, OutOfMemory>
@@ -113,8 +114,8 @@ pub fn super_method_comes(
 }
 
 /// What constructs in a `super` call is known, and its arguments begin.
-fn super_parent_comes(
-    machine: &mut Machine,
+fn super_parent_comes<S: Store>(
+    machine: &mut Machine<S>,
     arguments: u32,
     parent: Option<Ref>,
 ) -> Result<Mode, OutOfMemory>
@@ -127,8 +128,8 @@ fn super_parent_comes(
 }
 
 /// A frame that waits for a prototype goes on with it.
-fn go_on_prototype(
-    machine: &mut Machine,
+fn go_on_prototype<S: Store>(
+    machine: &mut Machine<S>,
     frame: Frame,
     above: Option<Ref>,
 ) -> Result<Mode, OutOfMemory>
@@ -147,7 +148,7 @@ fn go_on_prototype(
 }
 
 /// An answer comes to a frame that waits for a prototype.
-pub fn deliver_prototype(machine: &mut Machine, frame: Frame) -> Result<Mode, OutOfMemory>
+pub fn deliver_prototype<S: Store>(machine: &mut Machine<S>, frame: Frame) -> Result<Mode, OutOfMemory>
     ensures { IfOk result (IsDelivered frame mode_kind.Answer machine.old machine.new) }
 {
     match prototype_in(machine) {

@@ -20,13 +20,14 @@ use js_machine_natives::proxies::proxy_has_number;
 use js_machine_natives::to_number::{ask_number_method, try_number_rest};
 use js_machine_natives::units::unit_comes;
 use js_machine_operators::js_operators::numbers::number_of;
+use js_store::store::Store;
 use js_text::value::Value;
 use lava_base::ids::Ref;
 use lava_base::memory::OutOfMemory;
 
 /// What wanted a number goes on with it.
-fn go_with_number(
-    machine: &mut Machine,
+fn go_with_number<S: Store>(
+    machine: &mut Machine<S>,
     wanted: NumberFor,
     number: i64,
 ) -> Result<Mode, OutOfMemory>
@@ -46,8 +47,8 @@ fn go_with_number(
 }
 
 /// What wanted a number goes on with what a primitive value gives.
-fn go_computed(
-    machine: &mut Machine,
+fn go_computed<S: Store>(
+    machine: &mut Machine<S>,
     wanted: NumberFor,
     number: Computed<i64>,
 ) -> Result<Mode, OutOfMemory>
@@ -69,8 +70,8 @@ fn go_computed(
 }
 
 /// A primitive value is made the number.
-fn number_comes(
-    machine: &mut Machine,
+fn number_comes<S: Store>(
+    machine: &mut Machine<S>,
     wanted: NumberFor,
     value: &Value,
 ) -> Result<Mode, OutOfMemory>
@@ -88,8 +89,8 @@ fn number_comes(
 }
 
 /// A method gave a value, which is the primitive one where it is no object.
-fn number_method_gave(
-    machine: &mut Machine,
+fn number_method_gave<S: Store>(
+    machine: &mut Machine<S>,
     object: Ref,
     last: bool,
     wanted: NumberFor,
@@ -106,8 +107,8 @@ fn number_method_gave(
 }
 
 /// A value is made a number, for what wants it (ECMA-262, ToNumber).
-pub fn begin_number(
-    machine: &mut Machine,
+pub fn begin_number<S: Store>(
+    machine: &mut Machine<S>,
     value: Value,
     wanted: NumberFor,
 ) -> Result<Mode, OutOfMemory>
@@ -123,8 +124,8 @@ pub fn begin_number(
 
 /// An answer comes of a method.
 #[tactic(auto, unfolding(js_machine::specs::Views::next_of_want))]
-pub fn resume_called(
-    machine: &mut Machine,
+pub fn resume_called<S: Store>(
+    machine: &mut Machine<S>,
     object: Ref,
     last: bool,
     wanted: NumberFor,

@@ -10,11 +10,12 @@ use js_desc::reply::Reply;
 use js_machine::asked::Wait;
 use js_machine::frame::Mode;
 use js_machine::machine::Machine;
+use js_store::store::Store;
 use js_text::value::Value;
 use lava_base::memory::OutOfMemory;
 
 /// What waited is open no longer, and a jump comes to it.
-fn wake_by(machine: &mut Machine, wait: Wait, mode: Mode) -> Result<Mode, OutOfMemory>
+fn wake_by<S: Store>(machine: &mut Machine<S>, wait: Wait, mode: Mode) -> Result<Mode, OutOfMemory>
     requires { is_jump mode ≡ true }
     ensures { IfOk result (WakesBy wait mode machine.old machine.new) }
 {
@@ -27,7 +28,7 @@ fn wake_by(machine: &mut Machine, wait: Wait, mode: Mode) -> Result<Mode, OutOfM
 }
 
 /// A jump comes to a decision that waits.
-pub fn resume_jumped(machine: &mut Machine, mode: Mode) -> Result<Mode, OutOfMemory>
+pub fn resume_jumped<S: Store>(machine: &mut Machine<S>, mode: Mode) -> Result<Mode, OutOfMemory>
     requires { is_jump mode ≡ true }
     ensures { IfOk result (IsDelivered frame.Decides mode machine.old machine.new) }
 {

@@ -15,11 +15,12 @@ ghost use Rattle.js_machine.specs.declared.frame.Mode.TheVariants as mode_kind;
 use crate::slots::stand_in;
 use js_machine::frame::{Frame, Mode};
 use js_machine::machine::Machine;
+use js_store::store::Store;
 use js_text::value::Value;
 use lava_base::memory::OutOfMemory;
 
 /// The body that runs enters a new scope with so many slots, none of which is initialised.
-pub fn enter(machine: &mut Machine, count: u32) -> Result<(), OutOfMemory>
+pub fn enter<S: Store>(machine: &mut Machine<S>, count: u32) -> Result<(), OutOfMemory>
     ensures { OnOk result (machine.new ≡ with_scope (replicate count None) machine.old) }
 {
     let outer = machine.standing();
@@ -29,7 +30,7 @@ pub fn enter(machine: &mut Machine, count: u32) -> Result<(), OutOfMemory>
 }
 
 /// A form in a new scope.
-pub fn begin_scope(machine: &mut Machine, count: u32, body: u32) -> Result<Mode, OutOfMemory>
+pub fn begin_scope<S: Store>(machine: &mut Machine<S>, count: u32, body: u32) -> Result<Mode, OutOfMemory>
     ensures { let term = term_at machine.old.code body in
         IfOk result (LeadsTo (λ a. inside (replicate count None) term (party_of a machine.old) Give)
         machine.old machine.new) }
@@ -40,7 +41,7 @@ pub fn begin_scope(machine: &mut Machine, count: u32, body: u32) -> Result<Mode,
 }
 
 /// The body that runs enters a copy of the scope where it stands.
-fn enter_copy(machine: &mut Machine) -> Result<(), OutOfMemory>
+fn enter_copy<S: Store>(machine: &mut Machine<S>) -> Result<(), OutOfMemory>
     ensures { OnOk result (machine.new ≡ with_copy machine.old) }
 {
     let here = machine.standing();
@@ -50,7 +51,7 @@ fn enter_copy(machine: &mut Machine) -> Result<(), OutOfMemory>
 }
 
 /// A copy of the innermost scope takes its place (ECMA-262, CreatePerIterationEnvironment).
-pub fn refresh(machine: &mut Machine) -> Result<Mode, OutOfMemory>
+pub fn refresh<S: Store>(machine: &mut Machine<S>) -> Result<Mode, OutOfMemory>
     ensures { IfOk result (LeadsTo (λ a. give undefined_value.Undefined (refreshed (party_of a
         machine.old))) machine.old machine.new) }
 {
@@ -59,7 +60,7 @@ pub fn refresh(machine: &mut Machine) -> Result<Mode, OutOfMemory>
 }
 
 /// What comes out of a scope leaves the body where it stood.
-pub fn exit_scope(machine: &mut Machine, scope: u32, mode: Mode) -> Mode
+pub fn exit_scope<S: Store>(machine: &mut Machine<S>, scope: u32, mode: Mode) -> Mode
     requires { is_completion mode ≡ true }
     ensures { IsDelivered (frame.ScopeExit scope) mode machine.old machine.new result }
 {
@@ -69,7 +70,7 @@ pub fn exit_scope(machine: &mut Machine, scope: u32, mode: Mode) -> Mode
 
 /// A `break` to a label ends there; every other completion passes it (ECMA-262, "Labelled Statements").
 #[tactic(auto, using(js_machine::proofs::Exits::passes_label))]
-pub fn deliver_label(machine: &mut Machine, label: u32, mode: Mode) -> Result<Mode, OutOfMemory>
+pub fn deliver_label<S: Store>(machine: &mut Machine<S>, label: u32, mode: Mode) -> Result<Mode, OutOfMemory>
     requires { is_completion mode ≡ true }
     ensures { IfOk result (IsDelivered (frame.Label label) mode machine.old machine.new) }
 {
@@ -81,7 +82,7 @@ pub fn deliver_label(machine: &mut Machine, label: u32, mode: Mode) -> Result<Mo
 
 /// A `break` comes to a label.
 #[tactic(auto, using(js_machine::proofs::Exits::ends_there, js_machine::proofs::Exits::goes_past))]
-fn break_to(machine: &mut Machine, label: u32, to: u32) -> Result<Mode, OutOfMemory>
+fn break_to<S: Store>(machine: &mut Machine<S>, label: u32, to: u32) -> Result<Mode, OutOfMemory>
     ensures { IfOk result (IsDelivered (frame.Label label) (mode_kind.Break to) machine.old
         machine.new) }
 {
@@ -95,7 +96,7 @@ fn break_to(machine: &mut Machine, label: u32, to: u32) -> Result<Mode, OutOfMem
 
 /// A `break` to a label begins.
 #[tactic(auto, using(js_machine::proofs::Exits::breaks_out))]
-pub fn break_out(machine: &mut Machine, label: u32) -> Result<Mode, OutOfMemory>
+pub fn break_out<S: Store>(machine: &mut Machine<S>, label: u32) -> Result<Mode, OutOfMemory>
     ensures { let text = text_at machine.old.code label in
         IfOk result (LeadsTo (λ a. Give (Breaks text) (party_of a machine.old)) machine.old
         machine.new) }
@@ -105,7 +106,7 @@ pub fn break_out(machine: &mut Machine, label: u32) -> Result<Mode, OutOfMemory>
 
 /// A `continue` to a label begins.
 #[tactic(auto, using(js_machine::proofs::Exits::continues_out))]
-pub fn continue_out(machine: &mut Machine, label: u32) -> Result<Mode, OutOfMemory>
+pub fn continue_out<S: Store>(machine: &mut Machine<S>, label: u32) -> Result<Mode, OutOfMemory>
     ensures { let text = text_at machine.old.code label in
         IfOk result (LeadsTo (λ a. Give (Continues text) (party_of a machine.old)) machine.old
         machine.new) }

@@ -13,6 +13,7 @@ ghost use Rattle.js_machine.specs.Views.{keeps_left, party_of};
 use js_machine::branches::is_nullish;
 use js_machine::frame::Mode;
 use js_machine::machine::Machine;
+use js_store::store::Store;
 use js_text::value::Value;
 use js_tree::operator::LogicalOperator;
 use lava_base::memory::OutOfMemory;
@@ -42,8 +43,8 @@ fn keeps(operator: LogicalOperator, value: &Value) -> bool
 }
 
 /// One of two forms takes the place of this one; where there is no second one, undefined is given.
-fn choose(
-    machine: &mut Machine,
+fn choose<S: Store>(
+    machine: &mut Machine<S>,
     truth: bool,
     consequent: u32,
     alternate: Option<u32>,
@@ -63,8 +64,8 @@ fn choose(
 }
 
 /// One of two forms takes the place of this one, by the truth of a value.
-pub fn branch(
-    machine: &mut Machine,
+pub fn branch<S: Store>(
+    machine: &mut Machine<S>,
     value: Value,
     consequent: u32,
     alternate: Option<u32>,
@@ -77,8 +78,8 @@ pub fn branch(
 }
 
 /// A value is given, or a form takes the place of this one.
-fn keep_or(
-    machine: &mut Machine,
+fn keep_or<S: Store>(
+    machine: &mut Machine<S>,
     keeps: bool,
     value: Value,
     right: u32,
@@ -94,8 +95,8 @@ fn keep_or(
 }
 
 /// The left operand is the value, or the right one takes its place (ECMA-262, "Binary Logical Operators").
-pub fn short(
-    machine: &mut Machine,
+pub fn short<S: Store>(
+    machine: &mut Machine<S>,
     operator: LogicalOperator,
     value: Value,
     right: u32,

@@ -9,11 +9,12 @@ ghost use Rattle.js_machine.specs.Views.{party_of};
 
 use js_machine::frame::{Frame, Mode};
 use js_machine::machine::Machine;
+use js_store::store::Store;
 use js_text::value::Value;
 use lava_base::memory::OutOfMemory;
 
 /// `break` (ECMA-262, "The break Statement").
-pub fn begin_break(machine: &mut Machine, label: u32) -> Result<Mode, OutOfMemory>
+pub fn begin_break<S: Store>(machine: &mut Machine<S>, label: u32) -> Result<Mode, OutOfMemory>
     ensures { let to = jump_kind.Break (text_at machine.old.code label) in
         IfOk result (LeadsTo (λ a. jump to (party_of a machine.old)) machine.old machine.new) }
 {
@@ -21,7 +22,7 @@ pub fn begin_break(machine: &mut Machine, label: u32) -> Result<Mode, OutOfMemor
 }
 
 /// `continue` (ECMA-262, "The continue Statement").
-pub fn begin_continue(machine: &mut Machine, label: u32) -> Result<Mode, OutOfMemory>
+pub fn begin_continue<S: Store>(machine: &mut Machine<S>, label: u32) -> Result<Mode, OutOfMemory>
     ensures { let to = jump_kind.Continue (text_at machine.old.code label) in
         IfOk result (LeadsTo (λ a. jump to (party_of a machine.old)) machine.old machine.new) }
 {
@@ -29,7 +30,7 @@ pub fn begin_continue(machine: &mut Machine, label: u32) -> Result<Mode, OutOfMe
 }
 
 /// `return` without a value (ECMA-262, "The return Statement").
-pub fn begin_return(machine: &mut Machine) -> Result<Mode, OutOfMemory>
+pub fn begin_return<S: Store>(machine: &mut Machine<S>) -> Result<Mode, OutOfMemory>
     ensures { IfOk result (LeadsTo (λ a. jump (jump_kind.Return None) (party_of a machine.old))
         machine.old machine.new) }
 {
@@ -37,7 +38,7 @@ pub fn begin_return(machine: &mut Machine) -> Result<Mode, OutOfMemory>
 }
 
 /// `return` with a value (ECMA-262, "The return Statement").
-pub fn begin_return_value(machine: &mut Machine, value: u32) -> Result<Mode, OutOfMemory>
+pub fn begin_return_value<S: Store>(machine: &mut Machine<S>, value: u32) -> Result<Mode, OutOfMemory>
     ensures { let to = jump_kind.Return (Some (term_at machine.old.code value)) in
         IfOk result (LeadsTo (λ a. jump to (party_of a machine.old)) machine.old machine.new) }
 {

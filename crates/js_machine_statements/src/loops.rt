@@ -11,11 +11,12 @@ ghost use Rattle.js_machine.specs.Views.{party_of, turns_at};
 use crate::branches::is_true;
 use js_machine::frame::{Frame, Mode};
 use js_machine::machine::Machine;
+use js_store::store::Store;
 use js_text::value::Value;
 use lava_base::memory::OutOfMemory;
 
 /// The test of a loop's next turn.
-pub fn test(machine: &mut Machine, turns: u32) -> Result<Mode, OutOfMemory>
+pub fn test<S: Store>(machine: &mut Machine<S>, turns: u32) -> Result<Mode, OutOfMemory>
     ensures { let turn = turns_at machine.old.code turns in
         IfOk result (LeadsTo (λ a. Evaluate turn.test (party_of a machine.old) (Tested turn))
         machine.old machine.new) }
@@ -25,7 +26,7 @@ pub fn test(machine: &mut Machine, turns: u32) -> Result<Mode, OutOfMemory>
 }
 
 /// A turn of a loop.
-pub fn turn(machine: &mut Machine, turns: u32) -> Result<Mode, OutOfMemory>
+pub fn turn<S: Store>(machine: &mut Machine<S>, turns: u32) -> Result<Mode, OutOfMemory>
     ensures { let turn = turns_at machine.old.code turns in
         IfOk result (LeadsTo (λ a. Evaluate turn.body (party_of a machine.old) (Turned turn))
         machine.old machine.new) }
@@ -35,7 +36,7 @@ pub fn turn(machine: &mut Machine, turns: u32) -> Result<Mode, OutOfMemory>
 }
 
 /// A turn of a loop, or its end.
-fn turn_or_end(machine: &mut Machine, truth: bool, turns: u32) -> Result<Mode, OutOfMemory>
+fn turn_or_end<S: Store>(machine: &mut Machine<S>, truth: bool, turns: u32) -> Result<Mode, OutOfMemory>
     ensures { let turn = turns_at machine.old.code turns in
         IfOk result (LeadsTo (λ a. if truth then Evaluate turn.body (party_of a machine.old) (Turned
         turn) else give undefined_value.Undefined (party_of a machine.old)) machine.old machine.new) }
@@ -47,7 +48,7 @@ fn turn_or_end(machine: &mut Machine, truth: bool, turns: u32) -> Result<Mode, O
 }
 
 /// The test of a turn has its value.
-pub fn tested(machine: &mut Machine, turns: u32, value: Value) -> Result<Mode, OutOfMemory>
+pub fn tested<S: Store>(machine: &mut Machine<S>, turns: u32, value: Value) -> Result<Mode, OutOfMemory>
     ensures { let turn = turns_at machine.old.code turns in
         IfOk result (LeadsTo (λ a. if to_boolean value then Evaluate turn.body (party_of a
         machine.old) (Turned turn) else give undefined_value.Undefined (party_of a machine.old))
@@ -57,7 +58,7 @@ pub fn tested(machine: &mut Machine, turns: u32, value: Value) -> Result<Mode, O
 }
 
 /// A loop begins with its test or with its first turn.
-pub fn begin_loop(machine: &mut Machine, turns: u32, tests_first: bool) -> Result<Mode, OutOfMemory>
+pub fn begin_loop<S: Store>(machine: &mut Machine<S>, turns: u32, tests_first: bool) -> Result<Mode, OutOfMemory>
     ensures { let turn = turns_at machine.old.code turns in
         IfOk result (LeadsTo (λ a. loop_begins tests_first turn (party_of a machine.old))
         machine.old machine.new) }

@@ -12,11 +12,12 @@ ghost use Rattle.js_machine.specs.Views.{party_of};
 use js_desc::fault::FaultText;
 use js_machine::frame::Mode;
 use js_machine::machine::Machine;
+use js_store::store::Store;
 use js_text::value::Value;
 use lava_base::memory::OutOfMemory;
 
 /// Gives `this` (ECMA-262, "The this Keyword").
-pub fn begin_this(machine: &mut Machine) -> Result<Mode, OutOfMemory>
+pub fn begin_this<S: Store>(machine: &mut Machine<S>) -> Result<Mode, OutOfMemory>
     ensures { let names = naming_of machine.old.me in
         let this = (first_body machine.old.bodies).this in
         IfOk result (LeadsTo (λ a. on_this names this (party_of a machine.old) give)
@@ -29,7 +30,7 @@ pub fn begin_this(machine: &mut Machine) -> Result<Mode, OutOfMemory>
 }
 
 /// The new target of the body that runs, or undefined (ECMA-262, GetNewTarget).
-pub fn new_target(machine: &Machine) -> Value
+pub fn new_target<S: Store>(machine: &Machine<S>) -> Value
     ensures { result ≡ target_value (first_body machine.now.bodies).new_target }
 {
     match machine.bodies.last() {
@@ -42,7 +43,7 @@ pub fn new_target(machine: &Machine) -> Value
 }
 
 /// Gives the new target (ECMA-262, "Meta Properties").
-pub fn begin_new_target(machine: &mut Machine) -> Result<Mode, OutOfMemory>
+pub fn begin_new_target<S: Store>(machine: &mut Machine<S>) -> Result<Mode, OutOfMemory>
     ensures { let target = target_value (first_body machine.old.bodies).new_target in
         IfOk result (LeadsTo (λ a. give target (party_of a machine.old)) machine.old machine.new) }
 {

@@ -12,11 +12,12 @@ ghost use Rattle.js_machine.specs.declared.frame.Frame.TheVariants as frame_kind
 use js_desc::fault::FaultText;
 use js_machine::frame::Mode;
 use js_machine::machine::Machine;
+use js_store::store::Store;
 use js_text::value::Value;
 use lava_base::memory::OutOfMemory;
 
 /// The value with which a body ends that doesn't throw. A jump does not leave it.
-fn returned(machine: &mut Machine, mode: Mode) -> Value
+fn returned<S: Store>(machine: &mut Machine<S>, mode: Mode) -> Value
     ensures value { result ≡ returned_value mode (top machine.old.values) }
     ensures rest { let rest = values_without mode machine.old.values in
         machine.new ≡ record machine.old { values = rest } }
@@ -32,7 +33,7 @@ fn returned(machine: &mut Machine, mode: Mode) -> Value
 }
 
 /// What a constructor gives: an object that it returns, and else the one that was made for it (ECMA-262, "ECMAScript Function Objects", [[Construct]]).
-fn constructed(machine: &mut Machine, object: u32, value: Value) -> Result<Mode, OutOfMemory>
+fn constructed<S: Store>(machine: &mut Machine<S>, object: u32, value: Value) -> Result<Mode, OutOfMemory>
     ensures { let names = naming_of machine.old.me in
         let this = value_kind.Ref (names.own object) in
         IfOk result (LeadsTo (λ a. constructed names a.shared this value (party_of a machine.old))
@@ -46,8 +47,8 @@ fn constructed(machine: &mut Machine, object: u32, value: Value) -> Result<Mode,
 }
 
 /// What the constructor of a class with a parent gives: an object that it returns, and `this` where it returns undefined.
-fn derived_constructed(
-    machine: &mut Machine,
+fn derived_constructed<S: Store>(
+    machine: &mut Machine<S>,
     this: Option<Value>,
     value: Value,
 ) -> Result<Mode, OutOfMemory>
@@ -63,7 +64,7 @@ fn derived_constructed(
 }
 
 /// `this`, which a class with a parent has after its `super` call.
-fn derived_this(machine: &mut Machine, this: Option<Value>) -> Result<Mode, OutOfMemory>
+fn derived_this<S: Store>(machine: &mut Machine<S>, this: Option<Value>) -> Result<Mode, OutOfMemory>
     ensures { let names = naming_of machine.old.me in
         IfOk result (LeadsTo (λ a. derived_this names a.shared this (party_of a machine.old))
         machine.old machine.new) }
@@ -75,7 +76,7 @@ fn derived_this(machine: &mut Machine, this: Option<Value>) -> Result<Mode, OutO
 }
 
 /// What a constructor of the common part gives is the object that it returns.
-fn built(machine: &mut Machine, value: Value) -> Result<Mode, OutOfMemory>
+fn built<S: Store>(machine: &mut Machine<S>, value: Value) -> Result<Mode, OutOfMemory>
     ensures { let names = naming_of machine.old.me in
         IfOk result (LeadsTo (λ a. built names a.shared value (party_of a machine.old))
         machine.old machine.new) }
@@ -87,7 +88,7 @@ fn built(machine: &mut Machine, value: Value) -> Result<Mode, OutOfMemory>
 }
 
 /// The body of a call ends (ECMA-262, OrdinaryCallEvaluateBody).
-pub fn deliver_called(machine: &mut Machine, mode: Mode) -> Result<Mode, OutOfMemory>
+pub fn deliver_called<S: Store>(machine: &mut Machine<S>, mode: Mode) -> Result<Mode, OutOfMemory>
     requires { is_completion mode ≡ true }
     ensures { IfOk result (IsDelivered frame_kind.Called mode machine.old machine.new) }
 {
@@ -100,8 +101,8 @@ pub fn deliver_called(machine: &mut Machine, mode: Mode) -> Result<Mode, OutOfMe
 }
 
 /// The body of a constructor ends, for which the party made an object.
-pub fn deliver_constructed(
-    machine: &mut Machine,
+pub fn deliver_constructed<S: Store>(
+    machine: &mut Machine<S>,
     object: u32,
     mode: Mode,
 ) -> Result<Mode, OutOfMemory>
@@ -117,7 +118,7 @@ pub fn deliver_constructed(
 }
 
 /// The body of the constructor of a class with a parent ends.
-pub fn deliver_derived(machine: &mut Machine, mode: Mode) -> Result<Mode, OutOfMemory>
+pub fn deliver_derived<S: Store>(machine: &mut Machine<S>, mode: Mode) -> Result<Mode, OutOfMemory>
     requires { is_completion mode ≡ true }
     ensures { IfOk result (IsDelivered frame_kind.Derived mode machine.old machine.new) }
 {
@@ -131,7 +132,7 @@ pub fn deliver_derived(machine: &mut Machine, mode: Mode) -> Result<Mode, OutOfM
 }
 
 /// The body of a constructor of the common part ends.
-pub fn deliver_built(machine: &mut Machine, mode: Mode) -> Result<Mode, OutOfMemory>
+pub fn deliver_built<S: Store>(machine: &mut Machine<S>, mode: Mode) -> Result<Mode, OutOfMemory>
     requires { is_completion mode ≡ true }
     ensures { IfOk result (IsDelivered frame_kind.Built mode machine.old machine.new) }
 {

@@ -8,12 +8,13 @@ ghost use Rattle.js_machine.specs.Views.{party_of};
 
 use js_machine::frame::{Frame, Mode};
 use js_machine::machine::Machine;
+use js_store::store::Store;
 use js_text::value::Value;
 use lava_base::memory::OutOfMemory;
 
 /// Forms in their order; the last one takes the place of the list (ECMA-262, "Block").
 #[inline]
-pub fn in_order(machine: &mut Machine, start: u32, count: u32) -> Result<Mode, OutOfMemory>
+pub fn in_order<S: Store>(machine: &mut Machine<S>, start: u32, count: u32) -> Result<Mode, OutOfMemory>
     ensures { let terms = terms_of machine.old.code (term_at machine.old.code) start count in
         IfOk result (LeadsTo (λ a. in_order terms (party_of a machine.old)) machine.old machine.new) }
 {

@@ -12,6 +12,7 @@ ghost use Rattle.js_machine.specs.Views.{party_of, with_local};
 use js_desc::fault::FaultText;
 use js_machine::frame::Mode;
 use js_machine::machine::Machine;
+use js_store::store::Store;
 use js_text::copy::copy_value;
 use js_text::value::Value;
 use lava_base::memory::OutOfMemory;
@@ -19,7 +20,7 @@ use lava_base::memory::OutOfMemory;
 /// The body that runs stands in another scope.
 #[inline]
 #[tactic(auto, using(js_machine::proofs::Standing::moved, js_machine::proofs::Standing::unmoved, js_machine::proofs::Standing::still_grounded))]
-pub fn stand_in(machine: &mut Machine, scope: u32)
+pub fn stand_in<S: Store>(machine: &mut Machine<S>, scope: u32)
     ensures { machine.new ≡ record machine.old { bodies = stood_in scope machine.old.bodies } }
 {
     if machine.bodies.len() != 0 {
@@ -29,7 +30,7 @@ pub fn stand_in(machine: &mut Machine, scope: u32)
 
 /// The scope that is so many hops outwards.
 #[inline]
-pub fn reached(machine: &Machine, hops: u32) -> u32
+pub fn reached<S: Store>(machine: &Machine<S>, hops: u32) -> u32
     ensures { result ≡ outwards machine.now.scopes hops (scope_of machine.now.bodies) }
 {
     machine.scopes.outward(machine.standing(), hops)
@@ -37,7 +38,7 @@ pub fn reached(machine: &Machine, hops: u32) -> u32
 
 /// The value of a slot so many hops outwards, if it is initialised.
 #[inline]
-pub fn local(machine: &Machine, hops: u32, slot: u32) -> Result<Option<Value>, OutOfMemory>
+pub fn local<S: Store>(machine: &Machine<S>, hops: u32, slot: u32) -> Result<Option<Value>, OutOfMemory>
     ensures { let scope = outwards machine.now.scopes hops (scope_of machine.now.bodies) in
         IfOk result (λ v. v ≡ slot_of machine.now.scopes scope slot) }
 {
@@ -48,7 +49,7 @@ pub fn local(machine: &Machine, hops: u32, slot: u32) -> Result<Option<Value>, O
 }
 
 /// Whether a slot so many hops outwards is initialised.
-pub fn has_local(machine: &Machine, hops: u32, slot: u32) -> bool
+pub fn has_local<S: Store>(machine: &Machine<S>, hops: u32, slot: u32) -> bool
     ensures { let scope = outwards machine.now.scopes hops (scope_of machine.now.bodies) in
         result ≡ is_some (slot_of machine.now.scopes scope slot) }
 {
@@ -56,7 +57,7 @@ pub fn has_local(machine: &Machine, hops: u32, slot: u32) -> bool
 }
 
 /// Gives a slot so many hops outwards a value.
-pub fn write_local(machine: &mut Machine, hops: u32, slot: u32, value: Value)
+pub fn write_local<S: Store>(machine: &mut Machine<S>, hops: u32, slot: u32, value: Value)
     ensures { machine.new ≡ record machine.old { scopes = with_local machine.old hops slot value } }
 {
     let scope = reached(machine, hops);
@@ -66,7 +67,7 @@ pub fn write_local(machine: &mut Machine, hops: u32, slot: u32, value: Value)
 /// Gives the value of a slot (ECMA-262, GetBindingValue).
 #[inline]
 #[tactic(auto, using(crate::proofs::Slotted::found_ok, crate::proofs::Slotted::not_found))]
-pub fn get_slot(machine: &mut Machine, hops: u32, slot: u32) -> Result<Mode, OutOfMemory>
+pub fn get_slot<S: Store>(machine: &mut Machine<S>, hops: u32, slot: u32) -> Result<Mode, OutOfMemory>
     ensures { IfOk result (LeadsTo (λ a. get_slot (naming_of machine.old.me) hops slot (party_of a
         machine.old)) machine.old machine.new) }
 {
@@ -77,8 +78,8 @@ pub fn get_slot(machine: &mut Machine, hops: u32, slot: u32) -> Result<Mode, Out
 }
 
 /// Gives an initialised slot a value, which is given (ECMA-262, SetMutableBinding).
-pub fn set_slot(
-    machine: &mut Machine,
+pub fn set_slot<S: Store>(
+    machine: &mut Machine<S>,
     hops: u32,
     slot: u32,
     constant: bool,
@@ -98,8 +99,8 @@ pub fn set_slot(
 }
 
 /// Initialises a slot, and gives undefined (ECMA-262, InitializeBinding).
-pub fn init_slot(
-    machine: &mut Machine,
+pub fn init_slot<S: Store>(
+    machine: &mut Machine<S>,
     hops: u32,
     slot: u32,
     value: Value,

@@ -13,18 +13,19 @@ use crate::slots::stand_in;
 use js_code::node::GuardedRow;
 use js_machine::frame::{Frame, Mode};
 use js_machine::machine::Machine;
+use js_store::store::Store;
 use js_text::value::Value;
 use lava_base::memory::OutOfMemory;
 
 /// A `try` with what follows it.
-pub fn guarded_row(machine: &Machine, at: u32) -> GuardedRow
+pub fn guarded_row<S: Store>(machine: &Machine<S>, at: u32) -> GuardedRow
     ensures { result ≡ guarded_at machine.now.code at }
 {
     machine.code.guarded(at)
 }
 
 /// `try` (ECMA-262, "The try Statement").
-pub fn begin_try(machine: &mut Machine, guarded: u32) -> Result<Mode, OutOfMemory>
+pub fn begin_try<S: Store>(machine: &mut Machine<S>, guarded: u32) -> Result<Mode, OutOfMemory>
     ensures { let term = term_at machine.old.code (guarded_at machine.old.code guarded).body in
         let handler = handler_of machine.old.code guarded in
         let ends = try_ends handler (finalizer_of machine.old.code guarded) in
@@ -36,7 +37,7 @@ pub fn begin_try(machine: &mut Machine, guarded: u32) -> Result<Mode, OutOfMemor
 }
 
 /// What stands last begins, if there is one, and what came is kept meanwhile.
-fn finish(machine: &mut Machine, guarded: u32, mode: Mode) -> Result<Mode, OutOfMemory>
+fn finish<S: Store>(machine: &mut Machine<S>, guarded: u32, mode: Mode) -> Result<Mode, OutOfMemory>
     requires { is_completion mode ≡ true }
     ensures { let last = finalizer_of machine.old.code guarded in
         IfOk result (Follows (λ a. finishes last) mode machine.old machine.new) }
@@ -48,7 +49,7 @@ fn finish(machine: &mut Machine, guarded: u32, mode: Mode) -> Result<Mode, OutOf
 }
 
 /// The body that runs enters a new scope with one slot.
-fn enter_with(machine: &mut Machine, value: Value) -> Result<(), OutOfMemory>
+fn enter_with<S: Store>(machine: &mut Machine<S>, value: Value) -> Result<(), OutOfMemory>
     ensures { OnOk result (machine.new ≡ with_scope (Some value ∷ []) machine.old) }
 {
     let outer = machine.standing();
@@ -59,7 +60,7 @@ fn enter_with(machine: &mut Machine, value: Value) -> Result<(), OutOfMemory>
 }
 
 /// A handler begins, with what was thrown (ECMA-262, CatchClauseEvaluation).
-fn handle(machine: &mut Machine, guarded: u32, handler: u32) -> Result<Mode, OutOfMemory>
+fn handle<S: Store>(machine: &mut Machine<S>, guarded: u32, handler: u32) -> Result<Mode, OutOfMemory>
     ensures { let term = term_at machine.old.code handler in
         let last = finalizer_of machine.old.code guarded in
         IfOk result (GoesOn (λ a v p. inside (Some v ∷ []) term p (finishes last))
@@ -72,7 +73,7 @@ fn handle(machine: &mut Machine, guarded: u32, handler: u32) -> Result<Mode, Out
 }
 
 /// A throw comes out of the body of a `try`.
-fn catch_throw(machine: &mut Machine, guarded: u32) -> Result<Mode, OutOfMemory>
+fn catch_throw<S: Store>(machine: &mut Machine<S>, guarded: u32) -> Result<Mode, OutOfMemory>
     ensures { IfOk result (IsDelivered (frame.Guarded guarded) mode_kind.Throw
         machine.old machine.new) }
 {
@@ -83,7 +84,7 @@ fn catch_throw(machine: &mut Machine, guarded: u32) -> Result<Mode, OutOfMemory>
 }
 
 /// What comes out of the body of a `try`.
-pub fn deliver_guarded(machine: &mut Machine, guarded: u32, mode: Mode) -> Result<Mode, OutOfMemory>
+pub fn deliver_guarded<S: Store>(machine: &mut Machine<S>, guarded: u32, mode: Mode) -> Result<Mode, OutOfMemory>
     requires { is_completion mode ≡ true }
     ensures { IfOk result (IsDelivered (frame.Guarded guarded) mode machine.old machine.new) }
 {
@@ -94,8 +95,8 @@ pub fn deliver_guarded(machine: &mut Machine, guarded: u32, mode: Mode) -> Resul
 }
 
 /// What comes out of the handler of a `try`.
-pub fn deliver_handled(
-    machine: &mut Machine,
+pub fn deliver_handled<S: Store>(
+    machine: &mut Machine<S>,
     guarded: u32,
     scope: u32,
     mode: Mode,
@@ -110,7 +111,7 @@ pub fn deliver_handled(
 
 /// What stands last gave a value, so that the earlier completion stays.
 #[tactic(auto, using(crate::proofs::Tried::stays))]
-pub fn end_finally(machine: &mut Machine, earlier: Mode, value: Value) -> Result<Mode, OutOfMemory>
+pub fn end_finally<S: Store>(machine: &mut Machine<S>, earlier: Mode, value: Value) -> Result<Mode, OutOfMemory>
     ensures { let last = frame.Finally earlier in
         IfOk result (LeadsTo (deed_with last value machine.old) (under last machine.old)
         machine.new) }

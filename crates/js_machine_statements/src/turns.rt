@@ -13,11 +13,12 @@ ghost use Rattle.js_machine.specs.declared.frame.Mode.TheVariants as mode_kind;
 use crate::loops::test;
 use js_machine::frame::{Frame, Mode};
 use js_machine::machine::Machine;
+use js_store::store::Store;
 use js_text::value::Value;
 use lava_base::memory::OutOfMemory;
 
 /// Whether two texts have the same units.
-fn is_same_text(machine: &Machine, first: u32, second: u32) -> bool
+fn is_same_text<S: Store>(machine: &Machine<S>, first: u32, second: u32) -> bool
     ensures { let text = text_at machine.now.code in
         result ≡ same_units (text first) (text second) }
 {
@@ -25,7 +26,7 @@ fn is_same_text(machine: &Machine, first: u32, second: u32) -> bool
 }
 
 /// Whether a label is one of a list.
-fn is_label(machine: &Machine, label: u32, start: u32, count: u32) -> Result<bool, OutOfMemory>
+fn is_label<S: Store>(machine: &Machine<S>, label: u32, start: u32, count: u32) -> Result<bool, OutOfMemory>
     ensures { let part = part_of start count machine.now.code.numbers in
         let labels = map (text_at machine.now.code) part in
         IfOk result (λ is. is ≡ is_label (text_at machine.now.code label) labels) }
@@ -40,7 +41,7 @@ fn is_label(machine: &Machine, label: u32, start: u32, count: u32) -> Result<boo
 }
 
 /// Whether a label is one of a loop's.
-fn has_label(machine: &Machine, turns: u32, label: u32) -> Result<bool, OutOfMemory>
+fn has_label<S: Store>(machine: &Machine<S>, turns: u32, label: u32) -> Result<bool, OutOfMemory>
     ensures { let labels = (turns_at machine.now.code turns).labels in
         IfOk result (λ is. is ≡ is_label (text_at machine.now.code label) labels) }
 {
@@ -49,7 +50,7 @@ fn has_label(machine: &Machine, turns: u32, label: u32) -> Result<bool, OutOfMem
 }
 
 /// What a loop does after a turn, and then the next one.
-pub fn next_turn(machine: &mut Machine, turns: u32) -> Result<Mode, OutOfMemory>
+pub fn next_turn<S: Store>(machine: &mut Machine<S>, turns: u32) -> Result<Mode, OutOfMemory>
     ensures { let turn = turns_at machine.old.code turns in
         IfOk result (LeadsTo (λ a. next_turn turn turn.update (party_of a machine.old))
         machine.old machine.new) }
@@ -61,7 +62,7 @@ pub fn next_turn(machine: &mut Machine, turns: u32) -> Result<Mode, OutOfMemory>
 }
 
 /// A turn ends with a value.
-fn end_turn(machine: &mut Machine, turns: u32) -> Result<Mode, OutOfMemory>
+fn end_turn<S: Store>(machine: &mut Machine<S>, turns: u32) -> Result<Mode, OutOfMemory>
     ensures { IfOk result (IsDelivered (frame.Turned turns) mode_kind.Value machine.old machine.new) }
 {
     let _value = machine.take();
@@ -70,7 +71,7 @@ fn end_turn(machine: &mut Machine, turns: u32) -> Result<Mode, OutOfMemory>
 
 /// A turn ends with a `continue` (ECMA-262, LoopContinues).
 #[tactic(auto, using(crate::proofs::Turned::goes_round, crate::proofs::Turned::goes_further))]
-fn continue_turn(machine: &mut Machine, turns: u32, to: u32) -> Result<Mode, OutOfMemory>
+fn continue_turn<S: Store>(machine: &mut Machine<S>, turns: u32, to: u32) -> Result<Mode, OutOfMemory>
     ensures { let mode = mode_kind.Continue to in
         IfOk result (IsDelivered (frame.Turned turns) mode machine.old machine.new) }
 {
@@ -83,7 +84,7 @@ fn continue_turn(machine: &mut Machine, turns: u32, to: u32) -> Result<Mode, Out
 
 /// A turn ends with a `break` (ECMA-262, "Runtime Semantics: LoopEvaluation").
 #[tactic(auto, using(crate::proofs::Turned::loop_left, crate::proofs::Turned::loop_passed))]
-fn break_turn(machine: &mut Machine, turns: u32, to: u32) -> Result<Mode, OutOfMemory>
+fn break_turn<S: Store>(machine: &mut Machine<S>, turns: u32, to: u32) -> Result<Mode, OutOfMemory>
     ensures { let mode = mode_kind.Break to in
         IfOk result (IsDelivered (frame.Turned turns) mode machine.old machine.new) }
 {
@@ -96,7 +97,7 @@ fn break_turn(machine: &mut Machine, turns: u32, to: u32) -> Result<Mode, OutOfM
 
 /// What comes out of a turn ends the loop, or goes on with it.
 #[tactic(auto, using(crate::proofs::Turned::passes_turn))]
-pub fn deliver_turn(machine: &mut Machine, turns: u32, mode: Mode) -> Result<Mode, OutOfMemory>
+pub fn deliver_turn<S: Store>(machine: &mut Machine<S>, turns: u32, mode: Mode) -> Result<Mode, OutOfMemory>
     requires { is_completion mode ≡ true }
     ensures { IfOk result (IsDelivered (frame.Turned turns) mode machine.old machine.new) }
 {

@@ -5,7 +5,7 @@ ghost use Rattle.js_text.specs.Naming.{naming_of};
 ghost use Rattle.js_run.specs.Functions.{array_of};
 
 use js_run::js_operations::made_objects::make_array;
-use js_store::flat::FlatStore;
+use js_store::store::Store;
 use js_text::value::Value;
 use lava_base::ids::ObjId;
 use lava_base::list::List;
@@ -13,15 +13,15 @@ use lava_base::memory::OutOfMemory;
 use std::alloc::Global;
 
 /// Makes an array of values at the end of a store (ECMA-262, CreateArrayFromList).
-pub fn add_array(
+pub fn add_array<S: Store>(
     alloc: Global,
-    store: &mut FlatStore,
+    store: &mut S,
     values: &List<Value>,
 ) -> Result<ObjId, OutOfMemory>
-    ensures id { IfOk result (λ id. id.0 ≡ length store.old.objects) }
-    ensures made { let array = array_of (naming_of store.old.party.0) values.now in
-        OnOk result (store.new.objects ≡ store.old.objects ++ array ∷ []) }
-    ensures party { store.new.party ≡ store.old.party }
+    ensures id { IfOk result (λ id. id.0 ≡ length (S.objects store.old)) }
+    ensures made { let array = array_of (naming_of (S.owner store.old).0) values.now in
+        OnOk result (S.objects store.new ≡ S.objects store.old ++ array ∷ []) }
+    ensures party { S.owner store.new ≡ S.owner store.old }
 {
     make_array(alloc, store, values)
 }

@@ -8,17 +8,17 @@ ghost use Rattle.js_run_laws.specs.js_run.NativeTurns.{listed_units, units_of_it
 
 use js_native::costs::{native_cost, units_of_values};
 use js_run_laws::js_operations::lists::list_items;
-use js_store::flat::FlatStore;
 use js_store::frozen::FrozenStore;
+use js_store::store::Store;
 use js_text::native::Native;
 use js_text::value::Value;
 use lava_base::memory::OutOfMemory;
 use std::alloc::Global;
 
 /// How many units the texts have in an array that a native reads. Want of memory is answered too where it has more than 4,294,967,295 items.
-fn units_of_items(
+fn units_of_items<S: Store>(
     alloc: Global,
-    store: &FlatStore,
+    store: &S,
     common: &FrozenStore,
     list: &Value,
 ) -> Result<u64, OutOfMemory>
@@ -37,9 +37,9 @@ fn units_of_items(
 }
 
 /// How many units the texts have in four arrays.
-fn units_of_four(
+fn units_of_four<S: Store>(
     alloc: Global,
-    store: &FlatStore,
+    store: &S,
     common: &FrozenStore,
     names: &Value,
     values: &Value,
@@ -60,9 +60,9 @@ fn units_of_four(
 }
 
 /// How many units the texts have in the arrays that `makeCompartment` reads. Want of memory is answered too where these are not four.
-fn units_of_lists(
+fn units_of_lists<S: Store>(
     alloc: Global,
-    store: &FlatStore,
+    store: &S,
     common: &FrozenStore,
     lists: &[Value],
 ) -> Result<u64, OutOfMemory>
@@ -80,9 +80,9 @@ fn units_of_lists(
 }
 
 /// How many units the texts have in the arrays that a native reads. Want of memory is answered too for a `makeCompartment` with another number of operands than it has.
-fn listed_units(
+fn listed_units<S: Store>(
     alloc: Global,
-    store: &FlatStore,
+    store: &S,
     common: &FrozenStore,
     which: Native,
     args: &[Value],
@@ -103,14 +103,14 @@ fn listed_units(
 }
 
 /// What a native costs, in steps, before it begins. Want of memory is answered too where there are more than 4,294,967,295 operands, or items of an array that it reads, and for a `makeCompartment` with another number of operands than it has.
-pub fn cost(
+pub fn cost<S: Store>(
     alloc: Global,
-    store: &FlatStore,
+    store: &S,
     common: &FrozenStore,
     which: Native,
     args: &[Value],
 ) -> Result<u64, OutOfMemory>
-    ensures { let items = list_items (naming_of store.now.party.0) store.now.objects common.now in
+    ensures { let items = list_items (naming_of (S.owner store.now).0) (S.objects store.now) common.now in
         IfOk result (λ n. n ≡ native_cost which args.now (listed_units items which args.now)) }
 {
     if args.len() > u32::MAX as usize {

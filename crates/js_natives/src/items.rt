@@ -16,7 +16,6 @@ use js_native_steps::arrays::add_array;
 use js_native_steps::next::NativeNext;
 use js_run_laws::js_operations::lists::list_items;
 use js_run_laws::places_are_sorted;
-use js_store::flat::FlatStore;
 use js_store::frozen::FrozenStore;
 use js_store::store::Store;
 use js_text::native::Native;
@@ -105,15 +104,15 @@ fn places_of(alloc: Global, values: &[Value]) -> Result<Vec<u32>, OutOfMemory>
 }
 
 /// Makes an array of places, and gives it.
-fn places_made(
+fn places_made<S: Store>(
     alloc: Global,
-    store: &mut FlatStore,
+    store: &mut S,
     places: &[u32],
 ) -> Result<Decision<NativeNext>, OutOfMemory>
-    ensures made { let names = naming_of store.old.party.0 in
-        let step = places_made names store.old.objects places.now in
-        IfOk result (λ d. (d, store.new.objects) ≡ step) }
-    ensures party { store.new.party ≡ store.old.party }
+    ensures made { let names = naming_of (S.owner store.old).0 in
+        let step = places_made names (S.objects store.old) places.now in
+        IfOk result (λ d. (d, (S.objects store.new)) ≡ step) }
+    ensures party { S.owner store.new ≡ S.owner store.old }
 {
     let values = place_values(alloc, places)?;
     let id = add_array(alloc, store, &values)?;
@@ -125,14 +124,14 @@ fn places_made(
 }
 
 /// `sortTexts` with the items of its operand.
-fn sorted_items(
+fn sorted_items<S: Store>(
     alloc: Global,
-    store: &mut FlatStore,
+    store: &mut S,
     items: Option<List<Value>>,
 ) -> Result<Decision<NativeNext>, OutOfMemory>
-    ensures sorted { let names = naming_of store.old.party.0 in
-        IfOk result (λ d. (d, store.new.objects) ≡ sorted_items names store.old.objects items) }
-    ensures party { store.new.party ≡ store.old.party }
+    ensures sorted { let names = naming_of (S.owner store.old).0 in
+        IfOk result (λ d. (d, (S.objects store.new)) ≡ sorted_items names (S.objects store.old) items) }
+    ensures party { S.owner store.new ≡ S.owner store.old }
 {
     let Some(items) = items else {
         return Ok(Decision::Fault(FaultText::CannotConvert));
@@ -145,32 +144,32 @@ fn sorted_items(
 }
 
 /// `sortTexts` of one operand.
-fn sort_list(
+fn sort_list<S: Store>(
     alloc: Global,
-    store: &mut FlatStore,
+    store: &mut S,
     common: &FrozenStore,
     list: &Value,
 ) -> Result<Decision<NativeNext>, OutOfMemory>
-    ensures sorted { let names = naming_of store.old.party.0 in
-        let items = list_items names store.old.objects common.now list.now in
-        IfOk result (λ d. (d, store.new.objects) ≡ sorted_items names store.old.objects items) }
-    ensures party { store.new.party ≡ store.old.party }
+    ensures sorted { let names = naming_of (S.owner store.old).0 in
+        let items = list_items names (S.objects store.old) common.now list.now in
+        IfOk result (λ d. (d, (S.objects store.new)) ≡ sorted_items names (S.objects store.old) items) }
+    ensures party { S.owner store.new ≡ S.owner store.old }
 {
     let items = list_items(alloc, store, common, list)?;
     sorted_items(alloc, store, items)
 }
 
 /// `sortTexts` (ECMA-262, SortIndexedProperties).
-fn sort_native(
+fn sort_native<S: Store>(
     alloc: Global,
-    store: &mut FlatStore,
+    store: &mut S,
     common: &FrozenStore,
     args: &[Value],
 ) -> Result<Decision<NativeNext>, OutOfMemory>
-    ensures sorted { let names = naming_of store.old.party.0 in
-        let step = sort_native names store.old.objects common.now args.now in
-        IfOk result (λ d. (d, store.new.objects) ≡ step) }
-    ensures party { store.new.party ≡ store.old.party }
+    ensures sorted { let names = naming_of (S.owner store.old).0 in
+        let step = sort_native names (S.objects store.old) common.now args.now in
+        IfOk result (λ d. (d, (S.objects store.new)) ≡ step) }
+    ensures party { S.owner store.new ≡ S.owner store.old }
 {
     match args {
         [list] => sort_list(alloc, store, common, list),
@@ -179,18 +178,18 @@ fn sort_native(
 }
 
 /// What `sortTexts` decides. Want of memory is answered for `fromUnits`, which is not decided here.
-pub(crate) fn item_native(
+pub(crate) fn item_native<S: Store>(
     alloc: Global,
-    store: &mut FlatStore,
+    store: &mut S,
     common: &FrozenStore,
     which: Native,
     args: &[Value],
 ) -> Result<Decision<NativeNext>, OutOfMemory>
-    ensures ok { let names = naming_of store.old.party.0 in
-        let step = item_step names store.old.objects common.now which args.now in
-        IfOk result (λ d. (d, store.new.objects) ≡ step) }
+    ensures ok { let names = naming_of (S.owner store.old).0 in
+        let step = item_step names (S.objects store.old) common.now which args.now in
+        IfOk result (λ d. (d, (S.objects store.new)) ≡ step) }
     ensures plain { IfOk result (λ d. calls_items which ≡ false) }
-    ensures party { store.new.party ≡ store.old.party }
+    ensures party { S.owner store.new ≡ S.owner store.old }
 {
     match which {
         Native::FromUnits => Err(OutOfMemory),

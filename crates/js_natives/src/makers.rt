@@ -12,29 +12,29 @@ use js_run_laws::js_maker_natives::makers::{
     bind, make_array, make_map, make_object, make_proxy, make_symbol, revoke,
 };
 use js_run_laws::js_maker_natives::resume::make_error;
-use js_store::flat::FlatStore;
 use js_store::foreign::Foreign;
 use js_store::frozen::FrozenStore;
+use js_store::store::Store;
 use js_text::native::Native;
 use js_text::value::Value;
 use lava_base::memory::OutOfMemory;
 use std::alloc::Global;
 
 /// What one of the natives decides that make objects, which it makes at the end of the store.
-pub(crate) fn maker_native(
+pub(crate) fn maker_native<S: Store>(
     alloc: Global,
-    store: &mut FlatStore,
+    store: &mut S,
     common: &FrozenStore,
     foreign: &Foreign,
     which: Native,
     args: &[Value],
 ) -> Result<Decision<NativeNext>, OutOfMemory>
-    ensures ok { let names = naming_of store.old.party.0 in
-        let objects = store.old.objects in
+    ensures ok { let names = naming_of (S.owner store.old).0 in
+        let objects = S.objects store.old in
         let seen = marks_seen names objects common.now foreign.now in
         let step = maker_native names seen objects common.now which args.now in
-        IfOk result (λ d. (d, store.new.objects) ≡ step) }
-    ensures party { store.new.party ≡ store.old.party }
+        IfOk result (λ d. (d, (S.objects store.new)) ≡ step) }
+    ensures party { S.owner store.new ≡ S.owner store.old }
 {
     match which {
         Native::MakeObject => Ok(of_maker(make_object(store, args)?)),

@@ -17,7 +17,6 @@ use crate::texts::{conversion_native, text_native};
 use js_desc::decision::Decision;
 use js_desc::fault::FaultText;
 use js_native_steps::next::NativeNext;
-use js_store::flat::FlatStore;
 use js_store::foreign::Foreign;
 use js_store::frozen::FrozenStore;
 use js_store::store::Store;
@@ -28,9 +27,9 @@ use lava_base::memory::OutOfMemory;
 use std::alloc::Global;
 
 /// What a native decides.
-fn native_step(
+fn native_step<S: Store>(
     alloc: Global,
-    store: &mut FlatStore,
+    store: &mut S,
     common: &FrozenStore,
     foreign: &Foreign,
     which: Native,
@@ -38,12 +37,12 @@ fn native_step(
 ) -> Result<Decision<NativeNext>, OutOfMemory>
     ensures ok { (read : List ℕ → Option ℤ) → ReadsNumbers read
         → (find : List ℕ → List ℕ → ℕ → Option ℕ) → FindsFirst find
-        → let names = naming_of store.old.party.0 in
-        let objects = store.old.objects in
+        → let names = naming_of (S.owner store.old).0 in
+        let objects = S.objects store.old in
         let seen = marks_seen names objects common.now foreign.now in
         let step = native_step names seen objects common.now read find which args.now in
-        IfOk result (λ d. (d, store.new.objects) ≡ step) }
-    ensures party { store.new.party ≡ store.old.party }
+        IfOk result (λ d. (d, (S.objects store.new)) ≡ step) }
+    ensures party { S.owner store.new ≡ S.owner store.old }
 {
     match family_of(which) {
         Family::Makes => maker_native(alloc, store, common, foreign, which, args),
@@ -90,18 +89,18 @@ fn asks_kind(party: u32, which: Native, decision: &Decision<NativeNext>) -> bool
 }
 
 /// What a native decides once it is charged. Want of memory is answered too where an operand names no object, where an item of `fromUnits` is an object, and where `classOf` is to ask a proxy that is not a foreign one.
-pub fn native(
+pub fn native<S: Store>(
     alloc: Global,
-    store: &mut FlatStore,
+    store: &mut S,
     common: &FrozenStore,
     foreign: &Foreign,
     which: Native,
     args: &[Value],
 ) -> Result<Decision<NativeNext>, OutOfMemory>
     ensures does { let deed = acts_with which args.now in
-        IfOk result (λ d. Does store.old.party.0 store.old.objects common.now foreign.now
-        which deed d store.new.objects) }
-    ensures party { store.new.party ≡ store.old.party }
+        IfOk result (λ d. Does (S.owner store.old).0 (S.objects store.old) common.now foreign.now
+        which deed d (S.objects store.new)) }
+    ensures party { S.owner store.new ≡ S.owner store.old }
 {
     if !all_are_there(store, common, args) {
         return Err(OutOfMemory);

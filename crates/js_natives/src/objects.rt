@@ -11,7 +11,6 @@ use js_native_steps::next::{NativeNext, of_maker, of_object};
 use js_run_laws::js_maker_natives::kinds::{class_of, is_common, symbol_for};
 use js_run_laws::js_object_natives::call_natives::{apply, construct};
 use js_run_laws::js_object_natives::object_natives::object_native;
-use js_store::flat::FlatStore;
 use js_store::foreign::Foreign;
 use js_store::frozen::FrozenStore;
 use js_store::store::Store;
@@ -21,16 +20,16 @@ use lava_base::memory::OutOfMemory;
 use std::alloc::Global;
 
 /// What one of the natives decides that call, or that ask an object.
-pub(crate) fn call_native(
+pub(crate) fn call_native<S: Store>(
     alloc: Global,
-    store: &FlatStore,
+    store: &S,
     common: &FrozenStore,
     foreign: &Foreign,
     which: Native,
     args: &[Value],
 ) -> Result<Decision<NativeNext>, OutOfMemory>
-    ensures { let names = naming_of store.now.party.0 in
-        let objects = store.now.objects in
+    ensures { let names = naming_of (S.owner store.now).0 in
+        let objects = S.objects store.now in
         let seen = marks_seen names objects common.now foreign.now in
         IfOk result (λ d. d ≡ call_native names seen objects common.now which args.now) }
 {
@@ -42,16 +41,16 @@ pub(crate) fn call_native(
 }
 
 /// What one of the natives decides that tell what a value is.
-pub(crate) fn telling_native(
+pub(crate) fn telling_native<S: Store>(
     alloc: Global,
-    store: &FlatStore,
+    store: &S,
     common: &FrozenStore,
     foreign: &Foreign,
     which: Native,
     args: &[Value],
 ) -> Result<Decision<NativeNext>, OutOfMemory>
-    ensures { let names = naming_of store.now.party.0 in
-        let objects = store.now.objects in
+    ensures { let names = naming_of (S.owner store.now).0 in
+        let objects = S.objects store.now in
         let seen = marks_seen names objects common.now foreign.now in
         IfOk result (λ d. d ≡ telling_native names seen objects common.now which args.now) }
 {

@@ -15,29 +15,29 @@ use js_run_laws::js_conversions::conversions::resume_conversion;
 use js_run_laws::js_maker_natives::resume::resume_maker;
 use js_run_laws::js_object_natives::resume::resume_native;
 use js_run_laws::js_slot_natives::slot_natives::resume_slot_native;
-use js_store::flat::FlatStore;
 use js_store::foreign::Foreign;
 use js_store::frozen::FrozenStore;
+use js_store::store::Store;
 use js_text::native::Native;
 use lava_base::memory::OutOfMemory;
 use std::alloc::Global;
 
 /// What a native that waits decides with the answer.
-fn step_resumed(
+fn step_resumed<S: Store>(
     alloc: Global,
-    store: &mut FlatStore,
+    store: &mut S,
     common: &FrozenStore,
     foreign: &Foreign,
     next: NativeNext,
     reply: Reply,
 ) -> Result<Decision<NativeNext>, OutOfMemory>
     ensures ok { (read : List ℕ → Option ℤ) → ReadsNumbers read
-        → let names = naming_of store.old.party.0 in
-        let objects = store.old.objects in
+        → let names = naming_of (S.owner store.old).0 in
+        let objects = S.objects store.old in
         let seen = marks_seen names objects common.now foreign.now in
         let step = step_resumed names seen objects common.now read next reply in
-        IfOk result (λ d. (d, store.new.objects) ≡ step) }
-    ensures party { store.new.party ≡ store.old.party }
+        IfOk result (λ d. (d, (S.objects store.new)) ≡ step) }
+    ensures party { S.owner store.new ≡ S.owner store.old }
 {
     match next {
         NativeNext::Object(next) => {
@@ -54,9 +54,9 @@ fn step_resumed(
 }
 
 /// Goes on with the answer that a native waited for. Want of memory is answered too where the answer names no object.
-pub fn resume(
+pub fn resume<S: Store>(
     alloc: Global,
-    store: &mut FlatStore,
+    store: &mut S,
     common: &FrozenStore,
     foreign: &Foreign,
     which: Native,
@@ -64,9 +64,9 @@ pub fn resume(
     reply: Reply,
 ) -> Result<Decision<NativeNext>, OutOfMemory>
     ensures does { let deed = goes_on_with which next reply in
-        IfOk result (λ d. Does store.old.party.0 store.old.objects common.now foreign.now
-        which deed d store.new.objects) }
-    ensures party { store.new.party ≡ store.old.party }
+        IfOk result (λ d. Does (S.owner store.old).0 (S.objects store.old) common.now foreign.now
+        which deed d (S.objects store.new)) }
+    ensures party { S.owner store.new ≡ S.owner store.old }
 {
     if !reply_is_there(store, common, &reply) {
         return Err(OutOfMemory);

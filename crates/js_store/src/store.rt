@@ -32,7 +32,7 @@ pub const PLAIN_MARKS: Marks = Marks {
 /// A party's objects: a list, in which an object is found by its id, counted from 0. No object leaves the list, so an id is never used again.
 ///
 /// An object has a prototype, a truth value that says whether it is extensible, own properties, a slot and marks. Its properties stand in one normal order, which all calls keep: array indices ascending, then the other keys in order of creation.
-pub trait Store {
+pub trait Store: Drop {
     /// The objects, however they are kept.
     ghost objects: { Self → List (Object Ref MadeSymbol) };
 

@@ -5,8 +5,8 @@ use Rattle.js_direct.proofs.Doing.{write_row_does}
 use Rattle.js_direct.proofs.done.put_into.Goals as goal
 
 pub returns-in-Some-clause-does : goal.returns-in-Some-clause-does
-returns-in-Some-clause-does c = λ l.
-    write_row_does (seen c.args.store.now c.args.code.now c.args.scopes.now c.args.scope) c.args.common.now (node.Put c.args.object c.args.key c.args.value) c.write_at.new.store.objects c.in-Some.direct c.in-Some.ensures.write
+returns-in-Some-clause-does g c = λ l.
+    write_row_does (seen (g.S.Store.owner c.args.store.now) (g.S.Store.objects c.args.store.now) c.args.code.now c.args.scopes.now c.args.scope) c.args.common.now (node.Put c.args.object c.args.key c.args.value) (g.S.Store.objects c.write_at.new.store) c.in-Some.direct c.in-Some.ensures.write
 
 pub returns-in-Some-clause-none : goal.returns-in-Some-clause-none
-returns-in-Some-clause-none c = λ e. absurd (omega (arith, e, c.in-Some.ensures.some))
+returns-in-Some-clause-none g c = λ e. absurd (omega (arith, e, c.in-Some.ensures.some))

@@ -6,9 +6,9 @@ use Rattle.js_direct.proofs.Doing.{set_does}
 use Rattle.js_direct.proofs.slots.set_at.Goals as goal
 
 pub returns-clause-does : goal.returns-clause-does
-returns-clause-does c = λ l common at e.
-    (let s = seen c.args.store.now c.args.code.now c.args.scopes.now c.args.scope in
+returns-clause-does g c = λ l common at e.
+    (let s = seen (g.S.Store.owner c.args.store.now) (g.S.Store.objects c.args.store.now) c.args.code.now c.args.scopes.now c.args.scope in
     let v = value_of c.value_into-steps.new.given in
     let after = c.write.ensures ∙ (λ j. with_slot c.args.scopes.now (c.outward-at.ensures j) c.args.slot (c.as_value.ensures j)) in
-    subst (λ scopes. DoesAtOnce s common at v c.args.store.now.objects scopes (c.value_into-steps.result + 1)) (sym after)
+    subst (λ scopes. DoesAtOnce s common at v (g.S.Store.objects c.args.store.now) scopes (c.value_into-steps.result + 1)) (sym after)
     (set_does s common at c.args.hops c.args.slot v c.value_into-steps.result (c.value_into-steps.result + 1) c.args.value e (c.value_into-steps.ensures (omega (arith, c.if-steps-eq0.false))) (sym c.has_slot.ensures ∙ c.if-not-has_slot.false) refl))

@@ -6,7 +6,7 @@ use Rattle.js_in_place.proofs.Placed.{part_next}
 use Rattle.js_in_place.proofs.back.back_in_list.Goals as goal
 
 pub returns-in-Some-Seq : goal.returns-in-Some-Seq
-returns-in-Some-Seq c = λ s.
+returns-in-Some-Seq g c = λ s.
     (let is = sym c.newest_frame.ensures ∙ c.in-Some-Seq.is ∙ ap Some (c.in-Some-Seq.field-0-is ∙ (λ i. frame.Seq (c.if-s-start.true i) (c.if-c-count.true i))) in
     part_next c.args.left c.args.left c.args.machine.now c.take_off.new.machine (at_value s.value c.args.machine.now) (at_list c.args.start c.args.count c.take_off.new.machine) s c.came.result
     (list_follows c.args.start c.args.count c.args.left s.value c.args.machine.now c.take_off.new.machine is c.take_off.ensures) c.came.ensures)

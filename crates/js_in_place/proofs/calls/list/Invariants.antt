@@ -2,4 +2,4 @@ use Rattle.js_in_place.proofs.Calling.{SoFar}
 use Rattle.js_in_place.proofs.calls.list.Given as goal
 
 abbrev pub invariant-loop-i : goal.invariant-loop-i
-invariant-loop-i l = SoFar l.fn.start l.fn.count l.there l.i l.fn.left l.left l.fn.machine l.machine
+invariant-loop-i g l = SoFar l.fn.start l.fn.count l.there l.i l.fn.left l.left l.fn.machine l.machine

@@ -9,11 +9,11 @@ use Rattle.js_in_place.proofs.Led.{given_ends}
 use Rattle.js_in_place.proofs.deliver.deliver_within.Goals as goal
 
 pub returns-then-not-can_set : goal.returns-then-not-can_set
-returns-then-not-can_set c = λ e.
+returns-then-not-can_set g c = λ e.
     still (spot.Given c.args.value) c.args.left c.args.machine.now c.stopped_at.result c.stopped_at.ensures.spot c.stopped_at.ensures.left
 
 pub returns-else-not-can_set : goal.returns-else-not-can_set
-returns-else-not-can_set c = λ e.
+returns-else-not-can_set g c = λ e.
     (let can : c.can_set.result ≡ true = grind (arith, c.if-not-can_set.false) in
     let low : is_some (slot_of c.take_off.new.machine.scopes (outwards c.take_off.new.machine.scopes c.in-SetLocal.hops (scope_of c.take_off.new.machine.bodies)) c.in-SetLocal.slot) ≡ true =
     ap (λ (w : View). is_some (slot_of w.scopes (outwards w.scopes c.in-SetLocal.hops (scope_of w.bodies)) c.in-SetLocal.slot)) c.take_off.ensures ∙ c.can_set.ensures.there can in
@@ -21,27 +21,27 @@ returns-else-not-can_set c = λ e.
     (c.in-SetLocal.is ∙ ap (λ b. frame.SetLocal c.in-SetLocal.hops c.in-SetLocal.slot b) (c.can_set.ensures.changes can)) c.take_off.ensures (c.set_slot.ensures low))
 
 pub returns-in-Init : goal.returns-in-Init
-returns-in-Init c = λ e.
+returns-in-Init g c = λ e.
     comes_to (newest c.args.machine.now.frames) c.args.frame (frame.Init c.in-Init.hops c.in-Init.slot) c.args.value c.args.left c.args.machine.now c.take_off-in-Init.new.machine c.init_slot.new.machine c.init_slot.result refl e c.in-Init.is c.take_off-in-Init.ensures c.init_slot.ensures
 
 pub returns-in-Return : goal.returns-in-Return
-returns-in-Return c = λ e. c.return_value.ensures (e ∙ ap Some c.in-Return.is)
+returns-in-Return g c = λ e. c.return_value.ensures (e ∙ ap Some c.in-Return.is)
 
 pub returns-in-Called : goal.returns-in-Called
-returns-in-Called c = λ e.
+returns-in-Called g c = λ e.
     comes_to (newest c.args.machine.now.frames) c.args.frame frame.Called c.args.value c.args.left c.args.machine.now c.take_off-in-Called.new.machine c.end_body.new.machine c.end_body.result refl e c.in-Called.is c.take_off-in-Called.ensures c.end_body.ensures
 
 pub returns-in-Given : goal.returns-in-Given
-returns-in-Given c = λ e.
+returns-in-Given g c = λ e.
     comes_to (newest c.args.machine.now.frames) c.args.frame frame.Given c.args.value c.args.left c.args.machine.now c.take_off-in-Given.new.machine c.take_off-in-Given.new.machine c.at_value.result refl e c.in-Given.is c.take_off-in-Given.ensures (given_ends c.args.left c.args.value c.take_off-in-Given.new.machine c.at_value.result c.at_value.ensures)
 
 pub returns-in-BinaryLeft : goal.returns-in-BinaryLeft
-returns-in-BinaryLeft c = λ e.
+returns-in-BinaryLeft g c = λ e.
     comes_in c.operand_waits.result (newest c.args.machine.now.frames) c.args.frame (frame.BinaryLeft c.in-BinaryLeft.operator c.in-BinaryLeft.right) c.args.value c.args.left c.args.machine.now c.take_off-in-BinaryLeft.new.machine c.operand_waits.new.machine refl e c.in-BinaryLeft.is c.take_off-in-BinaryLeft.ensures c.operand_waits.ensures
 
 pub returns-in-BinaryRight : goal.returns-in-BinaryRight
-returns-in-BinaryRight c = λ e. c.operate.ensures (e ∙ ap Some c.in-BinaryRight.is)
+returns-in-BinaryRight g c = λ e. c.operate.ensures (e ∙ ap Some c.in-BinaryRight.is)
 
 pub returns-in_default : goal.returns-in_default
-returns-in_default c = λ e.
+returns-in_default g c = λ e.
     still (spot.Given c.args.value) c.args.left c.args.machine.now c.stopped_at-in_default.result c.stopped_at-in_default.ensures.spot c.stopped_at-in_default.ensures.left

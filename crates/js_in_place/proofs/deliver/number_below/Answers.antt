@@ -6,7 +6,7 @@ use Rattle.js_in_place.proofs.Newest.{top_is}
 use Rattle.js_in_place.proofs.deliver.number_below.Goals as goal
 
 pub returns-in-Int : goal.returns-in-Int
-returns-in-Int c =
+returns-in-Int g c =
     let count : c.len-count.result ≡ length c.machine.inside.values.items = search (rules, arith) in
     subst (λ i. top c.args.machine.now.values ≡ value.Int i) (sym (to_z-of_z w64 c.in-Int.number (search rules)))
     (sym (ap (λ (w : View). top w.values) c.machine.view_is) ∙ top_is c.index.result.now c.machine.inside.values.items c.len-count.result count c.if-count-eq0.false c.index.ensures ∙ c.in-Int.is)

@@ -14,18 +14,18 @@ use Rattle.js_in_place.proofs.Led.{operated, value_stand}
 use Rattle.js_in_place.proofs.deliver.operate.Goals as goal
 
 pub returns-in_default : goal.returns-in_default
-returns-in_default c = λ e. still (spot.Given c.args.value) c.args.left c.args.machine.now c.stopped_at.result c.stopped_at.ensures.spot c.stopped_at.ensures.left
+returns-in_default g c = λ e. still (spot.Given c.args.value) c.args.left c.args.machine.now c.stopped_at.result c.stopped_at.ensures.spot c.stopped_at.ensures.left
 
 pub returns-in_default-number_below : goal.returns-in_default-number_below
-returns-in_default-number_below c = λ e.
+returns-in_default-number_below g c = λ e.
     still (spot.Given c.args.value) c.args.left c.args.machine.now c.stopped_at-in_default-number_below.result (c.stopped_at-in_default-number_below.ensures.spot ∙ ap spot.Given (sym c.in-Int.is)) c.stopped_at-in_default-number_below.ensures.left
 
 pub returns-in_default-number_by : goal.returns-in_default-number_by
-returns-in_default-number_by c = λ e.
+returns-in_default-number_by g c = λ e.
     still (spot.Given c.args.value) c.args.left c.args.machine.now c.stopped_at-in_default-number_by.result (c.stopped_at-in_default-number_by.ensures.spot ∙ ap spot.Given (sym c.in-Int.is)) c.stopped_at-in_default-number_by.ensures.left
 
 pub returns : goal.returns
-returns c = λ e.
+returns g c = λ e.
     (let f = frame.BinaryRight c.args.operator in
     let low = c.take_off.new.machine in
     let first = ap (λ (w : View). top w.values) c.take_off.ensures ∙ c.in-Some.ensures in

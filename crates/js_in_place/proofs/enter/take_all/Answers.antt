@@ -3,7 +3,7 @@ use Rattle.js_in_place.proofs.Entering.{all_taken, one_bound, one_taken}
 use Rattle.js_in_place.proofs.enter.take_all.Goals as goal
 
 pub loop-left-preserved : goal.loop-left-preserved
-loop-left-preserved c =
+loop-left-preserved g c =
     let left = c.loop-left.left in
     let less : left ≡ suc (left - 1) = omega arith in
     let i = c.loop-left.invariant in
@@ -14,4 +14,4 @@ loop-left-preserved c =
     }
 
 pub returns : goal.returns
-returns c = all_taken c.args.count c.loop-left.left c.args.scope c.args.machine.now c.loop-left.machine (omega arith) c.loop-left.invariant.state c.loop-left.invariant.slots
+returns g c = all_taken c.args.count c.loop-left.left c.args.scope c.args.machine.now c.loop-left.machine (omega arith) c.loop-left.invariant.state c.loop-left.invariant.slots

@@ -14,20 +14,20 @@ use Rattle.js_in_place.proofs.form.+form.Goals as goal
 -- FORMS THAT TAKE ONE ANOTHER'S PLACE
 
 pub do_form-returns-in_default-clause-went : goal.do_form-returns-in_default-clause-went
-do_form-returns-in_default-clause-went t c =
+do_form-returns-in_default-clause-went g t c =
     then_went c.args.left c.loop-i.left c.args.machine.now c.loop-i.machine c.after_row-step.new.machine (at_form c.args.at c.args.machine.now) (at_form c.loop-i.at c.loop-i.machine) c.after_row-step.new.seat c.after_row-step.result c.loop-i.invariant
     (c.after_row-step.ensures (at_form c.loop-i.at c.loop-i.machine) c.loop-i.left c.loop-i.machine c.do_row-step.ensures)
 
 pub do_form-returns-in_default-clause-ends : goal.do_form-returns-in_default-clause-ends
-do_form-returns-in_default-clause-ends t c = c.in_default.not-Next
+do_form-returns-in_default-clause-ends g t c = c.in_default.not-Next
 
 pub do_form-loop-i-preserved : goal.do_form-loop-i-preserved
-do_form-loop-i-preserved t c =
+do_form-loop-i-preserved g t c =
     then_to c.args.left c.loop-i.left c.after_row-step.result.left c.args.machine.now c.loop-i.machine c.after_row-step.new.machine (at_form c.args.at c.args.machine.now) (at_form c.loop-i.at c.loop-i.machine) (at_form c.after_row-step.new.seat.at c.after_row-step.new.machine) c.loop-i.invariant
     (next_went c.loop-i.left c.loop-i.machine c.after_row-step.new.machine (at_form c.loop-i.at c.loop-i.machine) c.after_row-step.new.seat c.after_row-step.result c.in-Next.is (c.after_row-step.ensures (at_form c.loop-i.at c.loop-i.machine) c.loop-i.left c.loop-i.machine c.do_row-step.ensures))
 
 pub do_form-returns-clause-went : goal.do_form-returns-clause-went
-do_form-returns-clause-went t c =
+do_form-returns-clause-went g t c =
     went_stopped c.args.left c.loop-i.left c.args.machine.now c.loop-i.machine (at_form c.args.at c.args.machine.now) c.stopped.new.seat c.stopped.result
     (stands_at c.args.left c.loop-i.left c.loop-i.at c.args.machine.now c.loop-i.machine c.loop-i.machine (at_form c.args.at c.args.machine.now) c.stopped.new.seat refl (ap (λ s. s.at) c.stopped.ensures.form) c.loop-i.invariant)
     c.stopped.ensures.went
@@ -35,53 +35,53 @@ do_form-returns-clause-went t c =
 -- ROWS
 
 pub do_row-returns-in-Seq : goal.do_row-returns-in-Seq
-do_row-returns-in-Seq t c =
+do_row-returns-in-Seq g t c =
     then_went c.args.left (c.args.left - 1) c.args.machine.now c.args.machine.now c.do_list.new.machine (at_form c.args.at c.args.machine.now) (at_list c.in-Seq.start c.in-Seq.count c.args.machine.now) c.do_list.new.seat c.do_list.result
     (row_done c.args.at c.args.left (c.args.left - 1) (node.Seq c.in-Seq.start c.in-Seq.count) c.args.machine.now (c.node.ensures ∙ ap (layer_of c.args.machine.now.code (term_at c.args.machine.now.code)) c.in-Seq.is) c.requires.some refl) c.do_list.ensures
 
 pub do_row-returns-in-Scope : goal.do_row-returns-in-Scope
-do_row-returns-in-Scope t c =
+do_row-returns-in-Scope g t c =
     then_went c.args.left (c.args.left - 1) c.args.machine.now c.args.machine.now c.do_scope.new.machine (at_form c.args.at c.args.machine.now) (at_scope c.in-Scope.slots c.in-Scope.body c.args.machine.now) c.do_scope.new.seat c.do_scope.result
     (row_done c.args.at c.args.left (c.args.left - 1) (node.Scope c.in-Scope.slots c.in-Scope.body) c.args.machine.now (c.node.ensures ∙ ap (layer_of c.args.machine.now.code (term_at c.args.machine.now.code)) c.in-Scope.is) c.requires.some refl) c.do_scope.ensures
 
 pub do_row-returns-in-Loop-default-true : goal.do_row-returns-in-Loop-default-true
-do_row-returns-in-Loop-default-true t c =
+do_row-returns-in-Loop-default-true g t c =
     let it = c.in-Loop-default-true in
     then_went c.args.left (c.args.left - 1) c.args.machine.now c.args.machine.now c.do_loop.new.machine (at_form c.args.at c.args.machine.now) (at_test it.turns c.args.machine.now) c.do_loop.new.seat c.do_loop.result
     (row_done c.args.at c.args.left (c.args.left - 1) (node.Loop it.turns true) c.args.machine.now (c.node.ensures ∙ ap (layer_of c.args.machine.now.code (term_at c.args.machine.now.code)) (it.is ∙ ap (node.Loop it.turns) it.tests_first-test)) c.requires.some refl) c.do_loop.ensures
 
 pub do_row-returns-in-Fresh : goal.do_row-returns-in-Fresh
-do_row-returns-in-Fresh t c =
+do_row-returns-in-Fresh g t c =
     then_went c.args.left (c.args.left - 1) c.args.machine.now c.args.machine.now c.fresh.new.machine (at_form c.args.at c.args.machine.now) (at_copy c.args.machine.now) c.fresh.new.seat c.fresh.result
     (row_done c.args.at c.args.left (c.args.left - 1) node.Fresh c.args.machine.now (c.node.ensures ∙ ap (layer_of c.args.machine.now.code (term_at c.args.machine.now.code)) c.in-Fresh.is) c.requires.some refl) c.fresh.ensures
 
 pub do_row-returns-in-Func : goal.do_row-returns-in-Func
-do_row-returns-in-Func t c =
+do_row-returns-in-Func g t c =
     c.do_function.ensures c.args.at (c.node.ensures ∙ ap (layer_of c.args.machine.now.code (term_at c.args.machine.now.code)) c.in-Func.is)
 
 pub do_row-returns-in-Return : goal.do_row-returns-in-Return
-do_row-returns-in-Return t c =
+do_row-returns-in-Return g t c =
     then_went c.args.left (c.args.left - 1) c.args.machine.now c.args.machine.now c.leave.new.machine (at_form c.args.at c.args.machine.now) (at_return plain.Undefined c.args.machine.now) c.leave.new.seat c.leave.result
     (return_done c.args.at c.args.left (c.args.left - 1) c.args.machine.now (c.node.ensures ∙ ap (layer_of c.args.machine.now.code (term_at c.args.machine.now.code)) c.in-Return.is) c.requires.some refl) c.leave.ensures
 
 -- LISTS
 
 pub do_list-returns-then-count-eq1 : goal.do_list-returns-then-count-eq1
-do_list-returns-then-count-eq1 t c =
+do_list-returns-then-count-eq1 g t c =
     subst (λ n. IsWent (at_list c.args.start n c.args.machine.now) c.args.left c.args.machine.now c.args.machine.now c.only.new.seat c.only.result) (sym c.if-count-eq1.true) c.only.ensures
 
 pub do_items-returns-in_default-how : goal.do_items-returns-in_default-how
-do_items-returns-in_default-how t c =
+do_items-returns-in_default-how g t c =
     list_stops c.args.start c.args.count c.loop-i.i c.in-Ok.there (c.args.start + c.loop-i.i + 1) (c.args.count - c.loop-i.i - 1) c.number-at.result c.args.left c.loop-i.left c.args.machine.now c.loop-i.machine c.do_item-step.new.machine c.do_item-step.new.seat c.do_item-step.result
     c.loop-i.invariant.0 c.loop-i.invariant.1 c.in-Ok.ensures.most (omega (arith, c.loop-i-test.true)) refl refl c.number-at.ensures c.do_item-step.ensures c.in_default-how.not-Next
 
 pub do_items-loop-i-preserved : goal.do_items-loop-i-preserved
-do_items-loop-i-preserved t c =
+do_items-loop-i-preserved g t c =
     list_goes_on c.args.start c.args.count c.loop-i.i c.in-Ok.there (c.args.start + c.loop-i.i + 1) (c.args.count - c.loop-i.i - 1) c.number-at.result c.args.left c.loop-i.left c.args.machine.now c.loop-i.machine c.do_item-step.new.machine c.do_item-step.new.seat c.do_item-step.result
     c.loop-i.invariant.0 c.loop-i.invariant.1 c.in-Ok.ensures.most (omega (arith, c.loop-i-test.true)) refl refl c.number-at.ensures c.do_item-step.ensures c.in-Next.is
 
 pub do_items-returns : goal.do_items-returns
-do_items-returns t c =
+do_items-returns g t c =
     let from = at_list c.args.start c.args.count c.args.machine.now in
     let last : c.loop-i.i ≡ c.in-Ok.there - 1 = omega (arith, c.loop-i-test.false, c.loop-i.auto.i-end) in
     went_next c.args.left c.loop-i.left c.args.machine.now c.loop-i.machine from c.next.new.seat c.next.result
@@ -91,7 +91,7 @@ do_items-returns t c =
     c.next.ensures.went
 
 pub do_held-returns-in-Given : goal.do_held-returns-in-Given
-do_held-returns-in-Given t c =
+do_held-returns-in-Given g t c =
     let from = at_item c.args.at c.args.start c.args.count c.args.machine.now in
     let begun = item_begins c.args.at c.args.start c.args.count c.args.left c.args.machine.now c.push_frame.new.self c.in-Ok.ensures in
     let s = c.do_form-step.new.seat in
@@ -101,18 +101,18 @@ do_held-returns-in-Given t c =
     (c.back_in_list.ensures s)
 
 pub do_held-returns-in_default-how : goal.do_held-returns-in_default-how
-do_held-returns-in_default-how t c =
+do_held-returns-in_default-how g t c =
     let from = at_item c.args.at c.args.start c.args.count c.args.machine.now in
     let begun = item_begins c.args.at c.args.start c.args.count c.args.left c.args.machine.now c.push_frame.new.self c.in-Ok.ensures in
     part_ends c.args.left c.args.machine.now c.do_form-step.new.machine from (at_list c.args.start c.args.count c.do_form-step.new.machine) c.do_form-step.new.seat c.do_form-step.result c.do_form-step.ensures.ends
     (then_went c.args.left c.args.left c.args.machine.now c.push_frame.new.self c.do_form-step.new.machine from (at_form c.args.at c.push_frame.new.self) c.do_form-step.new.seat c.do_form-step.result begun c.do_form-step.ensures.went)
 
 pub do_tried-returns-then-steps-eq0 : goal.do_tried-returns-then-steps-eq0
-do_tried-returns-then-steps-eq0 t c =
+do_tried-returns-then-steps-eq0 g t c =
     subst (λ (w : View). IsPart (at_item c.args.at c.args.start c.args.count w) (at_list c.args.start c.args.count c.do_held.new.machine) c.args.left w c.do_held.new.machine c.do_held.new.seat c.do_held.result) (c.done_here-steps.ensures.none c.if-steps-eq0.true) c.do_held.ensures
 
 pub do_tried-returns : goal.do_tried-returns
-do_tried-returns t c =
+do_tried-returns g t c =
     let rest = c.args.left - c.from.result in
     part_next c.args.left rest c.args.machine.now c.done_here-steps.new.machine (at_item c.args.at c.args.start c.args.count c.args.machine.now) (at_list c.args.start c.args.count c.done_here-steps.new.machine) c.done_here-steps.new.seat c.came.result
     (done_in_list c.args.at c.args.start c.args.count c.args.left c.done_here-steps.result rest c.done_here-steps.new.seat.value c.args.machine.now c.done_here-steps.new.machine (c.done_here-steps.ensures.done (omega (arith, c.if-steps-eq0.false))) c.done_here-steps.ensures.within (omega (arith, c.from.ensures)))
@@ -121,7 +121,7 @@ do_tried-returns t c =
 -- SCOPES
 
 pub do_scope-returns-in-Given : goal.do_scope-returns-in-Given
-do_scope-returns-in-Given t c =
+do_scope-returns-in-Given g t c =
     let from = at_scope c.args.slots c.args.body c.args.machine.now in
     let begun = scope_begins c.args.slots c.args.body c.standing-scope.result c.args.left c.args.machine.now c.body_here.new.machine c.push_frame.new.self c.standing-scope.ensures (c.in-Nothing.ensures ∙ c.in-Ok.ensures) c.in-Ok-push_frame.ensures in
     let s = c.do_form-step.new.seat in
@@ -131,7 +131,7 @@ do_scope-returns-in-Given t c =
     (c.back_from_scope.ensures s)
 
 pub do_scope-returns-in-Gave : goal.do_scope-returns-in-Gave
-do_scope-returns-in-Gave t c =
+do_scope-returns-in-Gave g t c =
     let rest = c.args.left - c.from.result in
     let from = at_scope c.args.slots c.args.body c.args.machine.now in
     let n = plain.Int c.in-Gave.number in
@@ -141,10 +141,10 @@ do_scope-returns-in-Gave t c =
     c.given.ensures.went
 
 pub do_scope-returns-in_default : goal.do_scope-returns-in_default
-do_scope-returns-in_default t c = went_failed c.args.left c.args.left c.args.machine.now _ (at_scope c.args.slots c.args.body c.args.machine.now) _ c.came.result c.came.ensures
+do_scope-returns-in_default g t c = went_failed c.args.left c.args.left c.args.machine.now _ (at_scope c.args.slots c.args.body c.args.machine.now) _ c.came.result c.came.ensures
 
 pub do_scope-returns-in_default-how : goal.do_scope-returns-in_default-how
-do_scope-returns-in_default-how t c =
+do_scope-returns-in_default-how g t c =
     let from = at_scope c.args.slots c.args.body c.args.machine.now in
     let begun = scope_begins c.args.slots c.args.body c.standing-scope.result c.args.left c.args.machine.now c.body_here.new.machine c.push_frame.new.self c.standing-scope.ensures (c.in-Nothing.ensures ∙ c.in-Ok.ensures) c.in-Ok-push_frame.ensures in
     then_went c.args.left c.args.left c.args.machine.now c.push_frame.new.self c.do_form-step.new.machine from (at_form c.args.body c.push_frame.new.self) c.do_form-step.new.seat c.do_form-step.result begun c.do_form-step.ensures.went
@@ -152,25 +152,25 @@ do_scope-returns-in_default-how t c =
 -- LOOPS
 
 pub do_loop-returns-in_default : goal.do_loop-returns-in_default
-do_loop-returns-in_default t c =
+do_loop-returns-in_default g t c =
     then_went c.args.left c.loop-i.left c.args.machine.now c.loop-i.machine c.do_turn-step.new.machine (at_test c.args.turns c.args.machine.now) (at_test c.args.turns c.loop-i.machine) c.do_turn-step.new.seat c.do_turn-step.result c.loop-i.invariant
     (whole_ends c.loop-i.left c.loop-i.machine c.do_turn-step.new.machine (at_test c.args.turns c.loop-i.machine) (at_test c.args.turns c.do_turn-step.new.machine) c.do_turn-step.new.seat c.do_turn-step.result c.in_default.not-Next c.do_turn-step.ensures)
 
 pub do_loop-loop-i-preserved : goal.do_loop-loop-i-preserved
-do_loop-loop-i-preserved t c =
+do_loop-loop-i-preserved g t c =
     then_to c.args.left c.loop-i.left c.do_turn-step.result.left c.args.machine.now c.loop-i.machine c.do_turn-step.new.machine (at_test c.args.turns c.args.machine.now) (at_test c.args.turns c.loop-i.machine) (at_test c.args.turns c.do_turn-step.new.machine) c.loop-i.invariant
     (next_part c.loop-i.left c.loop-i.machine c.do_turn-step.new.machine (at_test c.args.turns c.loop-i.machine) (at_test c.args.turns c.do_turn-step.new.machine) c.do_turn-step.new.seat c.do_turn-step.result c.in-Next.is c.do_turn-step.ensures)
 
 pub do_loop-returns : goal.do_loop-returns
-do_loop-returns t c =
+do_loop-returns g t c =
     then_went c.args.left c.loop-i.left c.args.machine.now c.loop-i.machine c.starts_loop.new.machine (at_test c.args.turns c.args.machine.now) (at_test c.args.turns c.loop-i.machine) c.starts_loop.new.seat c.starts_loop.result c.loop-i.invariant c.starts_loop.ensures.went
 
 pub do_turn-returns-then-price-eq0 : goal.do_turn-returns-then-price-eq0
-do_turn-returns-then-price-eq0 t c =
+do_turn-returns-then-price-eq0 g t c =
     part_ends c.args.left c.args.machine.now c.starts_loop.new.machine (at_test c.args.turns c.args.machine.now) (at_test c.args.turns c.starts_loop.new.machine) c.starts_loop.new.seat c.starts_loop.result c.starts_loop.ensures.ends c.starts_loop.ensures.went
 
 pub do_turn-returns-then-not-truth : goal.do_turn-returns-then-not-truth
-do_turn-returns-then-not-truth t c =
+do_turn-returns-then-not-truth g t c =
     let rest = c.args.left - c.from-price.result in
     let from = at_test c.args.turns c.args.machine.now in
     part_given c.args.left rest c.args.machine.now c.args.machine.now from from c.given.new.seat c.given.result
@@ -180,7 +180,7 @@ do_turn-returns-then-not-truth t c =
     c.given.ensures.went
 
 pub do_turn-returns-in_default : goal.do_turn-returns-in_default
-do_turn-returns-in_default t c =
+do_turn-returns-in_default g t c =
     let rest = c.args.left - c.from-price.result in
     let from = at_test c.args.turns c.args.machine.now in
     let begun = turn_starts c.args.turns c.args.left rest c.turn_row-row.result c.truth_here-truth.result c.args.machine.now c.turn_row-row.ensures (c.truth_here-truth.ensures (omega (arith, c.if-price-eq0.false, c.from-price.ensures)))
@@ -191,7 +191,7 @@ do_turn-returns-in_default t c =
     (then_part c.args.left rest c.args.machine.now c.args.machine.now there from (at_begun c.args.turns c.turn_row-row.result.body c.args.machine.now) (after_turn c.args.turns there) s c.do_body-step.result begun c.do_body-step.ensures)
 
 pub do_turn-returns-in-Some : goal.do_turn-returns-in-Some
-do_turn-returns-in-Some t c =
+do_turn-returns-in-Some g t c =
     let rest = c.args.left - c.from-price.result in
     let from = at_test c.args.turns c.args.machine.now in
     let begun = turn_starts c.args.turns c.args.left rest c.turn_row-row.result c.truth_here-truth.result c.args.machine.now c.turn_row-row.ensures (c.truth_here-truth.ensures (omega (arith, c.if-price-eq0.false, c.from-price.ensures)))
@@ -207,7 +207,7 @@ do_turn-returns-in-Some t c =
     c.do_update.ensures
 
 pub do_turn-returns-in-None : goal.do_turn-returns-in-None
-do_turn-returns-in-None t c =
+do_turn-returns-in-None g t c =
     let rest = c.args.left - c.from-price.result in
     let from = at_test c.args.turns c.args.machine.now in
     let begun = turn_starts c.args.turns c.args.left rest c.turn_row-row.result c.truth_here-truth.result c.args.machine.now c.turn_row-row.ensures (c.truth_here-truth.ensures (omega (arith, c.if-price-eq0.false, c.from-price.ensures)))
@@ -224,18 +224,18 @@ do_turn-returns-in-None t c =
 -- BODIES OF TURNS
 
 pub do_body-returns-in-Seq : goal.do_body-returns-in-Seq
-do_body-returns-in-Seq t c =
+do_body-returns-in-Seq g t c =
     let there = c.do_listed.new.machine in
     then_part c.args.left (c.args.left - 1) c.args.machine.now c.args.machine.now there (at_begun c.args.turns c.args.body c.args.machine.now) (turn_list c.args.turns c.in-Seq.start c.in-Seq.count c.args.machine.now) (after_turn c.args.turns there) c.do_listed.new.seat c.do_listed.result
     (list_begun c.args.turns c.args.body c.in-Seq.start c.in-Seq.count c.args.left (c.args.left - 1) c.args.machine.now (c.node.ensures ∙ ap (layer_of c.args.machine.now.code (term_at c.args.machine.now.code)) c.in-Seq.is) c.if-left-gt0.true refl) c.do_listed.ensures
 
 pub do_listed-returns-then-there-eq0 : goal.do_listed-returns-then-there-eq0
-do_listed-returns-then-there-eq0 t c =
+do_listed-returns-then-there-eq0 g t c =
     part_next c.args.left c.args.left c.args.machine.now c.args.machine.now (turn_list c.args.turns c.args.start c.args.count c.args.machine.now) (after_turn c.args.turns c.args.machine.now) c.args.seat.now c.came-then-there-eq0.result
     (nothing_listed c.args.turns c.args.start c.args.count c.in-Ok.there c.args.left c.args.machine.now c.in-Ok.ensures.there c.if-there-eq0.true) c.came-then-there-eq0.ensures
 
 pub do_listed-returns-then-first-there : goal.do_listed-returns-then-first-there
-do_listed-returns-then-first-there t c =
+do_listed-returns-then-first-there g t c =
     let from = turn_list c.args.turns c.args.start c.args.count c.args.machine.now in
     let first = c.do_first-first.result in
     let mid = c.do_first-first.new.machine in
@@ -244,7 +244,7 @@ do_listed-returns-then-first-there t c =
     c.do_rest.ensures
 
 pub do_listed-returns-then-steps-gt0 : goal.do_listed-returns-then-steps-gt0
-do_listed-returns-then-steps-gt0 t c =
+do_listed-returns-then-steps-gt0 g t c =
     let from = turn_list c.args.turns c.args.start c.args.count c.args.machine.now in
     let first = c.do_first-first.result in
     let mid = c.do_first-first.new.machine in
@@ -259,7 +259,7 @@ do_listed-returns-then-steps-gt0 t c =
     c.came-then-steps-gt0.ensures
 
 pub do_listed-returns : goal.do_listed-returns
-do_listed-returns t c =
+do_listed-returns g t c =
     let from = turn_list c.args.turns c.args.start c.args.count c.args.machine.now in
     let first = c.do_first-first.result in
     let mid = c.do_first-first.new.machine in
@@ -272,7 +272,7 @@ do_listed-returns t c =
     c.do_whole.ensures
 
 pub do_rest-returns-in-Next : goal.do_rest-returns-in-Next
-do_rest-returns-in-Next t c =
+do_rest-returns-in-Next g t c =
     let from = turn_list c.args.turns c.args.start c.args.count c.args.machine.now in
     let there = c.do_items-step.new.machine in
     let s = c.do_items-step.new.seat in
@@ -285,7 +285,7 @@ do_rest-returns-in-Next t c =
     c.do_turned.ensures
 
 pub do_rest-returns-in-Given : goal.do_rest-returns-in-Given
-do_rest-returns-in-Given t c =
+do_rest-returns-in-Given g t c =
     let from = turn_list c.args.turns c.args.start c.args.count c.args.machine.now in
     let there = c.do_items-step.new.machine in
     let s = c.do_items-step.new.seat in
@@ -298,7 +298,7 @@ do_rest-returns-in-Given t c =
     (c.back_from_turn.ensures s)
 
 pub do_rest-returns-in_default-how : goal.do_rest-returns-in_default-how
-do_rest-returns-in_default-how t c =
+do_rest-returns-in_default-how g t c =
     let from = turn_list c.args.turns c.args.start c.args.count c.args.machine.now in
     let there = c.do_items-step.new.machine in
     let s = c.do_items-step.new.seat in
@@ -307,13 +307,13 @@ do_rest-returns-in_default-how t c =
     (rest_begins c.args.turns c.args.start c.args.count c.args.left c.args.machine.now c.push_frame.new.self c.in-Ok.ensures) c.do_items-step.ensures)
 
 pub do_whole-returns : goal.do_whole-returns
-do_whole-returns t c =
+do_whole-returns g t c =
     let there = c.do_turned.new.machine in
     then_part c.args.left c.args.left c.args.machine.now c.push_frame.new.self there (at_begun c.args.turns c.args.body c.args.machine.now) (at_form c.args.body c.push_frame.new.self) (after_turn c.args.turns there) c.do_turned.new.seat c.do_turned.result
     (whole_begins c.args.turns c.args.body c.args.left c.args.machine.now c.push_frame.new.self c.in-Ok.ensures) c.do_turned.ensures
 
 pub do_turned-returns-in-Given : goal.do_turned-returns-in-Given
-do_turned-returns-in-Given t c =
+do_turned-returns-in-Given g t c =
     let from = at_form c.args.at c.args.machine.now in
     let there = c.do_form-step.new.machine in
     let s = c.do_form-step.new.seat in
@@ -321,20 +321,20 @@ do_turned-returns-in-Given t c =
     (given_went c.args.left c.args.machine.now there from s c.do_form-step.result c.in-Given.is c.do_form-step.ensures.went) (c.back_from_turn.ensures s)
 
 pub do_turned-returns-in_default : goal.do_turned-returns-in_default
-do_turned-returns-in_default t c =
+do_turned-returns-in_default g t c =
     let there = c.do_form-step.new.machine in
     part_ends c.args.left c.args.machine.now there (at_form c.args.at c.args.machine.now) (after_turn c.args.turns there) c.do_form-step.new.seat c.do_form-step.result c.do_form-step.ensures.ends c.do_form-step.ensures.went
 
 -- WHAT FOLLOWS A TURN
 
 pub do_update-returns-in-Some : goal.do_update-returns-in-Some
-do_update-returns-in-Some t c =
+do_update-returns-in-Some g t c =
     let there = c.do_renewal.new.machine in
     let whole : c.args.left - 3 + 3 ≡ c.args.left = omega (arith, c.if-left-ge3.true) in
     subst (λ k. IsPart (at_update c.args.turns c.args.update c.args.machine.now) (at_test c.args.turns there) k c.args.machine.now there c.do_renewal.new.seat c.do_renewal.result) whole (c.do_renewal.ensures c.args.update c.in-Some.ensures)
 
 pub do_renewal-returns-in-Gave : goal.do_renewal-returns-in-Gave
-do_renewal-returns-in-Gave t c = λ at r.
+do_renewal-returns-in-Gave g t c = λ at r.
     (let rest = c.args.left - c.from.result in
     let from = at_update c.args.turns at c.args.machine.now in
     let there = c.stand_in.new.machine in
@@ -347,7 +347,7 @@ do_renewal-returns-in-Gave t c = λ at r.
     c.came-in-Gave.ensures)
 
 pub do_renewal-returns-in-Nothing : goal.do_renewal-returns-in-Nothing
-do_renewal-returns-in-Nothing t c = λ at r.
+do_renewal-returns-in-Nothing g t c = λ at r.
     (let from = at_update c.args.turns at c.args.machine.now in
     let there = c.do_inside.new.machine in
     let inner = c.body_here.new.machine in
@@ -357,7 +357,7 @@ do_renewal-returns-in-Nothing t c = λ at r.
     c.do_inside.ensures)
 
 pub do_inside-returns-in-Given : goal.do_inside-returns-in-Given
-do_inside-returns-in-Given t c =
+do_inside-returns-in-Given g t c =
     let from = at_inside c.args.turns c.args.scope c.args.body c.args.machine.now in
     let low = c.push_frame-2.new.self in
     let begun = inside_begins c.args.turns c.args.scope c.args.body c.args.left c.args.machine.now c.push_frame.new.self low c.in-Ok.ensures c.in-Ok-push_frame.ensures in
@@ -370,7 +370,7 @@ do_inside-returns-in-Given t c =
     (c.back_from_inside.ensures s)
 
 pub do_inside-returns-in_default-how : goal.do_inside-returns-in_default-how
-do_inside-returns-in_default-how t c =
+do_inside-returns-in_default-how g t c =
     let from = at_inside c.args.turns c.args.scope c.args.body c.args.machine.now in
     let low = c.push_frame-2.new.self in
     let begun = inside_begins c.args.turns c.args.scope c.args.body c.args.left c.args.machine.now c.push_frame.new.self low c.in-Ok.ensures c.in-Ok-push_frame.ensures in
@@ -379,7 +379,7 @@ do_inside-returns-in_default-how t c =
     (then_went c.args.left c.args.left c.args.machine.now low there from (at_form c.args.body low) c.do_form-step.new.seat c.do_form-step.result begun c.do_form-step.ensures.went)
 
 pub do_other_update-returns-in-Given : goal.do_other_update-returns-in-Given
-do_other_update-returns-in-Given t c =
+do_other_update-returns-in-Given g t c =
     let from = at_update c.args.turns c.args.update c.args.machine.now in
     let begun = update_begins c.args.turns c.args.update c.args.left c.args.machine.now c.push_frame.new.self c.in-Ok.ensures in
     let s = c.do_form-step.new.seat in
@@ -389,10 +389,10 @@ do_other_update-returns-in-Given t c =
     (c.back_from_update.ensures s)
 
 pub do_other_update-returns-in_default : goal.do_other_update-returns-in_default
-do_other_update-returns-in_default t c = part_failed c.args.left c.args.left c.args.machine.now _ (at_update c.args.turns c.args.update c.args.machine.now) _ _ c.came.result c.came.ensures
+do_other_update-returns-in_default g t c = part_failed c.args.left c.args.left c.args.machine.now _ (at_update c.args.turns c.args.update c.args.machine.now) _ _ c.came.result c.came.ensures
 
 pub do_other_update-returns-in_default-how : goal.do_other_update-returns-in_default-how
-do_other_update-returns-in_default-how t c =
+do_other_update-returns-in_default-how g t c =
     let from = at_update c.args.turns c.args.update c.args.machine.now in
     let begun = update_begins c.args.turns c.args.update c.args.left c.args.machine.now c.push_frame.new.self c.in-Ok.ensures in
     part_ends c.args.left c.args.machine.now c.do_form-step.new.machine from (at_test c.args.turns c.do_form-step.new.machine) c.do_form-step.new.seat c.do_form-step.result c.do_form-step.ensures.ends

@@ -7,7 +7,7 @@ use Rattle.js_in_place.proofs.Placed.{row_done, then_to, then_went}
 use Rattle.js_in_place.proofs.functions.do_function.Goals as goal
 
 pub returns : goal.returns
-returns c = λ at e.
+returns g c = λ at e.
     (let old = c.args.machine.now in
     let mid = c.begin_function.new.self in
     let row = node.Func c.args.template in

@@ -6,10 +6,10 @@ use Rattle.js_in_place.proofs.Returning.{value_taken}
 use Rattle.js_in_place.proofs.functions.take_value.Goals as goal
 
 pub returns-in_default : goal.returns-in_default
-returns-in_default c = c.led.ensures c.args.machine.now
+returns-in_default g c = c.led.ensures c.args.machine.now
 
 pub returns : goal.returns
-returns c =
+returns g c =
     let old = c.args.machine.now in
     let new = c.take-value.new.self in
     went_given c.args.left c.args.left old new (at_mode mode.Value old) c.given.new.seat c.given.result

@@ -6,7 +6,7 @@ use Rattle.js_in_place.proofs.Placed.{stands_at, went_next}
 use Rattle.js_in_place.proofs.here.choose_two.Goals as goal
 
 pub returns-then-truth : goal.returns-then-truth
-returns-then-truth c = λ e.
+returns-then-truth g c = λ e.
     (let rest = c.args.left - 1 - c.from-price.result in
     let from = at_form c.args.at c.args.machine.now in
     went_next c.args.left rest c.args.machine.now c.args.machine.now from c.next.new.seat c.next.result
@@ -16,7 +16,7 @@ returns-then-truth c = λ e.
     c.next.ensures.went)
 
 pub returns : goal.returns
-returns c = λ e.
+returns g c = λ e.
     (let rest = c.args.left - 1 - c.from-price.result in
     let from = at_form c.args.at c.args.machine.now in
     went_next c.args.left rest c.args.machine.now c.args.machine.now from c.next-2.new.seat c.next-2.result

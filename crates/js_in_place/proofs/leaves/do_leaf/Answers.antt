@@ -5,11 +5,11 @@ use Rattle.js_in_place.proofs.Returning.{unchanged_waits}
 use Rattle.js_in_place.proofs.leaves.do_leaf.Goals as goal
 
 pub returns-then-steps-eq0 : goal.returns-then-steps-eq0
-returns-then-steps-eq0 c =
+returns-then-steps-eq0 g c =
     unchanged_waits c.args.node c.args.at c.args.left c.args.machine.now c.done_here-steps.new.machine c.wait_for-then-steps-eq0.new.machine c.wait_for-then-steps-eq0.new.seat c.wait_for-then-steps-eq0.result (c.done_here-steps.ensures.none c.if-steps-eq0.true) c.wait_for-then-steps-eq0.ensures
 
 pub returns : goal.returns
-returns c = λ e.
+returns g c = λ e.
     (let rest = c.args.left - c.from.result in
     went_given c.args.left rest c.args.machine.now c.done_here-steps.new.machine (at_form c.args.at c.args.machine.now) c.done_here-steps.new.seat c.came.result
     (done_here c.args.at c.args.left c.done_here-steps.result rest c.done_here-steps.new.seat.value c.args.machine.now c.done_here-steps.new.machine (c.done_here-steps.ensures.done (omega (arith, c.if-steps-eq0.false))) c.done_here-steps.ensures.within (omega (arith, c.from.ensures)))

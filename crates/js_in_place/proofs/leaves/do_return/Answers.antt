@@ -5,7 +5,7 @@ use Rattle.js_in_place.proofs.Returning.{return_given}
 use Rattle.js_in_place.proofs.leaves.do_return.Goals as goal
 
 pub returns : goal.returns
-returns c = λ at e.
+returns g c = λ at e.
     (let here = c.args.machine.now in
     let rest = c.args.left - 1 - c.from-price.result in
     then_went c.args.left rest here here c.leave.new.machine (at_form at here) (at_return c.value_from.new.given here) c.leave.new.seat c.leave.result

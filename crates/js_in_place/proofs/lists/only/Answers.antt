@@ -5,7 +5,7 @@ use Rattle.js_in_place.proofs.Placed.{stands_at, went_next}
 use Rattle.js_in_place.proofs.lists.only.Goals as goal
 
 pub returns : goal.returns
-returns c =
+returns g c =
     let w = c.args.machine.now in
     let from = at_list c.args.start 1 w in
     went_next c.args.left c.args.left w w from c.next.new.seat c.next.result

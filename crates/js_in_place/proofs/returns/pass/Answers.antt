@@ -5,7 +5,7 @@ use Rattle.js_in_place.proofs.Returning.{given_passes}
 use Rattle.js_in_place.proofs.returns.pass.Goals as goal
 
 pub returns-in-Some-Given : goal.returns-in-Some-Given
-returns-in-Some-Given c =
+returns-in-Some-Given g c =
     let is = sym c.newest_frame.ensures ∙ c.in-Some-Given.is ∙ ap Some c.in-Some-Given.field-0-is in
     let from = at_value c.args.value c.args.machine.now in
     let there = c.take_off.new.machine in
@@ -14,7 +14,7 @@ returns-in-Some-Given c =
     c.given.ensures.went
 
 pub returns-in_default : goal.returns-in_default
-returns-in_default c =
+returns-in_default g c =
     let here = c.args.machine.now in
     let from = at_value c.args.value here in
     went_given c.args.left c.args.left here here from c.given-in_default.new.seat c.given-in_default.result

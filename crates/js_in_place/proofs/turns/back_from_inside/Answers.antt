@@ -5,7 +5,7 @@ use Rattle.js_in_place.proofs.Placed.{then_part}
 use Rattle.js_in_place.proofs.turns.back_from_inside.Goals as goal
 
 pub returns-in-Some-ScopeExit : goal.returns-in-Some-ScopeExit
-returns-in-Some-ScopeExit c = λ s.
+returns-in-Some-ScopeExit g c = λ s.
     (let is = sym c.newest_frame.ensures ∙ c.in-Some-ScopeExit.is ∙ ap Some c.in-Some-ScopeExit.field-0-is in
     let there = c.back_from_update.new.machine in
     then_part c.args.left c.args.left c.args.machine.now c.stand_in.new.machine there (at_value s.value c.args.machine.now) (at_value s.value c.stand_in.new.machine) (at_test c.args.turns there) s c.back_from_update.result

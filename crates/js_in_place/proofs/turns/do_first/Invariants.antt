@@ -9,6 +9,6 @@ use Rattle.js_in_place.specs.Turns.{list_under}
 use Rattle.js_in_place.proofs.turns.do_first.Given as goal
 
 abbrev pub invariant-loop-i : goal.invariant-loop-i
-invariant-loop-i l = (next : Around → Next Ref MadeSymbol) → l.fn.most < length (part_of l.fn.start l.fn.count l.fn.machine.code.numbers) → l.fn.most < l.fn.count
+invariant-loop-i g l = (next : Around → Next Ref MadeSymbol) → l.fn.most < length (part_of l.fn.start l.fn.count l.fn.machine.code.numbers) → l.fn.most < l.fn.count
     → (ComesTo l.fn.left l.fn.machine l.machine (list_under next l.fn.start l.fn.count l.fn.machine) (list_under next (l.fn.start + l.i) (l.fn.count - l.i) l.machine) l.left)
     × (l.fn.most - l.i < length (part_of (l.fn.start + l.i) (l.fn.count - l.i) l.machine.code.numbers))

@@ -7,6 +7,6 @@ use Rattle.js_machine_calls.proofs.Constructing.{constructs_by_row}
 use Rattle.js_machine_calls.proofs.calls.construct_built.Goals as goal
 
 pub returns : goal.returns
-returns c =
+returns g c =
     constructs_by_row c.run_body.result frame.Built c.args.at c.args.outer c.args.count (Some value.Undefined) c.args.function c.args.target c.args.home c.args.machine.now c.run_body.new.self c.template.result.kind
     (row_of c.args.machine.now c.args.at).kind (ap (λ (x : TemplateRow). x.kind) c.template.ensures) c.run_body.ensures

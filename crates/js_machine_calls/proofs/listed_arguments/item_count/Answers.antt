@@ -5,7 +5,7 @@ use Rattle.js_machine.specs.js_run.Functions.{items_from, length_read, own_data}
 use Rattle.js_machine_calls.proofs.listed_arguments.item_count.Goals as goal
 
 pub returns : goal.returns
-returns c =
+returns g c =
     let names = naming_of c.args.machine.now.me in
     let o = object_seen c.args.machine.now.objects c.args.machine.now.common c.args.target in
     let count = c.length_read-count.ensures ∙ ap length_read (c.in_ok-length.ensures ∙ ap (own_data names o) c.in_ok-key.ensures) in

@@ -2,7 +2,7 @@ use Rattle.js_machine.proofs.Above.{home_asked, no_home}
 use Rattle.js_machine_calls.proofs.supers.super_key_comes.Goals as goal
 
 pub returns-in-None : goal.returns-in-None
-returns-in-None c = no_home c.fault.result c.home.result c.args.key c.args.machine.now c.fault.new.self c.home.ensures c.in-None.is c.fault.ensures
+returns-in-None g c = no_home c.fault.result c.home.result c.args.key c.args.machine.now c.fault.new.self c.home.ensures c.in-None.is c.fault.ensures
 
 pub returns-in_ok-push-in-Some : goal.returns-in_ok-push-in-Some
-returns-in_ok-push-in-Some c = home_asked c.ask.result c.home.result c.in-Some.home c.args.key c.args.machine.now c.push.new.self c.ask.new.self c.home.ensures c.in-Some.is c.in_ok-push-in-Some.ensures c.ask.ensures
+returns-in_ok-push-in-Some g c = home_asked c.ask.result c.home.result c.in-Some.home c.args.key c.args.machine.now c.push.new.self c.ask.new.self c.home.ensures c.in-Some.is c.in_ok-push-in-Some.ensures c.ask.ensures

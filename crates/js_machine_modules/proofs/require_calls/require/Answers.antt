@@ -8,7 +8,7 @@ use Rattle.js_machine.proofs.Chosen.{when}
 use Rattle.js_machine_modules.proofs.require_calls.require.Goals as goal
 
 pub returns-then-is_relative : goal.returns-then-is_relative
-returns-then-is_relative c =
+returns-then-is_relative g c =
     let old = c.args.machine.now in
     let names = naming_of old.me in
     let request = c.args.request.now in

@@ -10,7 +10,7 @@ use Rattle.js_machine_natives.proofs.Kind_told.{kind_decided}
 use Rattle.js_machine_natives.proofs.kinds.kind_decision.Goals as goal
 
 pub returns : goal.returns
-returns c =
+returns g c =
     let s = c.machine.inside in
     kind_decided c.class_of.result c.args.machine.now c.first_object-object.result (first_object c.args.args.now) c.args.args.now c.known_if-known.result.now c.new-nothing.result c.new-nothing.ensures c.first_object-object.ensures
     (subst (λ (w : View). c.known_if-known.result.now ≡ known_if (naming_of w.me) w.known c.new-nothing.result c.first_object-object.result) c.machine.view_is

@@ -8,7 +8,7 @@ use Rattle.js_machine.proofs.In_cases.{in_case}
 use Rattle.js_machine_natives.proofs.natives.ask_native.Goals as goal
 
 pub returns-in-Some : goal.returns-in-Some
-returns-in-Some c = in_case c.wait_for.result c.args.target (Some c.in-Some.target) (λ t a. follows_native (naming_of c.args.machine.now.me) c.args.which waits_as (decision.Ask t c.args.ask c.args.next) (party_of a c.args.machine.now)) c.args.machine.now c.wait_for.new.self c.in-Some.is c.wait_for.ensures
+returns-in-Some g c = in_case c.wait_for.result c.args.target (Some c.in-Some.target) (λ t a. follows_native (naming_of c.args.machine.now.me) c.args.which waits_as (decision.Ask t c.args.ask c.args.next) (party_of a c.args.machine.now)) c.args.machine.now c.wait_for.new.self c.in-Some.is c.wait_for.ensures
 
 pub returns-in-None : goal.returns-in-None
-returns-in-None c = in_case c.fault.result c.args.target None (λ t a. follows_native (naming_of c.args.machine.now.me) c.args.which waits_as (decision.Ask t c.args.ask c.args.next) (party_of a c.args.machine.now)) c.args.machine.now c.fault.new.self c.in-None.is c.fault.ensures
+returns-in-None g c = in_case c.fault.result c.args.target None (λ t a. follows_native (naming_of c.args.machine.now.me) c.args.which waits_as (decision.Ask t c.args.ask c.args.next) (party_of a c.args.machine.now)) c.args.machine.now c.fault.new.self c.in-None.is c.fault.ensures

@@ -7,8 +7,8 @@ use Rattle.js_machine_natives.proofs.Native_deeds.{other_given}
 use Rattle.js_machine_natives.proofs.natives.give_value_of.Goals as goal
 
 pub returns-in-Text : goal.returns-in-Text
-returns-in-Text c =
+returns-in-Text g c =
     in_case c.give_text_of.result c.args.value (value.Text c.in-Text.text) (λ v a. native_gives c.args.which (reply.Value v) (party_of a c.args.machine.now)) c.args.machine.now c.give_text_of.new.machine c.in-Text.is c.give_text_of.ensures
 
 pub returns-in_default : goal.returns-in_default
-returns-in_default c = other_given c.give.result c.args.which c.args.value c.args.machine.now c.give.new.self c.in_default.not-Text c.give.ensures.leads
+returns-in_default g c = other_given c.give.result c.args.which c.args.value c.args.machine.now c.give.new.self c.in_default.not-Text c.give.ensures.leads

@@ -5,7 +5,7 @@ use Rattle.js_machine_natives.proofs.Native_deeds.{slice_on}
 use Rattle.js_machine_natives.proofs.natives.last_values.Goals as goal
 
 pub returns : goal.returns
-returns c =
+returns g c =
     let xs = c.machine.inside.values.items in
     let read = c.deref.result.now in
     let view = ap (λ (w : View). w.values) c.machine.view_is in

@@ -3,4 +3,4 @@ use Rattle.js_machine_natives.proofs.Slot_asked.{refused_charged}
 use Rattle.js_machine_natives.proofs.slot_asks.charge_refused.Goals as goal
 
 pub returns : goal.returns
-returns c = refused_charged c.pay.result c.args.which c.args.count c.in_ok-cost.cost c.args.converts c.args.machine.now c.discard.new.self c.pay.new.self c.in_ok-cost.ensures (c.discard.ensures ∙ ap (λ (n : ℕ). record c.args.machine.now { values = drop n c.args.machine.now.values }) c.from.ensures) c.pay.ensures
+returns g c = refused_charged c.pay.result c.args.which c.args.count c.in_ok-cost.cost c.args.converts c.args.machine.now c.discard.new.self c.pay.new.self c.in_ok-cost.ensures (c.discard.ensures ∙ ap (λ (n : ℕ). record c.args.machine.now { values = drop n c.args.machine.now.values }) c.from.ensures) c.pay.ensures

@@ -10,7 +10,7 @@ use Rattle.js_machine_natives.proofs.Slot_asked.{array_step, collection_step}
 use Rattle.js_machine_natives.proofs.slot_asks.slot_step.Goals as goal
 
 pub returns-in-IsArray : goal.returns-in-IsArray
-returns-in-IsArray c =
+returns-in-IsArray g c =
     let s = c.machine.inside in
     array_step c.args.machine.now c.args.which c.args.object c.args.args.now c.known_if-known.result.now c.new-nothing.result c.is_array-decision.result c.step_of_maker.result c.in-IsArray.is c.new-nothing.ensures
     (subst (λ (w : View). c.known_if-known.result.now ≡ known_if (naming_of w.me) w.known c.new-nothing.result c.args.object) c.machine.view_is (c.known_if-known.ensures ∙ ap (λ (p : PartyId). known_if (naming_of p.0) s.foreign c.new-nothing.result c.args.object) c.party.ensures))
@@ -18,7 +18,7 @@ returns-in-IsArray c =
     c.step_of_maker.ensures
 
 pub returns : goal.returns
-returns c =
+returns g c =
     let s = c.machine.inside in
     collection_step c.args.machine.now c.args.which c.args.object c.args.args.now c.known_if-known.result.now c.new-nothing.result c.in_ok-decision-in_default.decision c.step_of_slot.result c.in_default.not-IsArray c.new-nothing.ensures
     (subst (λ (w : View). c.known_if-known.result.now ≡ known_if (naming_of w.me) w.known c.new-nothing.result c.args.object) c.machine.view_is (c.known_if-known.ensures ∙ ap (λ (p : PartyId). known_if (naming_of p.0) s.foreign c.new-nothing.result c.args.object) c.party.ensures))

@@ -4,12 +4,12 @@ use Rattle.js_machine.proofs.Instance_laws.{one_behind, stays_unbound}
 use Rattle.js_machine_operators.proofs.instances.unbound.Goals as goal
 
 pub returns-in-None : goal.returns-in-None
-returns-in-None c =
+returns-in-None g c =
     let w = c.args.machine.now in
     sym (c.loop-i.invariant ∙ stays_unbound w (length w.objects - c.loop-i._i) c.loop-i.found (sym c.target_behind.ensures ∙ c.in-None.is))
 
 pub loop-i-preserved : goal.loop-i-preserved
-loop-i-preserved c =
+loop-i-preserved g c =
     let w = c.args.machine.now in
     let n = length w.objects in
     let i = c.loop-i._i in

@@ -2,4 +2,4 @@ use Rattle.js_machine.proofs.Referenced.{got_later}
 use Rattle.js_machine_operators.proofs.properties.convert_to_get.Goals as goal
 
 pub returns : goal.returns
-returns c = got_later c.args.object c.args.key c.args.machine.now c.requires c.with_key_of.result c.push.new.self c.with_key_of.new.machine c.in_ok-push.ensures c.with_key_of.ensures
+returns g c = got_later c.args.object c.args.key c.args.machine.now c.requires c.with_key_of.result c.push.new.self c.with_key_of.new.machine c.in_ok-push.ensures c.with_key_of.ensures

@@ -6,4 +6,4 @@ use Rattle.js_machine.proofs.Followed.{Says}
 use Rattle.js_machine_run.proofs.decisions.next_decision.Goals as goal
 
 pub returns-clause-decided : goal.returns-clause-decided
-returns-clause-decided c = subst (λ (w : View). IfOk c.resume.result (λ d. Says d c.resume.new.store.objects (exotic_resumed (naming_of w.me) w.objects w.common c.args.next c.args.reply))) c.machine.view_is c.resume.ensures.ok
+returns-clause-decided g c = subst (λ (w : View). IfOk c.resume.result (λ d. Says d (g.S.Store.objects c.resume.new.store) (exotic_resumed (naming_of w.me) w.objects w.common c.args.next c.args.reply))) c.machine.view_is c.resume.ensures.ok

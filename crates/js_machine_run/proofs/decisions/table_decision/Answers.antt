@@ -6,4 +6,4 @@ use Rattle.js_machine.proofs.Followed.{Says}
 use Rattle.js_machine_run.proofs.decisions.table_decision.Goals as goal
 
 pub returns-clause-decided : goal.returns-clause-decided
-returns-clause-decided c = subst (λ (w : View). IfOk c.decide.result (λ d. Says d c.decide.new.store.objects (decided (naming_of w.me) w.objects w.common c.args.me w.asked.ask))) c.machine.view_is c.decide.ensures.ok
+returns-clause-decided g c = subst (λ (w : View). IfOk c.decide.result (λ d. Says d (g.S.Store.objects c.decide.new.store) (decided (naming_of w.me) w.objects w.common c.args.me w.asked.ask))) c.machine.view_is c.decide.ensures.ok

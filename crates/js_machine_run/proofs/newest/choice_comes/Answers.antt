@@ -3,4 +3,4 @@ use Rattle.js_machine_run.proofs.Coming.{comes}
 use Rattle.js_machine_run.proofs.newest.choice_comes.Goals as goal
 
 pub returns : goal.returns
-returns c = comes c.branch-machine.result (frame.IfElse c.args.consequent c.args.alternate) c.args.machine.now c.take-value.new.self c.branch-machine.new.machine c.take-value.result c.take-value.ensures.value c.take-value.ensures.rest c.branch-machine.ensures
+returns g c = comes c.branch-machine.result (frame.IfElse c.args.consequent c.args.alternate) c.args.machine.now c.take-value.new.self c.branch-machine.new.machine c.take-value.result c.take-value.ensures.value c.take-value.ensures.rest c.branch-machine.ensures

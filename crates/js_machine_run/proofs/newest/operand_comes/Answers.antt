@@ -3,4 +3,4 @@ use Rattle.js_machine_run.proofs.Coming.{comes}
 use Rattle.js_machine_run.proofs.newest.operand_comes.Goals as goal
 
 pub returns : goal.returns
-returns c = comes c.unary.result (frame.Unary c.args.operator) c.args.machine.now c.take-value.new.self c.unary.new.machine c.take-value.result c.take-value.ensures.value c.take-value.ensures.rest c.unary.ensures
+returns g c = comes c.unary.result (frame.Unary c.args.operator) c.args.machine.now c.take-value.new.self c.unary.new.machine c.take-value.result c.take-value.ensures.value c.take-value.ensures.rest c.unary.ensures

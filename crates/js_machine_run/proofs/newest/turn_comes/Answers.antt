@@ -3,4 +3,4 @@ use Rattle.js_machine_run.proofs.Coming.{comes}
 use Rattle.js_machine_run.proofs.newest.turn_comes.Goals as goal
 
 pub returns : goal.returns
-returns c = comes c.tested.result (frame.Tested c.args.turns) c.args.machine.now c.take-value.new.self c.tested.new.machine c.take-value.result c.take-value.ensures.value c.take-value.ensures.rest c.tested.ensures
+returns g c = comes c.tested.result (frame.Tested c.args.turns) c.args.machine.now c.take-value.new.self c.tested.new.machine c.take-value.result c.take-value.ensures.value c.take-value.ensures.rest c.tested.ensures

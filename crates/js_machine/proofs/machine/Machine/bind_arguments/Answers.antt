@@ -3,7 +3,7 @@ use Rattle.js_machine.proofs.Filled.{one_less, still}
 use Rattle.js_machine.proofs.machine.Machine.bind_arguments.Goals as goal
 
 pub loop-left-preserved : goal.loop-left-preserved
-loop-left-preserved c =
+loop-left-preserved g c =
     let left = c.loop-left.left in
     let less : left ≡ suc (left - 1) = omega arith in
     record {

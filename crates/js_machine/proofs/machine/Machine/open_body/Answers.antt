@@ -7,11 +7,11 @@ use Rattle.js_machine.proofs.Ran.{opens, too_deep}
 use Rattle.js_machine.proofs.machine.Machine.open_body.Goals as goal
 
 pub returns-then-self-ge-MAX_DEPTH : goal.returns-then-self-ge-MAX_DEPTH
-returns-then-self-ge-MAX_DEPTH c =
+returns-then-self-ge-MAX_DEPTH g c =
     let deep : MAX_DEPTH ≤ c.args.self.now.depth = omega (arith, ap (λ (w : View). w.depth) c.self.view_is) in
     too_deep c.end_run.result (term_at c.args.self.now.code c.args.at) (running_of c.args.scope (Some c.args.body)) c.args.frame c.args.self.now c.end_run.new.self deep c.end_run.ensures
 
 pub returns : goal.returns
-returns c =
+returns g c =
     let less : c.args.self.now.depth < MAX_DEPTH = omega (arith, ap (λ (w : View). w.depth) c.self.view_is) in
     opens c.wait.result c.args.at c.args.scope c.args.body c.args.frame c.args.self.now c.push_body.new.self c.wait.new.self less c.in_ok-push_body.ensures c.wait.ensures.leads
