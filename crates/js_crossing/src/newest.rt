@@ -12,6 +12,7 @@ use js_desc::crossing::{CrossBody, Crossing};
 use js_desc::reply::Reply;
 use js_machine::asked::Imported;
 use js_machine::machine::Machine;
+use js_store::store::Store;
 use lava_base::ids::{PartyId, Ref};
 use lava_base::list::List;
 use lava_base::marks::Marks;
@@ -55,9 +56,9 @@ fn references_of_reply(alloc: Global, reply: &Reply) -> Result<List<Ref>, OutOfM
 }
 
 /// Each reference with the marks that the party in the machine sees.
-fn list_marks(
+fn list_marks<S: Store>(
     alloc: Global,
-    machine: &Machine,
+    machine: &Machine<S>,
     references: &List<Ref>,
 ) -> Result<List<(Ref, Marks)>, OutOfMemory>
     ensures { IfOk result (λ m. m ≡ with_their_marks (marks_in machine.now) references.now) }
@@ -70,9 +71,9 @@ fn list_marks(
 }
 
 /// An ask as the party in the machine sends it.
-pub fn traced_ask(
+pub fn traced_ask<S: Store>(
     alloc: Global,
-    machine: &Machine,
+    machine: &Machine<S>,
     target: Ref,
     ask: &Ask,
 ) -> Result<TracedCrossing, OutOfMemory>
@@ -94,9 +95,9 @@ pub fn traced_ask(
 }
 
 /// A reply as the party in the machine sends it.
-pub fn traced_reply(
+pub fn traced_reply<S: Store>(
     alloc: Global,
-    machine: &Machine,
+    machine: &Machine<S>,
     to: u32,
     reply: &Reply,
 ) -> Result<TracedCrossing, OutOfMemory>

@@ -7,12 +7,13 @@ use js_desc::ask::Ask;
 use js_desc::descriptor::{Descriptor, PartialDescriptor};
 use js_desc::reply::Reply;
 use js_machine::machine::Machine;
+use js_store::store::Store;
 use js_text::value::Value;
 use lava_base::ids::Ref;
 use lava_base::list::List;
 use lava_base::memory::OutOfMemory;
 
-fn show_option(machine: &mut Machine, object: Option<Ref>) -> Result<(), OutOfMemory>
+fn show_option<S: Store>(machine: &mut Machine<S>, object: Option<Ref>) -> Result<(), OutOfMemory>
     ensures { OnOk result (machine.new ≡ shows_option object machine.old) }
 {
     match object {
@@ -21,7 +22,10 @@ fn show_option(machine: &mut Machine, object: Option<Ref>) -> Result<(), OutOfMe
     }
 }
 
-fn show_field(machine: &mut Machine, field: Option<Option<Ref>>) -> Result<(), OutOfMemory>
+fn show_field<S: Store>(
+    machine: &mut Machine<S>,
+    field: Option<Option<Ref>>,
+) -> Result<(), OutOfMemory>
     ensures { OnOk result (machine.new ≡ shows_field field machine.old) }
 {
     match field {
@@ -30,7 +34,7 @@ fn show_field(machine: &mut Machine, field: Option<Option<Ref>>) -> Result<(), O
     }
 }
 
-fn show_value(machine: &mut Machine, value: &Value) -> Result<(), OutOfMemory>
+fn show_value<S: Store>(machine: &mut Machine<S>, value: &Value) -> Result<(), OutOfMemory>
     ensures { OnOk result (machine.new ≡ shows_value value.now machine.old) }
 {
     match value {
@@ -39,7 +43,7 @@ fn show_value(machine: &mut Machine, value: &Value) -> Result<(), OutOfMemory>
     }
 }
 
-fn show_maybe(machine: &mut Machine, value: &Option<Value>) -> Result<(), OutOfMemory>
+fn show_maybe<S: Store>(machine: &mut Machine<S>, value: &Option<Value>) -> Result<(), OutOfMemory>
     ensures { OnOk result (machine.new ≡ shows_maybe value.now machine.old) }
 {
     match value {
@@ -48,7 +52,7 @@ fn show_maybe(machine: &mut Machine, value: &Option<Value>) -> Result<(), OutOfM
     }
 }
 
-fn show_values(machine: &mut Machine, values: &List<Value>) -> Result<(), OutOfMemory>
+fn show_values<S: Store>(machine: &mut Machine<S>, values: &List<Value>) -> Result<(), OutOfMemory>
     ensures { OnOk result (machine.new ≡ shows_values values.now machine.old) }
 {
     for i in 0..values.len() {
@@ -57,7 +61,10 @@ fn show_values(machine: &mut Machine, values: &List<Value>) -> Result<(), OutOfM
     Ok(())
 }
 
-fn show_descriptor(machine: &mut Machine, descriptor: &Descriptor) -> Result<(), OutOfMemory>
+fn show_descriptor<S: Store>(
+    machine: &mut Machine<S>,
+    descriptor: &Descriptor,
+) -> Result<(), OutOfMemory>
     ensures { OnOk result (machine.new ≡ shows_descriptor descriptor.now machine.old) }
 {
     match descriptor {
@@ -69,7 +76,10 @@ fn show_descriptor(machine: &mut Machine, descriptor: &Descriptor) -> Result<(),
     }
 }
 
-fn show_property(machine: &mut Machine, property: &Option<Descriptor>) -> Result<(), OutOfMemory>
+fn show_property<S: Store>(
+    machine: &mut Machine<S>,
+    property: &Option<Descriptor>,
+) -> Result<(), OutOfMemory>
     ensures { OnOk result (machine.new ≡ shows_property property.now machine.old) }
 {
     match property {
@@ -78,7 +88,10 @@ fn show_property(machine: &mut Machine, property: &Option<Descriptor>) -> Result
     }
 }
 
-fn show_partial(machine: &mut Machine, partial: &PartialDescriptor) -> Result<(), OutOfMemory>
+fn show_partial<S: Store>(
+    machine: &mut Machine<S>,
+    partial: &PartialDescriptor,
+) -> Result<(), OutOfMemory>
     ensures { OnOk result (machine.new ≡ shows_partial partial.now machine.old) }
 {
     show_maybe(machine, &partial.value)?;
@@ -88,7 +101,7 @@ fn show_partial(machine: &mut Machine, partial: &PartialDescriptor) -> Result<()
 
 /// The party's own objects that an ask names are known to others from now on. An ask that makes a
 /// party is answered by want of memory: none is made.
-pub fn show_ask(machine: &mut Machine, ask: &Ask) -> Result<(), OutOfMemory>
+pub fn show_ask<S: Store>(machine: &mut Machine<S>, ask: &Ask) -> Result<(), OutOfMemory>
     ensures shown { OnOk result (machine.new ≡ shows_ask ask.now machine.old) }
     ensures none { OnOk result (makes_none ask.now ≡ true) }
 {
@@ -119,7 +132,7 @@ pub fn show_ask(machine: &mut Machine, ask: &Ask) -> Result<(), OutOfMemory>
 }
 
 /// The party's own objects that a reply names are known to others from now on.
-pub fn show_reply(machine: &mut Machine, reply: &Reply) -> Result<(), OutOfMemory>
+pub fn show_reply<S: Store>(machine: &mut Machine<S>, reply: &Reply) -> Result<(), OutOfMemory>
     ensures { OnOk result (machine.new ≡ shows_reply reply.now machine.old) }
 {
     match reply {

@@ -183,7 +183,13 @@ fn property_at<S: Store>(
 
 /// What a form gives at once that is no number, if it does.
 #[tactic(auto, using(crate::proofs::Given::at_row))]
-fn other_at<S: Store>(code: &Code, store: &S, scopes: &Scopes, scope: u32, at: u32) -> Option<Direct>
+fn other_at<S: Store>(
+    code: &Code,
+    store: &S,
+    scopes: &Scopes,
+    scope: u32,
+    at: u32,
+) -> Option<Direct>
     ensures { IfSome result (IsDirect (seen (S.owner store.now) (S.objects store.now) code.now scopes.now scope) at) }
 {
     match code.node(at) {

@@ -315,7 +315,7 @@ done_in_list at s c left k rest v w new h l e =
     subst (λ x. ComesTo left w x (at_item at s c w) (at_list s c x) rest) (sym h.is) (done_under at left k rest v new.objects new.scopes w (over (frame.Seq s c) w) h.does h.depth l e)
 
 -- a body like that of `x++`
-pub body_done : (x : Incremented) (at left : ℕ) (old new : View) → ((store : Owned) → CameOfBody x (seen store old.code old.scopes (scope_of old.bodies)) at new.scopes) → old.depth + 2 < MAX_DEPTH → 9 ≤ left → new ≡ record old { scopes = new.scopes } → IsBody x at left old new
+pub body_done : (x : Incremented) (at left : ℕ) (old new : View) → ((store : Owned) → CameOfBody x (seen store.party store.objects old.code old.scopes (scope_of old.bodies)) at new.scopes) → old.depth + 2 < MAX_DEPTH → 9 ≤ left → new ≡ record old { scopes = new.scopes } → IsBody x at left old new
 body_done (incremented.Gave n) at left old new h d l e =
     let stays : new.objects ≡ old.objects = ap (λ w. w.objects) e in
     let done = h (record { party = record { 0 = old.me }; objects = old.objects }) old.common in (

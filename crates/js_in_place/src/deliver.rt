@@ -44,7 +44,12 @@ fn leave_scope<S: Store>(machine: &mut Machine<S>, scope: u32, value: Plain, lef
 
 /// The test of a turn has its value.
 #[inline]
-fn tested<S: Store>(machine: &mut Machine<S>, turns: u32, value: Plain, left: u64) -> Result<Stand, OutOfMemory>
+fn tested<S: Store>(
+    machine: &mut Machine<S>,
+    turns: u32,
+    value: Plain,
+    left: u64,
+) -> Result<Stand, OutOfMemory>
     ensures { IfOk result (LedTo (deed_with (frame_kind.Tested turns) (value_of value) machine.old)
         left machine.old machine.new) }
 {
@@ -69,7 +74,13 @@ fn can_set<S: Store>(machine: &Machine<S>, hops: u32, slot: u32, constant: bool)
 
 /// An initialised slot gets its value.
 #[inline(always)]
-fn set_slot<S: Store>(machine: &mut Machine<S>, hops: u32, slot: u32, value: Plain, left: u64) -> Stand
+fn set_slot<S: Store>(
+    machine: &mut Machine<S>,
+    hops: u32,
+    slot: u32,
+    value: Plain,
+    left: u64,
+) -> Stand
     ensures { let scope = outwards machine.old.scopes hops (scope_of machine.old.bodies) in
         let frame = frame_kind.SetLocal hops slot false in
         is_some (slot_of machine.old.scopes scope slot) ≡ true
@@ -81,7 +92,13 @@ fn set_slot<S: Store>(machine: &mut Machine<S>, hops: u32, slot: u32, value: Pla
 
 /// A slot gets its first value.
 #[inline(always)]
-fn init_slot<S: Store>(machine: &mut Machine<S>, hops: u32, slot: u32, value: Plain, left: u64) -> Stand
+fn init_slot<S: Store>(
+    machine: &mut Machine<S>,
+    hops: u32,
+    slot: u32,
+    value: Plain,
+    left: u64,
+) -> Stand
     ensures { LedTo (deed_with (frame_kind.Init hops slot) (value_of value) machine.old) left
         machine.old machine.new result }
 {
@@ -145,7 +162,12 @@ fn number_below<S: Store>(machine: &Machine<S>) -> Option<i64>
 
 /// An operator has its operands.
 #[inline(always)]
-fn operate<S: Store>(machine: &mut Machine<S>, operator: BinaryOperator, value: Plain, left: u64) -> Stand
+fn operate<S: Store>(
+    machine: &mut Machine<S>,
+    operator: BinaryOperator,
+    value: Plain,
+    left: u64,
+) -> Stand
     ensures { newest machine.old.frames ≡ Some (frame_kind.BinaryRight operator)
         → RunsTo (spot_kind.Given value) left machine.old machine.new result }
 {
@@ -165,7 +187,11 @@ fn operate<S: Store>(machine: &mut Machine<S>, operator: BinaryOperator, value: 
 
 /// A value is returned, and the frame that waited for it is off.
 #[inline(always)]
-fn return_value<S: Store>(machine: &mut Machine<S>, value: Plain, left: u64) -> Result<Stand, OutOfMemory>
+fn return_value<S: Store>(
+    machine: &mut Machine<S>,
+    value: Plain,
+    left: u64,
+) -> Result<Stand, OutOfMemory>
     ensures { newest machine.old.frames ≡ Some frame_kind.Return
         → IfOk result (RunsTo (spot_kind.Given value) left machine.old machine.new) }
 {
@@ -232,7 +258,11 @@ pub(crate) fn deliver_within<S: Store>(
 
 /// A plain value comes to the newest frame, or is still to come to it.
 #[inline]
-pub fn deliver<S: Store>(machine: &mut Machine<S>, value: Plain, left: u64) -> Result<Stand, OutOfMemory>
+pub fn deliver<S: Store>(
+    machine: &mut Machine<S>,
+    value: Plain,
+    left: u64,
+) -> Result<Stand, OutOfMemory>
     ensures { IfOk result (RunsTo (spot_kind.Given value) left machine.old machine.new) }
 {
     let Some(frame) = newest_frame(machine) else {

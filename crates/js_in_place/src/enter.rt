@@ -69,7 +69,11 @@ fn open_bare<S: Store>(machine: &mut Machine<S>, outer: u32, count: u32) -> Resu
 
 /// Opens the scope of a body where each parameter has an argument on the stack of values, and no other slot starts with a value.
 #[inline(always)]
-fn open_full<S: Store>(machine: &mut Machine<S>, row: TemplateRow, outer: u32) -> Result<u32, OutOfMemory>
+fn open_full<S: Store>(
+    machine: &mut Machine<S>,
+    row: TemplateRow,
+    outer: u32,
+) -> Result<u32, OutOfMemory>
     requires there { row.params ≤ length machine.old.values }
     requires slots { row.params ≤ row.slots }
     requires none { row.undefined_count ≡ 0 }

@@ -48,7 +48,13 @@ fn node<S: Store>(machine: &Machine<S>, at: u32) -> Node
 
 /// A form, and those that take its place, go as far as they get.
 #[cycle(form)]
-pub fn do_form<S: Store>(machine: &mut Machine<S>, seat: &mut Seat, at: u32, left: u64, depth: u32) -> Went
+pub fn do_form<S: Store>(
+    machine: &mut Machine<S>,
+    seat: &mut Seat,
+    at: u32,
+    left: u64,
+    depth: u32,
+) -> Went
     ensures ends { ¬ (result.how ≡ how_kind.Next) }
     ensures went { IsWent (at_form at machine.old) left machine.old machine.new seat.new result }
 {
@@ -74,7 +80,13 @@ pub fn do_form<S: Store>(machine: &mut Machine<S>, seat: &mut Seat, at: u32, lef
 /// A form goes as far as it gets, or is done at once.
 #[cycle(form)]
 #[inline(always)]
-fn do_row<S: Store>(machine: &mut Machine<S>, seat: &mut Seat, at: u32, left: u64, depth: u32) -> Went
+fn do_row<S: Store>(
+    machine: &mut Machine<S>,
+    seat: &mut Seat,
+    at: u32,
+    left: u64,
+    depth: u32,
+) -> Went
     requires some { 0 < left }
     requires deep { 0 < depth }
     ensures { IsWent (at_form at machine.old) left machine.old machine.new seat.new result }
@@ -260,7 +272,13 @@ fn do_scope<S: Store>(
 /// The turns of a loop that begins with its test (ECMA-262, LoopEvaluation).
 #[cycle(form)]
 #[inline(never)]
-fn do_loop<S: Store>(machine: &mut Machine<S>, seat: &mut Seat, turns: u32, left: u64, depth: u32) -> Went
+fn do_loop<S: Store>(
+    machine: &mut Machine<S>,
+    seat: &mut Seat,
+    turns: u32,
+    left: u64,
+    depth: u32,
+) -> Went
     ensures { IsWent (at_test turns machine.old) left machine.old machine.new seat.new result }
 {
     let mut left = left;
@@ -277,7 +295,13 @@ fn do_loop<S: Store>(machine: &mut Machine<S>, seat: &mut Seat, turns: u32, left
 /// The test of a loop, and a turn.
 #[cycle(form)]
 #[inline(always)]
-fn do_turn<S: Store>(machine: &mut Machine<S>, seat: &mut Seat, turns: u32, left: u64, depth: u32) -> Went
+fn do_turn<S: Store>(
+    machine: &mut Machine<S>,
+    seat: &mut Seat,
+    turns: u32,
+    left: u64,
+    depth: u32,
+) -> Went
     ensures { IsPart (at_test turns machine.old) (at_test turns machine.new) left machine.old
         machine.new seat.new result }
 {

@@ -41,7 +41,12 @@ fn take_value<S: Store>(machine: &mut Machine<S>, seat: &mut Seat, left: u64) ->
 
 /// What a step of the machine's own led to goes on in place, where that is a plain value or a form.
 #[inline(always)]
-pub fn go_on_from<S: Store>(machine: &mut Machine<S>, seat: &mut Seat, mode: Mode, left: u64) -> Went
+pub fn go_on_from<S: Store>(
+    machine: &mut Machine<S>,
+    seat: &mut Seat,
+    mode: Mode,
+    left: u64,
+) -> Went
     ensures { IsWent (at_mode mode machine.old) left machine.old machine.new seat.new result }
 {
     match mode {
@@ -52,7 +57,12 @@ pub fn go_on_from<S: Store>(machine: &mut Machine<S>, seat: &mut Seat, mode: Mod
 
 /// A function of the party is made (ECMA-262, "Function Definitions", Evaluation).
 #[inline(never)]
-pub fn do_function<S: Store>(machine: &mut Machine<S>, seat: &mut Seat, template: u32, left: u64) -> Went
+pub fn do_function<S: Store>(
+    machine: &mut Machine<S>,
+    seat: &mut Seat,
+    template: u32,
+    left: u64,
+) -> Went
     requires { 0 < left }
     ensures { (at : ℕ) → let term = term_at machine.old.code in
         out-Term (term at) ≡ layer_of machine.old.code term (node_kind.Func template)

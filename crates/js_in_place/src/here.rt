@@ -77,7 +77,7 @@ fn can_wait<S: Store>(machine: &Machine<S>) -> bool
 fn increment_here<S: Store>(machine: &mut Machine<S>, at: u32) -> Incremented
     ensures came { (store : Owned)
         → let scope = scope_of machine.old.bodies in
-        let sight = seen store machine.old.code machine.old.scopes scope in
+        let sight = seen store.party store.objects machine.old.code machine.old.scopes scope in
         CameOfBody result sight at machine.new.scopes }
     ensures changes { machine.new ≡ record machine.old { scopes = machine.new.scopes } }
 {
@@ -176,7 +176,12 @@ pub fn fresh<S: Store>(machine: &mut Machine<S>, seat: &mut Seat, left: u64) -> 
 
 /// The test of a loop's next turn is to begin.
 #[inline(never)]
-pub fn starts_loop<S: Store>(machine: &mut Machine<S>, seat: &mut Seat, turns: u32, left: u64) -> Went
+pub fn starts_loop<S: Store>(
+    machine: &mut Machine<S>,
+    seat: &mut Seat,
+    turns: u32,
+    left: u64,
+) -> Went
     ensures ends { ¬ (result.how ≡ how_kind.Next) }
     ensures went { IsWent (at_test turns machine.old) left machine.old machine.new seat.new result }
 {

@@ -61,7 +61,13 @@ fn held_by(node: Node) -> Option<Held>
 
 /// A form begins, and another one waits for it.
 #[inline(never)]
-fn wait_for<S: Store>(machine: &mut Machine<S>, seat: &mut Seat, node: Node, at: u32, left: u64) -> Went
+fn wait_for<S: Store>(
+    machine: &mut Machine<S>,
+    seat: &mut Seat,
+    node: Node,
+    at: u32,
+    left: u64,
+) -> Went
     ensures { let term = term_at machine.old.code in
         out-Term (term at) ≡ layer_of machine.old.code term node
         → IsWent (at_form at machine.old) left machine.old machine.new seat.new result }
@@ -117,7 +123,13 @@ pub(crate) fn may_be_done<S: Store>(machine: &Machine<S>, node: Node) -> bool {
 
 /// A form is done at once, or what it evaluates first is next, or it is not begun.
 #[inline(always)]
-pub fn do_leaf<S: Store>(machine: &mut Machine<S>, seat: &mut Seat, node: Node, at: u32, left: u64) -> Went
+pub fn do_leaf<S: Store>(
+    machine: &mut Machine<S>,
+    seat: &mut Seat,
+    node: Node,
+    at: u32,
+    left: u64,
+) -> Went
     ensures { let term = term_at machine.old.code in
         out-Term (term at) ≡ layer_of machine.old.code term node
         → IsWent (at_form at machine.old) left machine.old machine.new seat.new result }

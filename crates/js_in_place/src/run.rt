@@ -72,7 +72,11 @@ pub fn run_in_place<S: Store>(machine: &mut Machine<S>, stand: Stand) -> Result<
 
 /// A form begins in place, where it is one of those that are done so; else it is to begin still.
 #[inline]
-pub fn begin_in_place<S: Store>(machine: &mut Machine<S>, at: u32, left: u64) -> Result<Stand, OutOfMemory>
+pub fn begin_in_place<S: Store>(
+    machine: &mut Machine<S>,
+    at: u32,
+    left: u64,
+) -> Result<Stand, OutOfMemory>
     ensures { IfOk result (RunsTo (spot_kind.Form at) left machine.old machine.new) }
 {
     match machine.code.node(at) {

@@ -17,7 +17,12 @@ use lava_base::memory::OutOfMemory;
 
 /// A form begins, and a frame waits for it.
 #[inline]
-pub fn wait<S: Store>(machine: &mut Machine<S>, frame: Frame, at: u32, left: u64) -> Result<Stand, OutOfMemory>
+pub fn wait<S: Store>(
+    machine: &mut Machine<S>,
+    frame: Frame,
+    at: u32,
+    left: u64,
+) -> Result<Stand, OutOfMemory>
     ensures { IfOk result (WaitsIn frame at left machine.old machine.new) }
 {
     machine.push_frame(frame)?;
@@ -83,7 +88,11 @@ pub fn turn<S: Store>(machine: &mut Machine<S>, turns: u32, left: u64) -> Result
 
 /// What a loop does after a turn, and then the next one.
 #[inline]
-pub fn next_turn<S: Store>(machine: &mut Machine<S>, turns: u32, left: u64) -> Result<Stand, OutOfMemory>
+pub fn next_turn<S: Store>(
+    machine: &mut Machine<S>,
+    turns: u32,
+    left: u64,
+) -> Result<Stand, OutOfMemory>
     ensures { let turn = turns_at machine.old.code turns in
         IfOk result (LedTo (λ a. next_turn turn turn.update (party_of a machine.old)) left
         machine.old machine.new) }

@@ -1,5 +1,5 @@
 -- Calls and constructions that ask an object.
-use Rattle.std.proofs.Common.{◌≡◌, ℕ, suc, ◌+◌, Bool, true, false, List, [], ◌∷◌, ◌++◌, ◌<◌, ◌≤◌, length, take, take-suc, drop, reverse, Option, Some, None, refl, sym, ap, ◌∙◌, subst, arith, Result, Ok, Err, IfOk, if◌then◌else◌}
+use Rattle.std.proofs.Common.{◌≡◌, ℕ, suc, ◌+◌, Bool, true, false, List, [], ◌∷◌, ◌++◌, ◌<◌, ◌≤◌, length, take, take-suc, drop, Option, Some, None, sym, ap, ◌∙◌, subst, arith, Result, Ok, Err, IfOk, if◌then◌else◌}
 use Rattle.lava_base.specs.declared.ids.MadeSymbol.{MadeSymbol}
 use Rattle.lava_base.specs.declared.ids.Ref.{Ref}
 use Rattle.lava_base.specs.declared.marks.Marks.{Marks}
@@ -14,11 +14,10 @@ use Rattle.js_operation.specs.js_run.Acts.{asks, give, with_value}
 use Rattle.js_operation.specs.js_run.Asking.{calls}
 use Rattle.js_operation.specs.js_run.Calls.{constructs_itself}
 use Rattle.js_operation.specs.js_run.Faults.{faults}
-use Rattle.js_operation.specs.js_run.Runs.{answered}
 use Rattle.js_machine.specs.Decisions.{object_of_value}
 use Rattle.js_machine.specs.Looks.{marks_in}
 use Rattle.js_machine.specs.Steps.{LeadsTo, WaitsFor, settles, without_top}
-use Rattle.js_machine.specs.Views.{Values, View, applied, args_on, below, fitting, held, party_of, top}
+use Rattle.js_machine.specs.Views.{View, applied, args_on, below, fitting, held, party_of, top}
 use Rattle.js_machine.specs.declared.frame.Frame.TheVariants as frame
 use Rattle.js_machine.specs.declared.frame.Mode.{Mode}
 use Rattle.js_machine.specs.declared.frame.Purpose.{Purpose}

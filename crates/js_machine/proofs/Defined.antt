@@ -1,5 +1,5 @@
 -- Properties and items that are defined.
-use Rattle.std.proofs.Common.{◌≡◌, ℕ, suc, Bool, true, false, Option, Some, None, is_some, length, ◌<◌, refl, sym, ap, ◌∙◌, subst, Result, Ok, Err, IfOk, OnOk, if◌then◌else◌, codes}
+use Rattle.std.proofs.Common.{◌≡◌, ℕ, suc, Bool, false, Option, Some, None, is_some, refl, sym, ap, ◌∙◌, subst, Result, Ok, Err, IfOk, OnOk, if◌then◌else◌, codes}
 use Rattle.lava_base.specs.declared.ids.MadeSymbol.{MadeSymbol}
 use Rattle.lava_base.specs.declared.ids.Ref.{Ref}
 use Rattle.js_text.specs.Naming.{Naming, Origin, Own, naming_of}
@@ -11,7 +11,7 @@ use Rattle.js_desc.specs.declared.descriptor.Change.{Change}
 use Rattle.js_desc.specs.declared.descriptor.PartialDescriptor.{PartialDescriptor}
 use Rattle.js_desc.specs.declared.fault.FaultText.TheVariants as fault
 use Rattle.js_ordinary.specs.Origins.{object_of}
-use Rattle.js_store.specs.Objects.{Object, ordinary_get_own_property}
+use Rattle.js_store.specs.Objects.{ordinary_get_own_property}
 use Rattle.js_operation.specs.js_run.Acts.{Act}
 use Rattle.js_operation.specs.js_run.Faults.{faults}
 use Rattle.js_operation.specs.js_run.Functions.{length_read, own_data}

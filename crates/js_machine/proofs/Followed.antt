@@ -1,5 +1,5 @@
 -- What follows a decision.
-use Rattle.std.proofs.Common.{◌≡◌, Bool, List, ◌-◌, false, Option, Some, None, sym, ap, ◌∙◌, subst, Result, Ok, Err, IfOk}
+use Rattle.std.proofs.Common.{◌≡◌, List, ◌-◌, Option, Some, None, sym, ap, ◌∙◌, subst, Result, Ok, Err, IfOk}
 use Rattle.lava_base.specs.declared.ids.MadeSymbol.{MadeSymbol}
 use Rattle.lava_base.specs.declared.ids.Ref.{Ref}
 use Rattle.js_text.specs.Naming.{naming_of}

@@ -1,5 +1,5 @@
 -- What operators do.
-use Rattle.std.proofs.Common.{◌≡◌, ℕ, zero, suc, ◌-◌, ◌≤◌, ◌/◌, Bool, true, false, List, length, drop, ◌∷◌, Option, Some, ℤ, refl, sym, ap, ◌∙◌, subst, arith, Result, Ok, Err, IfOk, if◌then◌else◌}
+use Rattle.std.proofs.Common.{◌≡◌, ℕ, suc, ◌≤◌, ◌/◌, Bool, true, false, List, length, drop, refl, sym, ap, ◌∙◌, subst, Result, Ok, Err, IfOk, if◌then◌else◌}
 use Rattle.std.proofs.lemmas.Bool.{le-ltb}
 use Rattle.lava_base.specs.declared.ids.MadeSymbol.{MadeSymbol}
 use Rattle.lava_base.specs.declared.ids.Ref.{Ref}
@@ -20,7 +20,7 @@ use Rattle.js_operation.specs.Deeds.{Does, MachineAct, MachineNaming, MachinePar
 use Rattle.js_operation.specs.declared.operation.Operation.{Operation}
 use Rattle.js_machine.specs.Looks.{marks_in}
 use Rattle.js_machine.specs.Steps.{IsDelivered, LeadsTo, Pays, deed_with, settles, under, with_top, without_top}
-use Rattle.js_machine.specs.Views.{Around, View, fitting, has_value, is_completion, party_of, top, values_without}
+use Rattle.js_machine.specs.Views.{Around, View, fitting, has_value, is_completion, party_of, top}
 use Rattle.js_machine.specs.declared.frame.Frame.TheVariants as frame
 use Rattle.js_machine.specs.declared.frame.Mode.{Mode}
 use Rattle.js_machine.specs.declared.frame.Mode.TheVariants as mode

@@ -19,7 +19,7 @@ use Rattle.js_operation.specs.js_run.Properties.{delete_property, init_slot, put
 use Rattle.js_operation.specs.js_run.Rows.{binary_left, delete_object, get_key, get_object, if_test, put_key, put_object, short_left, super_key, call_on_object, new_callee}
 use Rattle.js_operation.specs.js_run.Runs.{Gives, answered, settle}
 use Rattle.js_operation.specs.js_run.Truth.{to_boolean}
-use Rattle.js_machine.specs.Views.{Around, Values, View, Waits, below, completion_with, fitting, has_value, has_wait, is_abrupt, knows, next_over, nexts_of, owned, party_of, rest_of, takes_values, top, turns_at, values_without, applied, args_on, holding_on, next_of, next_part_of}
+use Rattle.js_machine.specs.Views.{Around, Values, View, Waits, below, completion_with, fitting, has_value, has_wait, is_abrupt, knows, next_over, nexts_of, owned, party_of, rest_of, takes_values, top, turns_at, values_without, applied, args_on, holding_on, next_part_of}
 use Rattle.js_machine.specs.Classes.{parent_comes, prototype_comes}
 use Rattle.js_machine.specs.Parts.{part_at, part_comes, part_valued, parts_go, reference_in}
 use Rattle.js_machine.specs.Steps.{IsDelivered, Keeps, comes, point_of, settles}

@@ -11,7 +11,7 @@ use Rattle.js_text.specs.declared.value.Value.TheVariants as value
 use Rattle.js_code.specs.Decoded.{term_at, text_at}
 use Rattle.js_desc.specs.declared.ask.Ask.TheVariants as ask
 use Rattle.js_desc.specs.declared.fault.FaultText.TheVariants as fault
-use Rattle.js_operation.specs.js_run.Acts.{Act, asks_value, give, with_flag, with_value}
+use Rattle.js_operation.specs.js_run.Acts.{Act, asks_value, give, with_value}
 use Rattle.js_operation.specs.js_run.Faults.{faults}
 use Rattle.js_operation.specs.js_run.Parties.{Party, Shared}
 use Rattle.js_operation.specs.js_run.Properties.{delete_property, get_global, global_value, has_set, on_reference, put_global, put_property, set_global, to_key}

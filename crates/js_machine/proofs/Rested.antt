@@ -1,5 +1,5 @@
 -- The arguments of a rest parameter.
-use Rattle.std.proofs.Common.{◌≡◌, ℕ, ◌+◌, ◌-◌, ◌≤◌, [], ◌++◌, length, take, drop, reverse, sym, ap, ◌∙◌, subst, take-append-drop, Result, OnOk, IfOk}
+use Rattle.std.proofs.Common.{◌≡◌, ℕ, ◌-◌, ◌≤◌, [], ◌++◌, length, take, drop, reverse, sym, ap, ◌∙◌, subst, take-append-drop, Result, OnOk, IfOk}
 use Rattle.std.proofs.lemmas.List.{drop_all, reverse-reverse}
 use Rattle.lava_base.specs.declared.ids.Ref.{Ref}
 use Rattle.js_text.specs.Naming.{naming_of}

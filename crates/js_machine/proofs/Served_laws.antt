@@ -1,20 +1,19 @@
 -- An ask that came.
-use Rattle.std.proofs.Common.{◌≡◌, ℕ, List, [], ◌∷◌, Option, Some, None, refl, sym, ap, ◌∙◌, subst, Result, Ok, Err, IfOk}
+use Rattle.std.proofs.Common.{◌≡◌, ℕ, [], Option, Some, None, refl, sym, ap, ◌∙◌, subst, Result, Ok, Err, IfOk}
 use Rattle.lava_base.specs.declared.ids.MadeSymbol.{MadeSymbol}
 use Rattle.lava_base.specs.declared.ids.Ref.{Ref}
 use Rattle.js_text.specs.Naming.{Origin, Own, Common, Foreign, naming_of}
-use Rattle.js_text.specs.declared.value.Value.{Value}
 use Rattle.js_text.specs.declared.value.Value.TheVariants as value
 use Rattle.js_desc.specs.declared.ask.Ask.{Ask}
-use Rattle.js_operation.specs.js_run.Acts.{Next, throws}
+use Rattle.js_operation.specs.js_run.Acts.{throws}
 use Rattle.js_operation.specs.js_run.Local.{serves_at}
 use Rattle.js_operation.specs.js_run.NativeTurns.{served_units}
 use Rattle.js_operation.specs.js_run.Parties.{Party}
-use Rattle.js_operation.specs.js_run.Runs.{Decides, Due, Point, answered, settle}
+use Rattle.js_operation.specs.js_run.Runs.{Decides, Due, answered, settle}
 use Rattle.js_machine.specs.Looks.{foreign_at}
 use Rattle.js_machine.specs.Served.{IsServed}
-use Rattle.js_machine.specs.Steps.{LeadsTo, point_of}
-use Rattle.js_machine.specs.Views.{Around, View, fitting, nexts_of, party_of}
+use Rattle.js_machine.specs.Steps.{LeadsTo}
+use Rattle.js_machine.specs.Views.{View, fitting, nexts_of, party_of}
 use Rattle.js_machine.specs.declared.frame.Mode.{Mode}
 use Rattle.js_machine.specs.declared.frame.Mode.TheVariants as mode
 

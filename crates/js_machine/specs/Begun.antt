@@ -1,8 +1,8 @@
 -- How a machine stands before anything comes to it.
-use Rattle.std.specs.Prelude.{◌≡◌, ℕ, List, [], ◌∷◌}
+use Rattle.std.specs.Prelude.{ℕ, List, [], ◌∷◌}
 use Rattle.lava_base.specs.declared.ids.MadeSymbol.{MadeSymbol}
+use Rattle.lava_base.specs.declared.ids.PartyId.{PartyId}
 use Rattle.lava_base.specs.declared.ids.Ref.{Ref}
-use Rattle.js_text.specs.declared.value.Value.{Value}
 use Rattle.js_code.specs.Tables.{Tables}
 use Rattle.js_operation.specs.js_run.Outside.{OutsideCall}
 use Rattle.js_operation.specs.js_run.Parties as parties
@@ -20,6 +20,10 @@ use Rattle.js_machine.specs.declared.frame.Frame.{Frame}
 -- a party has its outermost scope
 abbrev pub outermost : List (Scope Ref MadeSymbol)
 outermost = no_scope ∷ []
+
+-- the objects of a store, whatever keeps them
+abbrev pub owned : PartyId → List (Object Ref MadeSymbol) → Owned
+owned party objects = record { party = party; objects = objects }
 
 -- a machine that has done nothing yet
 abbrev pub as_new : Tables → Owned → Package → (allowed : List (List ℕ)) → List CommonObject → (common_templates : List ℕ) → List (Ref × Marks) → Asked → Answer → Imported → View

@@ -12,7 +12,7 @@ use Rattle.js_term.specs.declared.term.Part.{Part}
 use Rattle.js_term.specs.declared.term.Template.{Template}
 use Rattle.js_operation.specs.js_run.Acts.{Act}
 use Rattle.js_operation.specs.js_run.Parties.{Party, Shared}
-use Rattle.js_operation.specs.js_run.Parts.{class_above, class_below, class_defined}
+use Rattle.js_operation.specs.js_run.Parts.{class_above, class_below}
 
 abbrev pub class_row : Tables → ℕ → ClassRow
 class_row c k = get_or c.classes k no_class_row

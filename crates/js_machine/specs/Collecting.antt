@@ -3,7 +3,7 @@ use Rattle.std.specs.Prelude.{List, [], map, Option, None}
 use Rattle.lava_base.specs.Ids.{same_ref, same_made_symbol}
 use Rattle.lava_base.specs.declared.ids.MadeSymbol.{MadeSymbol}
 use Rattle.lava_base.specs.declared.ids.Ref.{Ref}
-use Rattle.js_text.specs.Naming.{Origin, Own, Common, Foreign, naming_of}
+use Rattle.js_text.specs.Naming.{Origin, Own, Common, Foreign}
 use Rattle.js_text.specs.Values.{same_value}
 use Rattle.js_text.specs.declared.value.Value.{Value}
 use Rattle.js_desc.specs.declared.ask.Ask.{Ask}

@@ -1,5 +1,5 @@
 -- Properties and items of objects that were just made.
-use Rattle.std.specs.Prelude.{◌≡◌, ℕ, suc, Bool, true, false, List, ◌∷◌, pos, Option, Some, None, if◌then◌else◌}
+use Rattle.std.specs.Prelude.{◌≡◌, ℕ, suc, Bool, true, false, ◌∷◌, pos, Option, Some, None, if◌then◌else◌}
 use Rattle.lava_base.specs.Ids.{same_made_symbol, same_ref}
 use Rattle.lava_base.specs.declared.ids.MadeSymbol.{MadeSymbol}
 use Rattle.lava_base.specs.declared.ids.Ref.{Ref}
@@ -15,7 +15,7 @@ use Rattle.js_desc.specs.declared.descriptor.Change.TheVariants as change
 use Rattle.js_desc.specs.declared.descriptor.Descriptor.{Descriptor}
 use Rattle.js_desc.specs.declared.descriptor.Descriptor.TheVariants.{Data}
 use Rattle.js_desc.specs.declared.descriptor.PartialDescriptor.{PartialDescriptor}
-use Rattle.js_store.specs.Objects.{Object, at_place, object_at, ordinary_get_own_property, with_change}
+use Rattle.js_store.specs.Objects.{at_place, object_at, ordinary_get_own_property, with_change}
 use Rattle.js_desc.specs.declared.fault.FaultText.TheVariants as fault
 use Rattle.js_operation.specs.js_run.Acts.{Act}
 use Rattle.js_operation.specs.js_run.Faults.{faults}

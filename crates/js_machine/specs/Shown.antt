@@ -1,7 +1,6 @@
 -- What other parties may know of a party's own objects, and what it sends to them.
-use Rattle.std.specs.Prelude.{ℕ, List, [], ◌∷◌}
+use Rattle.std.specs.Prelude.{List, [], ◌∷◌}
 use Rattle.lava_base.specs.Ids.{same_ref}
-use Rattle.lava_base.specs.declared.ids.MadeSymbol.{MadeSymbol}
 use Rattle.lava_base.specs.declared.ids.Ref.{Ref}
 use Rattle.lava_base.specs.declared.marks.Marks.{Marks}
 use Rattle.js_text.specs.Naming.{Origin, Own, Common, Foreign, naming_of}

@@ -4,7 +4,7 @@ ghost use Rattle.std.specs.Prelude.{◌≡◌, IfOk, OnOk};
 ghost use Rattle.js_code.specs.Settled.{Extends};
 ghost use Rattle.js_operation.specs.js_run.Parties as parties;
 ghost use Rattle.js_code.specs.Decoded.{template_at, term_at};
-ghost use Rattle.js_machine.specs.Begun.{as_new, outermost};
+ghost use Rattle.js_machine.specs.Begun.{as_new, outermost, owned};
 ghost use Rattle.js_machine.specs.Defaults.{KnowsTemplates};
 
 use crate::asked::{Answer, Asked, Imported};
@@ -127,8 +127,9 @@ impl<S: Store> Machine<S> {
         foreign: Foreign,
     ) -> Result<Machine<S>, OutOfMemory>
         ensures code { IfOk result (λ m. Extends code m.code) }
-        ensures new { let templates = common_templates.items in
-            IfOk result (λ m. m ≡ as_new m.code store own_package allowed.items common templates
+        ensures new { let own = owned (S.owner store) (S.objects store) in
+            let templates = common_templates.items in
+            IfOk result (λ m. m ≡ as_new m.code own own_package allowed.items common templates
             foreign m.asked m.answer m.imported) }
     {
         let mut code = code;

@@ -1,7 +1,7 @@
 // What is a party's own while another one runs.
 
 ghost use Rattle.std.specs.Prelude.{◌≡◌, IfOk};
-ghost use Rattle.js_machine.specs.Begun.{left_of, new_own, nothing_left, own_of, with_left, with_own};
+ghost use Rattle.js_machine.specs.Begun.{left_of, new_own, nothing_left, own_of, owned, with_left, with_own};
 
 use crate::asked::Wait;
 use crate::body::Body;
@@ -84,7 +84,8 @@ impl<S: Store> Own<S> {
         own_package: Package,
         allowed: Vec<Text>,
     ) -> Result<Own<S>, OutOfMemory>
-        ensures { IfOk result (λ o. o ≡ new_own store own_package allowed.items) }
+        ensures { let own = owned (S.owner store) (S.objects store) in
+            IfOk result (λ o. o ≡ new_own own own_package allowed.items) }
     {
         let scopes = first_scope(alloc)?;
         Ok(Own {

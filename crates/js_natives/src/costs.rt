@@ -22,8 +22,8 @@ fn units_of_items<S: Store>(
     common: &FrozenStore,
     list: &Value,
 ) -> Result<u64, OutOfMemory>
-    ensures units { let own = store.now in
-        let items = list_items (naming_of own.party.0) own.objects common.now list.now in
+    ensures units { let me = naming_of (S.owner store.now).0 in
+        let items = list_items me (S.objects store.now) common.now list.now in
         IfOk result (λ n. n ≡ units_of_items items) }
     ensures short { IfOk result (λ n. n ≤ 1048576 * 4294967296) }
 {
@@ -46,8 +46,8 @@ fn units_of_four<S: Store>(
     paths: &Value,
     modules: &Value,
 ) -> Result<u64, OutOfMemory>
-    ensures units { let own = store.now in
-        let items = list_items (naming_of own.party.0) own.objects common.now in
+    ensures units { let me = naming_of (S.owner store.now).0 in
+        let items = list_items me (S.objects store.now) common.now in
         let lists = names.now ∷ values.now ∷ paths.now ∷ modules.now ∷ [] in
         IfOk result (λ n. n ≡ units_of_lists items lists) }
     ensures short { IfOk result (λ n. n ≤ 1048576 * 17179869184) }
@@ -66,8 +66,8 @@ fn units_of_lists<S: Store>(
     common: &FrozenStore,
     lists: &[Value],
 ) -> Result<u64, OutOfMemory>
-    ensures units { let own = store.now in
-        let items = list_items (naming_of own.party.0) own.objects common.now in
+    ensures units { let me = naming_of (S.owner store.now).0 in
+        let items = list_items me (S.objects store.now) common.now in
         IfOk result (λ n. n ≡ units_of_lists items lists.now) }
     ensures short { IfOk result (λ n. n ≤ 1048576 * 17179869184) }
 {
@@ -87,8 +87,8 @@ fn listed_units<S: Store>(
     which: Native,
     args: &[Value],
 ) -> Result<u64, OutOfMemory>
-    ensures units { let own = store.now in
-        let items = list_items (naming_of own.party.0) own.objects common.now in
+    ensures units { let me = naming_of (S.owner store.now).0 in
+        let items = list_items me (S.objects store.now) common.now in
         IfOk result (λ n. n ≡ listed_units items which args.now) }
     ensures short { IfOk result (λ n. n ≤ 1048576 * 17179869184) }
 {
@@ -110,7 +110,8 @@ pub fn cost<S: Store>(
     which: Native,
     args: &[Value],
 ) -> Result<u64, OutOfMemory>
-    ensures { let items = list_items (naming_of (S.owner store.now).0) (S.objects store.now) common.now in
+    ensures { let me = naming_of (S.owner store.now).0 in
+        let items = list_items me (S.objects store.now) common.now in
         IfOk result (λ n. n ≡ native_cost which args.now (listed_units items which args.now)) }
 {
     if args.len() > u32::MAX as usize {

@@ -9,6 +9,7 @@ use crate::world::World;
 use js_crossing::js_machine::asked::Imported;
 use js_crossing::js_machine::frame::Mode;
 use js_crossing::js_machine::requests::text_of;
+use js_store::store::Store;
 use lava_base::memory::OutOfMemory;
 use std::alloc::Global;
 
@@ -27,7 +28,7 @@ fn first_import(alloc: Global) -> Result<Imported, OutOfMemory>
     Ok(Imported { link, path })
 }
 
-impl World {
+impl<S: Store> World<S> {
     /// The host imports the application's own package, whose party runs then.
     pub fn begin(&mut self, alloc: Global) -> Result<Mode, OutOfMemory>
         requires { self.now.machine.frames ≡ [] }

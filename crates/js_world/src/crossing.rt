@@ -23,6 +23,7 @@ use js_crossing::shows::{show_ask, show_reply};
 use js_desc::ask::Ask;
 use js_desc::reply::Reply;
 use js_machine_run::run::run;
+use js_store::store::Store;
 use lava_base::ids::Ref;
 use lava_base::memory::OutOfMemory;
 
@@ -46,7 +47,7 @@ fn is_host(party: u32) -> bool
     party == 0
 }
 
-impl World {
+impl<S: Store> World<S> {
     /// The party in the machine runs until it stops. Want of memory is answered where there is no
     /// such party, and where its steps could be too many to be counted.
     fn run_party(&mut self, mode: Mode) -> Result<Stop, OutOfMemory>

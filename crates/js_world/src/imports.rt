@@ -14,6 +14,7 @@ use js_crossing::js_machine::asked::Imported;
 use js_crossing::js_machine::frame::Mode;
 use js_crossing::leads::{Lead, lead_of};
 use js_machine_run::js_machine_modules::imports::{import, sent_import};
+use js_store::store::Store;
 use js_text::text::Text;
 use lava_base::list::List;
 use lava_base::memory::OutOfMemory;
@@ -28,7 +29,7 @@ fn lead_there(leads: &Vec<List<Lead>>, party: usize, link: &Text) -> Option<u32>
     }
 }
 
-impl World {
+impl<S: Store> World<S> {
     /// The party to which the link of the machine's import leads. Want of memory is answered where
     /// the table doesn't have it.
     fn linked_party(&self, link: &Text) -> Result<u32, OutOfMemory>

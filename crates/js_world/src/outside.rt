@@ -9,9 +9,10 @@ use js_crossing::js_machine::outside::HostAnswer;
 use js_crossing::js_machine::stop::{Pause, Stop};
 use js_machine_run::js_machine_modules::outside::answer_outside;
 use js_machine_run::run::run_on;
+use js_store::store::Store;
 use lava_base::memory::OutOfMemory;
 
-impl World {
+impl<S: Store> World<S> {
     /// The party in the machine goes on with an answer of the outside, until it stops. Want of
     /// memory is answered where there is no such party.
     fn go_on_after(&mut self, pause: Pause, answer: HostAnswer) -> Result<Stop, OutOfMemory>

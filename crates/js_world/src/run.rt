@@ -6,9 +6,10 @@ ghost use Rattle.js_world.specs.Ends.{Ends, runs_still};
 use crate::world::World;
 use js_crossing::ending::Turn;
 use js_crossing::js_machine::frame::Mode;
+use js_store::store::Store;
 use lava_base::memory::OutOfMemory;
 
-impl World {
+impl<S: Store> World<S> {
     /// Runs all parties, each in its turn, to the end or to a call of the outside. Want of memory
     /// is answered too after 18,446,744,073,709,551,615 crossings, and where `cross` says so.
     pub fn run_to_end(&mut self, mode: Mode) -> Result<Turn, OutOfMemory>

@@ -12,10 +12,11 @@ use js_crossing::js_machine::asked::Imported;
 use js_crossing::newest::{TracedCrossing, traced_ask, traced_import, traced_reply};
 use js_desc::ask::Ask;
 use js_desc::reply::Reply;
+use js_store::store::Store;
 use lava_base::ids::Ref;
 use lava_base::memory::OutOfMemory;
 
-impl World {
+impl<S: Store> World<S> {
     /// The newest crossing is kept from now on, with the marks of the references that it names. It is to be said before the first import.
     pub fn trace(&mut self)
         ensures traces { self.new ≡ record self.old { tracing = true } }

@@ -10,6 +10,8 @@ use js_crossing::js_machine::own::Own;
 use js_crossing::leads::Lead;
 use js_crossing::newest::TracedCrossing;
 use js_desc::reply::Reply;
+use js_store::flat::FlatStore;
+use js_store::store::Store;
 use lava_base::list::List;
 use lava_base::memory::OutOfMemory;
 use std::alloc::Global;
@@ -18,10 +20,10 @@ use std::marker::Model;
 /// The machine of all parties. The party that runs has its things in the machine, and each other
 /// one has them in its place of a list.
 #[derive(Drop)]
-pub struct World {
+pub struct World<S: Store> {
     pub(crate) alloc: Global,
-    pub(crate) machine: Machine,
-    pub(crate) others: Vec<Own>,
+    pub(crate) machine: Machine<S>,
+    pub(crate) others: Vec<Own<S>>,
     /// Where the links of each party lead.
     pub(crate) leads: Vec<List<Lead>>,
     /// The steps that each party has taken.
@@ -39,7 +41,10 @@ pub struct World {
     pub(crate) newest: Option<TracedCrossing>,
 }
 
-impl Model for World {
+/// The machine of all parties whose objects stand in flat stores, which is the one that a command runs.
+pub type FlatWorld = World<FlatStore>;
+
+impl<S: Store> Model for World<S> {
     ghost use Rattle.std.specs.Prelude.{reverse};
     ghost use Rattle.js_world.specs.Worlds.{WorldView};
 
@@ -60,7 +65,7 @@ impl Model for World {
 }
 
 /// How many places there are for parties.
-fn count_of(others: &Vec<Own>) -> usize
+fn count_of<S: Store>(others: &Vec<Own<S>>) -> usize
     ensures { result ≡ length others.now.items }
 {
     others.len()
@@ -77,16 +82,16 @@ fn no_steps(alloc: Global, count: usize) -> Result<Vec<u64>, OutOfMemory>
     Ok(steps)
 }
 
-impl World {
+impl<S: Store> World<S> {
     /// The machine of all parties that has nothing to do yet, with the things of each. The place of
     /// the party in the machine holds things that nothing reads.
     pub fn new(
         alloc: Global,
-        machine: Machine,
-        others: Vec<Own>,
+        machine: Machine<S>,
+        others: Vec<Own<S>>,
         leads: Vec<List<Lead>>,
         budget: u64,
-    ) -> Result<World, OutOfMemory>
+    ) -> Result<World<S>, OutOfMemory>
         ensures new { IfOk result (λ w. w ≡ as_new machine others.items leads.items budget) }
         ensures rests { IfOk result RestsFirst }
     {
@@ -121,7 +126,7 @@ impl World {
     }
 
     /// The machine; the call that the outside is asked by is its newest one.
-    pub fn machine(&self) -> &Machine
+    pub fn machine(&self) -> &Machine<S>
         ensures { result.now ≡ self.now.machine }
     {
         &self.machine

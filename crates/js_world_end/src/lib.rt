@@ -4,7 +4,7 @@
 //! that lead one to its end.
 #![tactic(auto)]
 
-use js_world::world::World;
+use js_world::world::FlatWorld;
 
 /// Lets the machine of all parties go.
-pub fn discard(world: World) {}
+pub fn discard(world: FlatWorld) {}

@@ -15,7 +15,7 @@ use js_world::js_machine::outside::HostAnswer;
 use js_world::js_machine::requests::text_of;
 use js_world::js_machine::stop::Pause;
 use js_world::js_machine_modules::outside::newest_call;
-use js_world::world::World;
+use js_world::world::FlatWorld;
 use lava_base::memory::OutOfMemory;
 use lava_host::fault::Which;
 use lava_host::host::Host;
@@ -66,7 +66,7 @@ fn count_turn(crossings: u64, turn: Turn) -> Result<u64, OutOfMemory>
 }
 
 /// The host's first import is sent, which is the first crossing.
-fn begin(alloc: Global, world: &mut World) -> Result<Mode, OutOfMemory>
+fn begin(alloc: Global, world: &mut FlatWorld) -> Result<Mode, OutOfMemory>
     requires { world.now.machine.frames ≡ [] }
     ensures { IfOk result (λ m. IsUnderway world.old [] world.new (turn.Runs m) 1) }
 {
@@ -74,7 +74,7 @@ fn begin(alloc: Global, world: &mut World) -> Result<Mode, OutOfMemory>
 }
 
 /// The machine runs on to its next crossing.
-fn go_on(world: &mut World, mode: Mode, stage: Stage) -> Result<Stage, OutOfMemory>
+fn go_on(world: &mut FlatWorld, mode: Mode, stage: Stage) -> Result<Stage, OutOfMemory>
     ensures underway { (first : WorldView) → (talks : List Talk) →
         IsUnderway first talks world.old (turn.Runs mode) stage.crossings →
         IfOk result (λ s. IsUnderway first talks world.new s.step.turn s.crossings) }
@@ -93,7 +93,7 @@ fn go_on(world: &mut World, mode: Mode, stage: Stage) -> Result<Stage, OutOfMemo
 
 /// What the party in the machine is answered that has called the outside. Only the host has an answer.
 pub(crate) fn answer_of_call<F: Folder, I: Source, O: Sink, E: Sink, C: Clock>(
-    world: &World,
+    world: &FlatWorld,
     host: &mut Host,
     alloc: Global,
     emit: bool,
@@ -126,7 +126,7 @@ pub(crate) fn answer_of_call<F: Folder, I: Source, O: Sink, E: Sink, C: Clock>(
 
 /// The machine goes on with the outside's answer, to its next crossing.
 fn answer<F: Folder, I: Source, O: Sink, E: Sink, C: Clock>(
-    world: &mut World,
+    world: &mut FlatWorld,
     pause: Pause,
     crossings: u64,
     host: &mut Host,
@@ -162,7 +162,7 @@ fn answer<F: Folder, I: Source, O: Sink, E: Sink, C: Clock>(
 
 /// The machine goes on from where it stands, which is not the end.
 fn go_further<F: Folder, I: Source, O: Sink, E: Sink, C: Clock>(
-    world: &mut World,
+    world: &mut FlatWorld,
     stage: Stage,
     host: &mut Host,
     alloc: Global,
@@ -206,7 +206,7 @@ fn go_further<F: Folder, I: Source, O: Sink, E: Sink, C: Clock>(
 
 /// Runs all parties from the host's first import to the end.
 pub fn run<F: Folder, I: Source, O: Sink, E: Sink, C: Clock>(
-    world: &mut World,
+    world: &mut FlatWorld,
     alloc: Global,
     emit: bool,
     dir: &str,

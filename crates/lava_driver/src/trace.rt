@@ -7,7 +7,7 @@ ghost use Rattle.lava_driver.specs.Traces.{CanBeRead, HasNoted, HasWritten, trac
 use js_desc::ending::Ending as ToldEnding;
 use js_world::js_crossing::ending::{Ending, Turn};
 use js_world::js_crossing::newest::TracedCrossing;
-use js_world::world::World;
+use js_world::world::FlatWorld;
 use lava_base::list::List;
 use lava_base::memory::OutOfMemory;
 use lava_base::name::Name;
@@ -159,7 +159,7 @@ impl Tracer {
     }
 
     /// The line of the newest crossing is written, of a world that traces.
-    fn write_newest(&mut self, world: &World) -> Result<(), OutOfMemory>
+    fn write_newest(&mut self, world: &FlatWorld) -> Result<(), OutOfMemory>
         requires { world.now.tracing ≡ true }
         ensures { OnOk result (HasWritten world.now self.old self.new) }
     {
@@ -170,7 +170,7 @@ impl Tracer {
     }
 
     /// The line of the newest crossing is written. Want of memory is answered too where crossings are not traced, where the line could not be read back (`can_be_read`), and after 18,446,744,073,709,551,615 of them.
-    pub fn write(&mut self, world: &World) -> Result<(), OutOfMemory>
+    pub fn write(&mut self, world: &FlatWorld) -> Result<(), OutOfMemory>
         ensures { OnOk result (HasWritten world.now self.old self.new) }
     {
         if world.is_tracing() {
@@ -180,7 +180,7 @@ impl Tracer {
     }
 
     /// The line of the crossing by which a turn came is written, if there is one.
-    pub fn note(&mut self, world: &World, turn: Turn) -> Result<(), OutOfMemory>
+    pub fn note(&mut self, world: &FlatWorld, turn: Turn) -> Result<(), OutOfMemory>
         ensures { OnOk result (HasNoted world.now turn self.old self.new) }
     {
         match turn {

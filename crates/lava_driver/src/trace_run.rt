@@ -15,7 +15,7 @@ use js_desc::ending::Ending as ToldEnding;
 use js_world::js_crossing::ending::{Ending, Turn};
 use js_world::js_machine::frame::{Halt, Mode};
 use js_world::js_machine::stop::Pause;
-use js_world::world::World;
+use js_world::world::FlatWorld;
 use lava_base::ids::PartyId;
 use lava_base::list::List;
 use lava_base::memory::OutOfMemory;
@@ -38,7 +38,7 @@ pub struct Traced {
 }
 
 /// The host's first import is sent, and its line is written.
-fn begin(alloc: Global, world: &mut World, tracer: &mut Tracer) -> Result<Mode, OutOfMemory>
+fn begin(alloc: Global, world: &mut FlatWorld, tracer: &mut Tracer) -> Result<Mode, OutOfMemory>
     requires { world.now.machine.frames ≡ [] }
     ensures { (parties : List (List ℕ)) → tracer.old ≡ trace_start parties →
         IfOk result (λ m. IsTracing parties world.old [] world.new (turn.Runs m) tracer.new) }
@@ -50,7 +50,7 @@ fn begin(alloc: Global, world: &mut World, tracer: &mut Tracer) -> Result<Mode, 
 }
 
 /// The machine runs on to its next crossing, whose line is written.
-fn go_on(world: &mut World, tracer: &mut Tracer, mode: Mode) -> Result<Turn, OutOfMemory>
+fn go_on(world: &mut FlatWorld, tracer: &mut Tracer, mode: Mode) -> Result<Turn, OutOfMemory>
     ensures { (parties : List (List ℕ)) → (first : WorldView) → (talks : List Talk) →
         IsTracing parties first talks world.old (turn.Runs mode) tracer.old →
         IfOk result (λ t. IsTracing parties first talks world.new t tracer.new) }
@@ -62,7 +62,7 @@ fn go_on(world: &mut World, tracer: &mut Tracer, mode: Mode) -> Result<Turn, Out
 
 /// The machine goes on with the outside's answer, and the line of the crossing is written, where it comes to one. What `console` prints goes nowhere.
 fn answer<F: Folder, I: Source, O: Sink, E: Sink, C: Clock>(
-    world: &mut World,
+    world: &mut FlatWorld,
     tracer: &mut Tracer,
     pause: Pause,
     host: &mut Host,
@@ -96,7 +96,7 @@ fn answer<F: Folder, I: Source, O: Sink, E: Sink, C: Clock>(
 
 /// The machine goes on from where it stands, which is not the end.
 fn go_further<F: Folder, I: Source, O: Sink, E: Sink, C: Clock>(
-    world: &mut World,
+    world: &mut FlatWorld,
     tracer: &mut Tracer,
     step: Step,
     host: &mut Host,
@@ -134,7 +134,7 @@ fn go_further<F: Folder, I: Source, O: Sink, E: Sink, C: Clock>(
 
 /// Runs all parties from the host's first import to the end, and writes the line of each crossing as it happens.
 fn run_traced<F: Folder, I: Source, O: Sink, E: Sink, C: Clock>(
-    world: &mut World,
+    world: &mut FlatWorld,
     tracer: &mut Tracer,
     alloc: Global,
     dir: &str,
@@ -207,7 +207,7 @@ fn put_text<O: Sink>(out: &mut O, text: &[u8], failed: Option<Which>) -> Option<
 
 /// The last lines of a trace are written, and the whole is put to the output.
 fn finish<O: Sink>(
-    world: &World,
+    world: &FlatWorld,
     tracer: &mut Tracer,
     alloc: Global,
     ran: Ran,
@@ -228,7 +228,7 @@ fn finish<O: Sink>(
 }
 
 /// So many parties have steps. Want of memory is answered where there are others.
-pub fn as_many(world: &World, count: usize) -> Result<(), OutOfMemory>
+pub fn as_many(world: &FlatWorld, count: usize) -> Result<(), OutOfMemory>
     ensures { OnOk result (length world.now.steps ≡ count) }
 {
     if world.steps().len() != count {
@@ -249,7 +249,7 @@ fn begin_a_trace(alloc: Global, parties: &List<Name>) -> Result<(), OutOfMemory>
 
 /// Runs all parties from the host's first import to the end, and puts the trace of that to the output, in one piece at the end. What `console` prints goes nowhere.
 pub fn trace_run<F: Folder, I: Source, O: Sink, E: Sink, C: Clock>(
-    world: &mut World,
+    world: &mut FlatWorld,
     alloc: Global,
     parties: &List<Name>,
     dir: &str,

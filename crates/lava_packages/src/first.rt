@@ -7,7 +7,7 @@ use crate::common::CommonPart;
 use crate::packages::packages_of;
 use lava_base::memory::OutOfMemory;
 use lava_start::first::first_world;
-use lava_start::js_world::world::World;
+use lava_start::js_world::world::FlatWorld;
 use pkg_graph::graph::Package;
 use pkg_load::module::LoadedModule;
 use pkg_source::code::ModuleCode;
@@ -22,7 +22,7 @@ pub fn first_of(
     policy: &Policy,
     common: CommonPart,
     budget: u64,
-) -> Result<World, OutOfMemory>
+) -> Result<FlatWorld, OutOfMemory>
     ensures { let c = common in
         IfOk result (IsFirstOf packages.now modules.now policy.now c budget) }
 {

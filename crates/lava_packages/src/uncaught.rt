@@ -10,11 +10,11 @@ use lava_base::list::List;
 use lava_base::marks::Marks;
 use lava_base::memory::OutOfMemory;
 use lava_host::printed::{NO_MARKS, push_value};
-use lava_start::js_world::world::World;
+use lava_start::js_world::world::FlatWorld;
 use std::alloc::Global;
 
 /// The marks of a value that is an object, as the party in the machine sees it.
-fn marks_of(world: &World, value: &Value) -> Marks
+fn marks_of(world: &FlatWorld, value: &Value) -> Marks
     ensures { printed_value (λ r. printed_reference result) value.now
         ≡ shown_in world.now.machine value.now }
 {
@@ -25,7 +25,7 @@ fn marks_of(world: &World, value: &Value) -> Marks
 }
 
 /// A value as `console` prints it.
-fn printed(alloc: Global, world: &World, value: &Value) -> Result<List<u8>, OutOfMemory>
+fn printed(alloc: Global, world: &FlatWorld, value: &Value) -> Result<List<u8>, OutOfMemory>
     ensures { IfOk result (λ text. text ≡ shown_in world.now.machine value.now) }
 {
     let mut text = List::new(alloc);
@@ -34,7 +34,7 @@ fn printed(alloc: Global, world: &World, value: &Value) -> Result<List<u8>, OutO
 }
 
 /// The value that is thrown, where the host's import is answered by a throw.
-fn thrown(world: &World) -> Option<&Value>
+fn thrown(world: &FlatWorld) -> Option<&Value>
     ensures { option_map (λ v. v.now) result ≡ thrown_in world.now.last }
 {
     match world.last() {
@@ -44,7 +44,7 @@ fn thrown(world: &World) -> Option<&Value>
 }
 
 /// What the host's import is answered with, as the host prints it; nothing where nothing is thrown. The host's things come into the machine.
-pub fn uncaught(alloc: Global, world: &mut World) -> Result<Option<List<u8>>, OutOfMemory>
+pub fn uncaught(alloc: Global, world: &mut FlatWorld) -> Result<Option<List<u8>>, OutOfMemory>
     ensures { IfOk result (IsUncaughtIn world.old) }
 {
     world.turn_to(0)?;

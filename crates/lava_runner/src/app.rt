@@ -15,7 +15,7 @@ use lava_base::memory::OutOfMemory;
 use lava_base::name::Name;
 use lava_driver::js_crossing::ending::Ending;
 use lava_driver::js_run_laws::journal_is_net;
-use lava_driver::js_world::world::World;
+use lava_driver::js_world::world::FlatWorld;
 use lava_driver::run::{Ran, run};
 use lava_driver::trace_run::{as_many, trace_run};
 use lava_packages::common::{CommonPart, RunFault, common_part};
@@ -39,7 +39,7 @@ use std::alloc::Global;
 /// The thrown value as `console` prints it, where a run ends by it.
 fn uncaught_at(
     alloc: Global,
-    world: &mut World,
+    world: &mut FlatWorld,
     ending: Ending,
 ) -> Result<Option<List<u8>>, OutOfMemory>
     ensures { IfOk result (IsUncaughtText world.old ending) }
@@ -51,7 +51,7 @@ fn uncaught_at(
 }
 
 /// The steps that each party has taken.
-fn steps_of(alloc: Global, world: &World) -> Result<List<u64>, OutOfMemory>
+fn steps_of(alloc: Global, world: &FlatWorld) -> Result<List<u64>, OutOfMemory>
     ensures { IfOk result (λ steps. steps ≡ world.now.steps) }
 {
     let mut steps = List::new(alloc);
@@ -62,7 +62,7 @@ fn steps_of(alloc: Global, world: &World) -> Result<List<u64>, OutOfMemory>
 /// The report on a run of these parties that is over. Want of memory is answered where there are others.
 fn report_of(
     alloc: Global,
-    world: &mut World,
+    world: &mut FlatWorld,
     names: List<Name>,
     ran: Ran,
 ) -> Result<Report, OutOfMemory>
@@ -84,7 +84,7 @@ fn report_of(
 /// Runs an application from a world in which nothing has happened, and reports on it.
 fn run_world<F: Folder, I: Source, O: Sink, E: Sink, C: Clock>(
     alloc: Global,
-    world: &mut World,
+    world: &mut FlatWorld,
     names: List<Name>,
     emit: bool,
     dir: &str,
@@ -140,7 +140,7 @@ fn run_packages<F: Folder, I: Source, O: Sink, E: Sink, C: Clock>(
 /// Runs an application from a world in which nothing has happened, with a trace, and reports on it.
 fn trace_world<F: Folder, I: Source, O: Sink, E: Sink, C: Clock>(
     alloc: Global,
-    world: &mut World,
+    world: &mut FlatWorld,
     parties: List<Name>,
     dir: &str,
     folder: &mut F,

@@ -12,12 +12,13 @@ use crate::packages::{
     PackageSource, all_leads, host_links, host_package, package_own, place_holder,
 };
 use js_code::code::Code;
+use js_store::flat::FlatStore;
 use js_store::frozen::FrozenStore;
 use js_term::term::Template;
 use js_world::js_crossing::leads::Lead;
 use js_world::js_machine::machine::Machine;
 use js_world::js_machine::own::Own;
-use js_world::world::World;
+use js_world::world::FlatWorld;
 use lava_base::list::List;
 use lava_base::memory::OutOfMemory;
 use std::alloc::Global;
@@ -27,7 +28,7 @@ use std::alloc::Global;
 struct Prepared {
     code: Code,
     places: Vec<u32>,
-    others: Vec<Own>,
+    others: Vec<Own<FlatStore>>,
 }
 
 /// The things of a package, whose templates are appended to a code.
@@ -36,7 +37,7 @@ fn add_package(
     code: &mut Code,
     party: u32,
     source: &PackageSource,
-) -> Result<Own, OutOfMemory>
+) -> Result<Own<FlatStore>, OutOfMemory>
     ensures own { IfOk result (IsPackageOver code.new party source.now) }
     ensures keeps { KeepsTemplates code.old code.new }
 {
@@ -59,7 +60,7 @@ fn add_packages(
     alloc: Global,
     code: &mut Code,
     packages: &[PackageSource],
-    others: &mut Vec<Own>,
+    others: &mut Vec<Own<FlatStore>>,
 ) -> Result<(), OutOfMemory>
     ensures packages { OnOk result (AreAppended others.old.items code.new packages.now others.new.items) }
     ensures keeps { KeepsTemplates code.old code.new }
@@ -74,7 +75,7 @@ fn add_packages(
 }
 
 /// The place of the host, whose things are in the machine.
-fn host_place(alloc: Global) -> Result<Vec<Own>, OutOfMemory>
+fn host_place(alloc: Global) -> Result<Vec<Own<FlatStore>>, OutOfMemory>
     ensures { IfOk result (λ p. IsPlace p.items) }
 {
     let mut others = Vec::new(alloc);
@@ -108,7 +109,7 @@ fn host_machine(
     common: FrozenStore,
     code: Code,
     places: Vec<u32>,
-) -> Result<Machine, OutOfMemory>
+) -> Result<Machine<FlatStore>, OutOfMemory>
     ensures { IfOk result (IsHostMachine common code places.items) }
 {
     let objects = host_store(alloc)?;
@@ -130,11 +131,11 @@ fn host_machine(
 /// The machine of all parties over that of the host.
 fn world_of(
     alloc: Global,
-    machine: Machine,
-    others: Vec<Own>,
+    machine: Machine<FlatStore>,
+    others: Vec<Own<FlatStore>>,
     leads: Vec<List<Lead>>,
     budget: u64,
-) -> Result<World, OutOfMemory>
+) -> Result<FlatWorld, OutOfMemory>
     ensures new { IfOk result (λ world. world ≡ as_new machine others.items leads.items budget) }
     ensures rests { IfOk result RestsFirst }
 {
@@ -148,7 +149,7 @@ fn world_over(
     prepared: Prepared,
     leads: Vec<List<Lead>>,
     budget: u64,
-) -> Result<World, OutOfMemory>
+) -> Result<FlatWorld, OutOfMemory>
     ensures { IfOk result (IsWorldOver common prepared leads.items budget) }
 {
     let Prepared {
@@ -168,7 +169,7 @@ pub fn first_world(
     templates: &[Template],
     packages: &[PackageSource],
     budget: u64,
-) -> Result<World, OutOfMemory>
+) -> Result<FlatWorld, OutOfMemory>
     ensures { let parts = run_parts_of common templates.now packages.now in
         IfOk result (IsFirstWorld parts budget) }
 {

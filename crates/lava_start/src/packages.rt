@@ -62,7 +62,7 @@ pub(crate) fn host_package(alloc: Global) -> Result<Package, OutOfMemory>
 }
 
 /// Things for the place of the party in the machine, which nothing reads.
-pub(crate) fn place_holder(alloc: Global) -> Result<Own, OutOfMemory> {
+pub(crate) fn place_holder(alloc: Global) -> Result<Own<FlatStore>, OutOfMemory> {
     let package = host_package(alloc)?;
     let objects = FlatStore::empty(alloc, PartyId(0));
     Own::new(alloc, objects, package, Vec::new(alloc))
@@ -131,7 +131,7 @@ fn own_with(
     source: &PackageSource,
     modules: Vec<Module>,
     endowed: Endowed,
-) -> Result<Own, OutOfMemory>
+) -> Result<Own<FlatStore>, OutOfMemory>
     ensures { let things = package_with source.now modules.items endowed.builtin in
         let allowed = allowed_names source.now.links.items in
         IfOk result (λ own. own ≡ new_own endowed.objects things allowed) }
@@ -148,7 +148,7 @@ pub(crate) fn package_own(
     party: u32,
     source: &PackageSource,
     modules: Vec<Module>,
-) -> Result<Own, OutOfMemory>
+) -> Result<Own<FlatStore>, OutOfMemory>
     ensures { IfOk result (IsOwnOf party source.now modules.items) }
 {
     let endowed = package_store(alloc, PartyId(party), &source.globals, &source.builtins)?;

@@ -5,4 +5,4 @@ use Rattle.js_crossing.specs.Newest.{with_their_marks}
 use Rattle.js_crossing.proofs.newest.list_marks.Given as goal
 
 abbrev pub invariant-loop-reference : goal.invariant-loop-reference
-invariant-loop-reference l = l.listed ≡ with_their_marks (marks_in l.machine) (take l.reference-index l.references)
+invariant-loop-reference g l = l.listed ≡ with_their_marks (marks_in l.machine) (take l.reference-index l.references)

@@ -4,4 +4,4 @@ use Rattle.js_crossing.specs.Shows.{shows_values}
 use Rattle.js_crossing.proofs.shows.show_values.Given as goal
 
 abbrev pub invariant-loop-i : goal.invariant-loop-i
-invariant-loop-i l = shows_values (drop l.i l.values) l.machine ≡ shows_values l.values l.initial.machine
+invariant-loop-i g l = shows_values (drop l.i l.values) l.machine ≡ shows_values l.values l.initial.machine

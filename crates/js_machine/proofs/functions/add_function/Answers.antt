@@ -9,7 +9,7 @@ use Rattle.js_machine.proofs.functions.add_function.Goals as goal
 
 pub returns-clause-made : goal.returns-clause-made
 returns-clause-made g c =
-    let os = (g.S.Store.objects c.args.store.now) in
+    let os = g.S.Store.objects c.args.store.now in
     let bare = fresh c.args.prototype (function_marks c.args.constructor) c.args.slot in
     let arity = c.hidden-length.ensures ∙ ap (λ v. change.Write (Data v false false true)) c.count_value.ensures in
     let one = written_last os (g.S.Store.objects c.make.new.self) (g.S.Store.objects c.apply.new.self) bare _ (key.Text (codes "length")) _ _ c.in_ok-id.id.0 c.in_ok-id.ensures.ok c.in_ok-id.ensures.id c.in_ok-length_key.ensures arity c.in_ok-apply.ensures.ok in

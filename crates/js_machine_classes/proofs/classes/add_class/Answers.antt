@@ -11,7 +11,7 @@ use Rattle.js_machine_classes.proofs.classes.add_class.Goals as goal
 
 pub returns-clause-made : goal.returns-clause-made
 returns-clause-made g c =
-    let os = (g.S.Store.objects c.args.store.now) in
+    let os = g.S.Store.objects c.args.store.now in
     let more = length-append os (_ ∷ []) in
     let count : c.count.result ≡ suc (length os) = c.count.ensures ∙ ap length c.in_ok-instances.ensures.ok ∙ more ∙ omega arith in
     let back = c.hidden-back.ensures ∙ ap (λ v. change.Write (Data v true false true)) (c.own.ensures ∙ (λ j. value.Ref ((naming_of (c.party-party.ensures j).0).own (count j)))) in

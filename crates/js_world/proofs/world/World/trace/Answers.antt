@@ -5,4 +5,4 @@ use Rattle.js_world.proofs.Traced_laws.{rests_traced}
 use Rattle.js_world.proofs.world.World.trace.Goals as goal
 
 pub returns-clause-rests : goal.returns-clause-rests
-returns-clause-rests c = λ app w r. subst (λ (v : WorldView). Rests app w (record v { tracing = true })) (sym c.self.view_is) (rests_traced app w c.args.self.now r)
+returns-clause-rests g c = λ app w r. subst (λ (v : WorldView). Rests app w (record v { tracing = true })) (sym c.self.view_is) (rests_traced app w c.args.self.now r)
