@@ -42,7 +42,8 @@ pub(crate) fn element_at<S: Store>(
     scope: u32,
     at: u32,
 ) -> Option<Indexed>
-    ensures { let sight = seen (S.owner store.now) (S.objects store.now) code.now scopes.now scope in
+    ensures { let party = S.owner store.now in
+        let sight = seen party (S.objects store.now) code.now scopes.now scope in
         IfSome result (λ i. NamesAtOnce sight at (key.Index i.index) i.steps) }
 {
     let Some(named) = index_at(code, store, scopes, scope, at) else {

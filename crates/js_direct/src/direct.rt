@@ -37,7 +37,8 @@ fn comparison_value<S: Store>(
     left: u32,
     right: u32,
 ) -> Option<Direct>
-    ensures { let sight = seen (S.owner store.now) (S.objects store.now) code.now scopes.now scope in
+    ensures { let party = S.owner store.now in
+        let sight = seen party (S.objects store.now) code.now scopes.now scope in
         IfSome result (IsDirectRow sight (node.Binary operator left right)) }
 {
     let truth = comparison_at(code, store, scopes, scope, operator, left, right);
@@ -59,7 +60,9 @@ fn number_value<S: Store>(
     scope: u32,
     at: u32,
 ) -> Option<Direct>
-    ensures { IfSome result (IsDirect (seen (S.owner store.now) (S.objects store.now) code.now scopes.now scope) at) }
+    ensures { let party = S.owner store.now in
+        let sight = seen party (S.objects store.now) code.now scopes.now scope in
+        IfSome result (IsDirect sight at) }
 {
     let number = number_at(code, store, scopes, scope, at, DEPTH);
     if number.steps == 0 {
@@ -119,7 +122,8 @@ fn named_at<S: Store>(
     key: u32,
     name: u32,
 ) -> Option<Direct>
-    ensures { let sight = seen (S.owner store.now) (S.objects store.now) code.now scopes.now scope in
+    ensures { let party = S.owner store.now in
+        let sight = seen party (S.objects store.now) code.now scopes.now scope in
         IfSome result (IsDirectNamed sight object key name) }
 {
     let Some(id) = object_at(code, store, scopes, scope, object) else {
@@ -142,7 +146,8 @@ fn indexed_at<S: Store>(
     object: u32,
     key: u32,
 ) -> Option<Direct>
-    ensures { let sight = seen (S.owner store.now) (S.objects store.now) code.now scopes.now scope in
+    ensures { let party = S.owner store.now in
+        let sight = seen party (S.objects store.now) code.now scopes.now scope in
         IfSome result (IsDirectRow sight (node.Get object key)) }
 {
     let Some(id) = object_at(code, store, scopes, scope, object) else {
@@ -172,7 +177,8 @@ fn property_at<S: Store>(
     object: u32,
     key: u32,
 ) -> Option<Direct>
-    ensures { let sight = seen (S.owner store.now) (S.objects store.now) code.now scopes.now scope in
+    ensures { let party = S.owner store.now in
+        let sight = seen party (S.objects store.now) code.now scopes.now scope in
         IfSome result (IsDirectRow sight (node.Get object key)) }
 {
     match code.node(key) {
@@ -190,7 +196,9 @@ fn other_at<S: Store>(
     scope: u32,
     at: u32,
 ) -> Option<Direct>
-    ensures { IfSome result (IsDirect (seen (S.owner store.now) (S.objects store.now) code.now scopes.now scope) at) }
+    ensures { let party = S.owner store.now in
+        let sight = seen party (S.objects store.now) code.now scopes.now scope in
+        IfSome result (IsDirect sight at) }
 {
     match code.node(at) {
         Node::Undefined => Some(Direct {
@@ -227,7 +235,9 @@ pub fn value_at<S: Store>(
     scope: u32,
     at: u32,
 ) -> Option<Direct>
-    ensures { IfSome result (IsDirect (seen (S.owner store.now) (S.objects store.now) code.now scopes.now scope) at) }
+    ensures { let party = S.owner store.now in
+        let sight = seen party (S.objects store.now) code.now scopes.now scope in
+        IfSome result (IsDirect sight at) }
 {
     match number_value(code, store, scopes, scope, at) {
         Some(direct) => Some(direct),
@@ -245,7 +255,8 @@ fn other_into<S: Store>(
     at: u32,
     given: &mut Plain,
 ) -> u32
-    ensures { let sight = seen (S.owner store.now) (S.objects store.now) code.now scopes.now scope in
+    ensures { let party = S.owner store.now in
+        let sight = seen party (S.objects store.now) code.now scopes.now scope in
         0 < result → GivesAtOnce sight at (value_of given.new) result }
 {
     match other_at(code, store, scopes, scope, at) {
@@ -267,7 +278,8 @@ pub fn value_into<S: Store>(
     at: u32,
     given: &mut Plain,
 ) -> u32
-    ensures { let sight = seen (S.owner store.now) (S.objects store.now) code.now scopes.now scope in
+    ensures { let party = S.owner store.now in
+        let sight = seen party (S.objects store.now) code.now scopes.now scope in
         0 < result → GivesAtOnce sight at (value_of given.new) result }
 {
     let number = operand_at(code, store, scopes, scope, at, DEPTH);

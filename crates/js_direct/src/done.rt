@@ -27,7 +27,8 @@ fn only_value<S: Store>(
     left: u64,
     given: &mut Plain,
 ) -> u32
-    ensures does { let sight = seen (S.owner store.now) (S.objects store.now) code.now scopes.now scope in
+    ensures does { let party = S.owner store.now in
+        let sight = seen party (S.objects store.now) code.now scopes.now scope in
         let v = value_of given.new in
         0 < result → (common : List CommonObject)
         → DoesAtOnce sight common at v (S.objects store.now) scopes.now result }
@@ -54,7 +55,8 @@ fn put_into<S: Store>(
     left: u64,
     given: &mut Plain,
 ) -> u32
-    ensures does { let sight = seen (S.owner store.old) (S.objects store.old) code.now scopes.now scope in
+    ensures does { let party = S.owner store.old in
+        let sight = seen party (S.objects store.old) code.now scopes.now scope in
         let row = node.Put object key value in
         let v = value_of given.new in
         0 < result → IsDoneRow sight common.now row v (S.objects store.new) scopes.now result }
@@ -83,11 +85,13 @@ pub fn done_at<S: Store>(
     left: u64,
     given: &mut Plain,
 ) -> u32
-    ensures does { let sight = seen (S.owner store.old) (S.objects store.old) code.now scopes.old scope in
+    ensures does { let party = S.owner store.old in
+        let sight = seen party (S.objects store.old) code.now scopes.old scope in
         let v = value_of given.new in
         0 < result → DoesAtOnce sight common.now at v (S.objects store.new) scopes.new result }
     ensures within { result ≤ left }
-    ensures none { result ≡ 0 → (S.objects store.new ≡ S.objects store.old) × (scopes.new ≡ scopes.old) }
+    ensures none { result ≡ 0
+        → (S.objects store.new ≡ S.objects store.old) × (scopes.new ≡ scopes.old) }
     ensures party { S.owner store.new ≡ S.owner store.old }
 {
     match code.node(at) {

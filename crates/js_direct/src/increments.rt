@@ -152,7 +152,8 @@ fn written(
 /// Such a body is done at once in the scope where it begins, which is its own, or not at all.
 #[inline]
 pub fn increment_at(code: &Code, scopes: &mut Scopes, scope: u32, at: u32) -> Incremented
-    ensures { (store : Owned) → let sight = seen store.party store.objects code.now scopes.old scope in
+    ensures { (store : Owned)
+        → let sight = seen store.party store.objects code.now scopes.old scope in
         CameOfBody result sight at scopes.new }
 {
     let Node::Seq { start, count } = code.node(at) else {

@@ -77,7 +77,8 @@ pub(crate) fn slot_number(scopes: &Scopes, scope: u32, hops: u32, slot: u32) -> 
 #[inline]
 fn named_number<S: Store>(store: &S, id: ObjId, name: &Text) -> Counted
     ensures { let key = key_of_text name.now in
-        0 < result.steps → HasData (S.objects store.now) id.0 key (Int result.number) × (result.steps ≡ 4) }
+        0 < result.steps
+        → HasData (S.objects store.now) id.0 key (Int result.number) × (result.steps ≡ 4) }
 {
     match named_data(store, id, name) {
         Some(Value::Int(number)) => Counted {
@@ -93,7 +94,8 @@ fn named_number<S: Store>(store: &S, id: ObjId, name: &Text) -> Counted
 fn indexed_number<S: Store>(store: &S, id: ObjId, index: Counted) -> Counted
     ensures { let key = key_of_text (signed_decimal index.number) in
         let steps = 3 + index.steps in
-        0 < result.steps → HasData (S.objects store.now) id.0 key (Int result.number) × (result.steps ≡ steps) }
+        0 < result.steps
+        → HasData (S.objects store.now) id.0 key (Int result.number) × (result.steps ≡ steps) }
 {
     let steps = steps_of(2, index.steps);
     if steps == 0 {
@@ -133,7 +135,9 @@ pub fn operand_at<S: Store>(
     at: u32,
     depth: u32,
 ) -> Counted
-    ensures { 0 < result.steps → GivesNumber (seen (S.owner store.now) (S.objects store.now) code.now scopes.now scope) at result }
+    ensures { let party = S.owner store.now in
+        let sight = seen party (S.objects store.now) code.now scopes.now scope in
+        0 < result.steps → GivesNumber sight at result }
 {
     match code.node(at) {
         Node::Int(number) => Counted { number, steps: 1 },
@@ -154,7 +158,8 @@ fn binary_number<S: Store>(
     right: u32,
     depth: u32,
 ) -> Counted
-    ensures { let sight = seen (S.owner store.now) (S.objects store.now) code.now scopes.now scope in
+    ensures { let party = S.owner store.now in
+        let sight = seen party (S.objects store.now) code.now scopes.now scope in
         0 < result.steps → IsNumberRow sight (node.Binary operator left right) result }
 {
     let left = operand_at(code, store, scopes, scope, left, depth);
@@ -178,7 +183,8 @@ fn plus_number<S: Store>(
     operand: u32,
     depth: u32,
 ) -> Counted
-    ensures { let sight = seen (S.owner store.now) (S.objects store.now) code.now scopes.now scope in
+    ensures { let party = S.owner store.now in
+        let sight = seen party (S.objects store.now) code.now scopes.now scope in
         0 < result.steps → IsNumberRow sight (node.Unary Plus operand) result }
 {
     let number = operand_at(code, store, scopes, scope, operand, depth);
@@ -202,7 +208,8 @@ fn property_number<S: Store>(
     key: u32,
     depth: u32,
 ) -> Counted
-    ensures { let sight = seen (S.owner store.now) (S.objects store.now) code.now scopes.now scope in
+    ensures { let party = S.owner store.now in
+        let sight = seen party (S.objects store.now) code.now scopes.now scope in
         0 < result.steps → IsNumberRow sight (node.Get object key) result }
 {
     let Some(id) = object_at(code, store, scopes, scope, object) else {
@@ -228,7 +235,9 @@ pub fn number_at<S: Store>(
     at: u32,
     depth: u32,
 ) -> Counted
-    ensures { 0 < result.steps → GivesNumber (seen (S.owner store.now) (S.objects store.now) code.now scopes.now scope) at result }
+    ensures { let party = S.owner store.now in
+        let sight = seen party (S.objects store.now) code.now scopes.now scope in
+        0 < result.steps → GivesNumber sight at result }
 {
     if depth == 0 {
         return none();

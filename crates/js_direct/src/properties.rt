@@ -86,7 +86,8 @@ pub fn object_at<S: Store>(
     scope: u32,
     at: u32,
 ) -> Option<ObjId>
-    ensures { let sight = seen (S.owner store.now) (S.objects store.now) code.now scopes.now scope in
+    ensures { let party = S.owner store.now in
+        let sight = seen party (S.objects store.now) code.now scopes.now scope in
         IfSome result (λ id. GivesAtOnce sight at (own_object sight.me id.0) 1) }
 {
     let Node::Local { hops, slot } = code.node(at) else {

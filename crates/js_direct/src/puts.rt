@@ -44,7 +44,8 @@ pub(crate) fn index_at<S: Store>(
     scope: u32,
     at: u32,
 ) -> Option<Named>
-    ensures { let sight = seen (S.owner store.now) (S.objects store.now) code.now scopes.now scope in
+    ensures { let party = S.owner store.now in
+        let sight = seen party (S.objects store.now) code.now scopes.now scope in
         IfSome result (λ n. NamesAtOnce sight at n.key n.steps) }
 {
     let index = operand_at(code, store, scopes, scope, at, DEPTH);
@@ -63,7 +64,8 @@ pub(crate) fn index_at<S: Store>(
 /// The key that a form gives at once: a name, or an array index.
 #[inline]
 fn key_at<S: Store>(code: &Code, store: &S, scopes: &Scopes, scope: u32, at: u32) -> Option<Named>
-    ensures { let sight = seen (S.owner store.now) (S.objects store.now) code.now scopes.now scope in
+    ensures { let party = S.owner store.now in
+        let sight = seen party (S.objects store.now) code.now scopes.now scope in
         IfSome result (λ n. NamesAtOnce sight at n.key n.steps) }
 {
     let Node::Text(name) = code.node(at) else {
@@ -210,7 +212,8 @@ pub fn put_at<S: Store>(
     value: u32,
     left: u64,
 ) -> Option<Direct>
-    ensures put { let sight = seen (S.owner store.old) (S.objects store.old) code.now scopes.now scope in
+    ensures put { let party = S.owner store.old in
+        let sight = seen party (S.objects store.old) code.now scopes.now scope in
         IfSome result (IsPutRow sight (node.Put object key value) (S.objects store.new)) }
     ensures left { IfSome result (λ d. d.steps ≤ left) }
     ensures some { IfSome result (λ d. 0 < d.steps) }

@@ -33,9 +33,12 @@ pub fn set_at<S: Store>(
     left: u64,
     given: &mut Plain,
 ) -> u32
-    ensures does { let sight = seen (S.owner store.now) (S.objects store.now) code.now scopes.old scope in
+    ensures does { let party = S.owner store.now in
+        let sight = seen party (S.objects store.now) code.now scopes.old scope in
         let row = node.SetLocal hops slot false value in
-        0 < result → (common : List CommonObject) → IsDoneRow sight common row (value_of given.new) (S.objects store.now) scopes.new result }
+        let v = value_of given.new in
+        0 < result → (common : List CommonObject)
+        → IsDoneRow sight common row v (S.objects store.now) scopes.new result }
     ensures within { result ≤ left }
     ensures none { result ≡ 0 → scopes.new ≡ scopes.old }
 {
@@ -63,9 +66,12 @@ pub fn init_at<S: Store>(
     left: u64,
     given: &mut Plain,
 ) -> u32
-    ensures does { let sight = seen (S.owner store.now) (S.objects store.now) code.now scopes.old scope in
+    ensures does { let party = S.owner store.now in
+        let sight = seen party (S.objects store.now) code.now scopes.old scope in
         let row = node.Init hops slot value in
-        0 < result → (common : List CommonObject) → IsDoneRow sight common row (value_of given.new) (S.objects store.now) scopes.new result }
+        let v = value_of given.new in
+        0 < result → (common : List CommonObject)
+        → IsDoneRow sight common row v (S.objects store.now) scopes.new result }
     ensures within { result ≤ left }
     ensures none { result ≡ 0 → scopes.new ≡ scopes.old }
 {

@@ -59,7 +59,8 @@ pub fn comparison_at<S: Store>(
     left: u32,
     right: u32,
 ) -> Truth
-    ensures { let sight = seen (S.owner store.now) (S.objects store.now) code.now scopes.now scope in
+    ensures { let party = S.owner store.now in
+        let sight = seen party (S.objects store.now) code.now scopes.now scope in
         0 < result.steps → IsTruthRow sight (node.Binary operator left right) result }
 {
     let left = operand_at(code, store, scopes, scope, left, DEPTH);
@@ -95,7 +96,9 @@ pub fn is_true(value: Plain) -> bool
 /// Whether what a form gives at once counts as true.
 #[inline(never)]
 fn any_truth<S: Store>(code: &Code, store: &S, scopes: &Scopes, scope: u32, at: u32) -> Truth
-    ensures { 0 < result.steps → GivesTruth (seen (S.owner store.now) (S.objects store.now) code.now scopes.now scope) at result }
+    ensures { let party = S.owner store.now in
+        let sight = seen party (S.objects store.now) code.now scopes.now scope in
+        0 < result.steps → GivesTruth sight at result }
 {
     let mut given = Plain::Undefined;
     let steps = value_into(code, store, scopes, scope, at, &mut given);
@@ -108,7 +111,9 @@ fn any_truth<S: Store>(code: &Code, store: &S, scopes: &Scopes, scope: u32, at: 
 /// Whether what a form gives at once counts as true. (Two numbers are compared without a value.)
 #[inline]
 pub fn truth_at<S: Store>(code: &Code, store: &S, scopes: &Scopes, scope: u32, at: u32) -> Truth
-    ensures { 0 < result.steps → GivesTruth (seen (S.owner store.now) (S.objects store.now) code.now scopes.now scope) at result }
+    ensures { let party = S.owner store.now in
+        let sight = seen party (S.objects store.now) code.now scopes.now scope in
+        0 < result.steps → GivesTruth sight at result }
 {
     if let Node::Binary {
         operator,

@@ -67,7 +67,8 @@ fn write_element<S: Store>(
     value: u32,
     left: u64,
 ) -> Option<Direct>
-    ensures write { let sight = seen (S.owner store.old) (S.objects store.old) code.now scopes.now scope in
+    ensures write { let party = S.owner store.old in
+        let sight = seen party (S.objects store.old) code.now scopes.now scope in
         let row = node.Put object key value in
         IfSome result (IsAppendRow sight common.now row (S.objects store.new)) }
     ensures left { IfSome result (λ d. d.steps ≤ left) }
@@ -129,7 +130,8 @@ pub fn write_at<S: Store>(
     value: u32,
     left: u64,
 ) -> Option<Direct>
-    ensures write { let sight = seen (S.owner store.old) (S.objects store.old) code.now scopes.now scope in
+    ensures write { let party = S.owner store.old in
+        let sight = seen party (S.objects store.old) code.now scopes.now scope in
         let row = node.Put object key value in
         IfSome result (IsAppendRow sight common.now row (S.objects store.new)) }
     ensures left { IfSome result (λ d. d.steps ≤ left) }

@@ -66,7 +66,8 @@ fn body_at<S: Store>(store: &S, id: ObjId) -> Option<BodyId>
 #[inline]
 fn closure_of<S: Store>(store: &S, id: ObjId) -> Result<Option<Closure>, OutOfMemory>
     requires { id.0 < length (S.objects store.now) }
-    ensures { IfOk result (λ closure. closure ≡ closure_in (object_at (S.objects store.now) id.0).slot) }
+    ensures { let slot = (object_at (S.objects store.now) id.0).slot in
+        IfOk result (λ closure. closure ≡ closure_in slot) }
 {
     closure_in(store.slot(id))
 }

@@ -66,7 +66,11 @@ fn item_count<S: Store>(machine: &Machine<S>, target: Target) -> Result<u32, Out
 }
 
 /// So many items of an object come on the stack of values.
-fn push_items<S: Store>(machine: &mut Machine<S>, target: Target, count: u32) -> Result<(), OutOfMemory>
+fn push_items<S: Store>(
+    machine: &mut Machine<S>,
+    target: Target,
+    count: u32,
+) -> Result<(), OutOfMemory>
     requires { IsSeen machine.old.objects machine.old.common target }
     ensures { let object = object_seen machine.old.objects machine.old.common target in
         let items = items_from (naming_of machine.old.me) object 0 count in

@@ -111,7 +111,10 @@ pub fn apply_super_call<S: Store>(machine: &mut Machine<S>, done: u32) -> Result
 
 // CONSTRUCTIONS
 /// A `super` call: the function that runs is asked for its prototype (ECMA-262, SuperCall).
-pub fn begin_super_new<S: Store>(machine: &mut Machine<S>, arguments: u32) -> Result<Mode, OutOfMemory>
+pub fn begin_super_new<S: Store>(
+    machine: &mut Machine<S>,
+    arguments: u32,
+) -> Result<Mode, OutOfMemory>
     ensures { let names = naming_of machine.old.me in
         let arguments = arguments_at machine.old.code (term_at machine.old.code) arguments in
         IfOk result (LeadsTo (λ a. super_news names a.shared arguments (party_of a machine.old))

@@ -51,7 +51,8 @@ fn add_class<S: Store>(
         let instance = class_instance above (names.own (suc count)) in
         let prototype = class_prototype (names.own count) in
         let function = new_function (Some over) constructor slot arity name (prototype ∷ []) in
-        OnOk result (S.objects store.new ≡ (S.objects store.old ++ instance ∷ []) ++ function ∷ []) }
+        let made = (S.objects store.old ++ instance ∷ []) ++ function ∷ [] in
+        OnOk result (S.objects store.new ≡ made) }
     ensures party { S.owner store.new ≡ S.owner store.old }
 {
     let party = store.party();
@@ -184,7 +185,11 @@ fn class_above<S: Store>(
 }
 
 /// A parent is asked for its `prototype`.
-fn ask_prototype<S: Store>(machine: &mut Machine<S>, class: u32, parent: Ref) -> Result<Mode, OutOfMemory>
+fn ask_prototype<S: Store>(
+    machine: &mut Machine<S>,
+    class: u32,
+    parent: Ref,
+) -> Result<Mode, OutOfMemory>
     ensures { let names = naming_of machine.old.me in
         let code = machine.old.code in
         let get = ask_kind.Get prototype_key (value_kind.Ref parent) in
@@ -202,7 +207,11 @@ fn ask_prototype<S: Store>(machine: &mut Machine<S>, class: u32, parent: Ref) ->
 }
 
 /// The parent of a class is an object: its `prototype` is asked for, where it constructs.
-fn class_over<S: Store>(machine: &mut Machine<S>, class: u32, parent: Ref) -> Result<Mode, OutOfMemory>
+fn class_over<S: Store>(
+    machine: &mut Machine<S>,
+    class: u32,
+    parent: Ref,
+) -> Result<Mode, OutOfMemory>
     ensures { let names = naming_of machine.old.me in
         let code = machine.old.code in
         IfOk result (LeadsTo (λ a. parent_comes names a.shared code class (value_kind.Ref parent)
@@ -215,7 +224,11 @@ fn class_over<S: Store>(machine: &mut Machine<S>, class: u32, parent: Ref) -> Re
 }
 
 /// The parent of a class is an object or null.
-fn class_under<S: Store>(machine: &mut Machine<S>, class: u32, parent: Option<Ref>) -> Result<Mode, OutOfMemory>
+fn class_under<S: Store>(
+    machine: &mut Machine<S>,
+    class: u32,
+    parent: Option<Ref>,
+) -> Result<Mode, OutOfMemory>
     ensures { let names = naming_of machine.old.me in
         let code = machine.old.code in
         IfOk result (LeadsTo (λ a. parent_comes names a.shared code class (proto_value parent)
@@ -232,7 +245,11 @@ fn class_under<S: Store>(machine: &mut Machine<S>, class: u32, parent: Option<Re
 }
 
 /// The parent of a class comes (ECMA-262, ClassDefinitionEvaluation, step 8).
-pub fn parent_comes<S: Store>(machine: &mut Machine<S>, class: u32, value: Value) -> Result<Mode, OutOfMemory>
+pub fn parent_comes<S: Store>(
+    machine: &mut Machine<S>,
+    class: u32,
+    value: Value,
+) -> Result<Mode, OutOfMemory>
     ensures { let names = naming_of machine.old.me in
         let code = machine.old.code in
         IfOk result (LeadsTo (λ a. parent_comes names a.shared code class value

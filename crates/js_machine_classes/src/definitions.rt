@@ -145,7 +145,11 @@ pub fn add_hole<S: Store>(machine: &mut Machine<S>, id: ObjId) -> Result<(), Out
 }
 
 /// An own array has one item more (ECMA-262, ArrayAccumulation, of an AssignmentExpression).
-pub fn add_item<S: Store>(machine: &mut Machine<S>, id: ObjId, value: Value) -> Result<(), OutOfMemory>
+pub fn add_item<S: Store>(
+    machine: &mut Machine<S>,
+    id: ObjId,
+    value: Value,
+) -> Result<(), OutOfMemory>
     requires { id.0 < length machine.old.objects }
     ensures { OnOk result (machine.new ≡ with_item id.0 value machine.old) }
 {

@@ -202,7 +202,11 @@ fn add_hole_to<S: Store>(machine: &mut Machine<S>, array: Ref) -> Result<(), Out
 }
 
 /// An array has one item more.
-fn add_item_to<S: Store>(machine: &mut Machine<S>, array: Ref, value: Value) -> Result<(), OutOfMemory>
+fn add_item_to<S: Store>(
+    machine: &mut Machine<S>,
+    array: Ref,
+    value: Value,
+) -> Result<(), OutOfMemory>
     ensures item { OnOk result (HasItem array value machine.old machine.new) }
     ensures rest { OnOk result (HasOtherObjects machine.old machine.new) }
 {

@@ -31,7 +31,11 @@ fn imported_module<S: Store>(machine: &Machine<S>, path: &[u16]) -> Result<Optio
 }
 
 /// A module that is there is imported; of one that has begun, what `exports` is at that moment.
-fn import_numbered<S: Store>(machine: &mut Machine<S>, number: u32, request: &[u16]) -> Result<Mode, OutOfMemory>
+fn import_numbered<S: Store>(
+    machine: &mut Machine<S>,
+    number: u32,
+    request: &[u16],
+) -> Result<Mode, OutOfMemory>
     ensures { let names = naming_of machine.old.me in
         IfOk result (LeadsTo (λ a. let p = party_of a machine.old in
         imports_there names request.now (Some number) (loaded_at names (Some number) p) p)
@@ -62,7 +66,11 @@ fn import_there<S: Store>(
 }
 
 /// The module that a link and a path name is imported.
-fn import_module<S: Store>(machine: &mut Machine<S>, link: &Text, path: &Text) -> Result<Mode, OutOfMemory>
+fn import_module<S: Store>(
+    machine: &mut Machine<S>,
+    link: &Text,
+    path: &Text,
+) -> Result<Mode, OutOfMemory>
     ensures { let names = naming_of machine.old.me in
         IfOk result (LeadsTo (λ a. imports names link.now path.now (party_of a machine.old))
         machine.old machine.new) }
@@ -75,7 +83,11 @@ fn import_module<S: Store>(machine: &mut Machine<S>, link: &Text, path: &Text) -
 }
 
 /// What an import of another party runs, which names the link and the path that it imports.
-pub fn import<S: Store>(machine: &mut Machine<S>, link: &Text, path: &Text) -> Result<Mode, OutOfMemory>
+pub fn import<S: Store>(
+    machine: &mut Machine<S>,
+    link: &Text,
+    path: &Text,
+) -> Result<Mode, OutOfMemory>
     requires { machine.now.frames ≡ [] }
     ensures { IfOk result (IsImported link.now path.now machine.old machine.new) }
 {

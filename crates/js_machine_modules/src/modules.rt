@@ -149,7 +149,10 @@ fn make_require<S: Store>(machine: &mut Machine<S>, number: u32) -> Result<u32, 
 }
 
 /// Makes the three objects of a module.
-fn make_module_objects<S: Store>(machine: &mut Machine<S>, number: u32) -> Result<ModuleObjects, OutOfMemory>
+fn make_module_objects<S: Store>(
+    machine: &mut Machine<S>,
+    number: u32,
+) -> Result<ModuleObjects, OutOfMemory>
     ensures numbers { IfOk result (λ o. o ≡ numbers_from (length machine.old.objects)) }
     ensures made { OnOk result (machine.new ≡ with_module_objects number machine.old) }
 {
@@ -257,7 +260,10 @@ fn exports_ask<S: Store>(machine: &Machine<S>, object: u32) -> Result<Ask, OutOf
 }
 
 /// The `exports` of a module that has begun is waited for.
-pub fn wait_for_exports<S: Store>(machine: &mut Machine<S>, object: u32) -> Result<Mode, OutOfMemory>
+pub fn wait_for_exports<S: Store>(
+    machine: &mut Machine<S>,
+    object: u32,
+) -> Result<Mode, OutOfMemory>
     ensures { let names = naming_of machine.old.me in
         IfOk result (LeadsTo (λ a. waits_for_exports names object (party_of a machine.old))
         machine.old machine.new) }
@@ -267,7 +273,11 @@ pub fn wait_for_exports<S: Store>(machine: &mut Machine<S>, object: u32) -> Resu
 }
 
 /// The `exports` of a module object is asked for, and a frame waits.
-pub fn get_exports<S: Store>(machine: &mut Machine<S>, object: u32, frame: Frame) -> Result<Mode, OutOfMemory>
+pub fn get_exports<S: Store>(
+    machine: &mut Machine<S>,
+    object: u32,
+    frame: Frame,
+) -> Result<Mode, OutOfMemory>
     ensures { let names = naming_of machine.old.me in
         IfOk result (LeadsTo (λ a. get_exports names object (party_of a machine.old)
         (over frame machine.old a)) (under frame machine.old) machine.new) }
@@ -277,7 +287,11 @@ pub fn get_exports<S: Store>(machine: &mut Machine<S>, object: u32, frame: Frame
 }
 
 /// An import is sent over a link, and what comes is waited for.
-fn send_import<S: Store>(machine: &mut Machine<S>, link: Text, path: Text) -> Result<Mode, OutOfMemory>
+fn send_import<S: Store>(
+    machine: &mut Machine<S>,
+    link: Text,
+    path: Text,
+) -> Result<Mode, OutOfMemory>
     ensures mode { IfOk result (λ m. m ≡ mode_kind.Import) }
     ensures sent { OnOk result (machine.new ≡ import_sent link path machine.old) }
 {
@@ -356,7 +370,11 @@ fn take_text<S: Store>(machine: &mut Machine<S>) -> Result<Text, OutOfMemory>
 }
 
 /// A module whose body or whose `exports` threw counts as not begun.
-fn module_throws<S: Store>(machine: &mut Machine<S>, number: u32, template: u32) -> Result<Mode, OutOfMemory>
+fn module_throws<S: Store>(
+    machine: &mut Machine<S>,
+    number: u32,
+    template: u32,
+) -> Result<Mode, OutOfMemory>
     ensures mode { IfOk result (λ m. m ≡ mode_kind.Throw) }
     ensures state { OnOk result (machine.new ≡ module_threw number template machine.old) }
 {

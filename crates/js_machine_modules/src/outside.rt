@@ -193,7 +193,10 @@ fn give_answer<S: Store>(machine: &mut Machine<S>, answer: HostAnswer) -> Result
 }
 
 /// The outside answers the newest call, at which the run paused.
-pub fn answer_outside<S: Store>(machine: &mut Machine<S>, answer: HostAnswer) -> Result<Mode, OutOfMemory>
+pub fn answer_outside<S: Store>(
+    machine: &mut Machine<S>,
+    answer: HostAnswer,
+) -> Result<Mode, OutOfMemory>
     ensures { IfOk result (IsAnswered answer machine.old machine.new) }
 {
     give_answer(machine, answer)

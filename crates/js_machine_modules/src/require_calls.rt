@@ -280,7 +280,11 @@ fn require_there<S: Store>(
 }
 
 /// A path is required that is relative to the directory of a module.
-fn require_path<S: Store>(machine: &mut Machine<S>, number: u32, request: &[u16]) -> Result<Mode, OutOfMemory>
+fn require_path<S: Store>(
+    machine: &mut Machine<S>,
+    number: u32,
+    request: &[u16],
+) -> Result<Mode, OutOfMemory>
     ensures { let names = naming_of machine.old.me in
         let path = module_path (slice_get machine.old.own_package.modules number) in
         IfOk result (LeadsTo (λ a. requires_path names path request.now (party_of a machine.old))
@@ -293,7 +297,11 @@ fn require_path<S: Store>(machine: &mut Machine<S>, number: u32, request: &[u16]
 }
 
 /// A request of a module.
-fn require<S: Store>(machine: &mut Machine<S>, number: u32, request: &[u16]) -> Result<Mode, OutOfMemory>
+fn require<S: Store>(
+    machine: &mut Machine<S>,
+    number: u32,
+    request: &[u16],
+) -> Result<Mode, OutOfMemory>
     ensures { let names = naming_of machine.old.me in
         let path = module_path (slice_get machine.old.own_package.modules number) in
         IfOk result (LeadsTo (λ a. requires_by names path request.now (party_of a machine.old))
@@ -318,7 +326,10 @@ fn request<S: Store>(machine: &Machine<S>) -> Result<Option<Text>, OutOfMemory>
 }
 
 /// The value of a request of the texts that a compartment evaluates, where there is one.
-fn mapped_value<S: Store>(machine: &Machine<S>, request: &Text) -> Result<Option<Value>, OutOfMemory>
+fn mapped_value<S: Store>(
+    machine: &Machine<S>,
+    request: &Text,
+) -> Result<Option<Value>, OutOfMemory>
     ensures { let own = machine.now.own_package in
         IfOk result (λ value. value ≡ lookup (same_units request.now) own.mapped) }
 {

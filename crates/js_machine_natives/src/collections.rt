@@ -71,7 +71,10 @@ fn collection_answer<S: Store>(machine: &Machine<S>, me: Ref) -> Result<Option<V
 }
 
 /// What an own object answers to that native, and what becomes of it.
-fn collect_object<S: Store>(machine: &mut Machine<S>, id: ObjId) -> Result<Option<Value>, OutOfMemory>
+fn collect_object<S: Store>(
+    machine: &mut Machine<S>,
+    id: ObjId,
+) -> Result<Option<Value>, OutOfMemory>
     ensures answer { let entries = entries_of (object_at machine.old.objects id.0).slot in
         IfOk result (λ v. v ≡ (table_by entries machine.old.asked.ask).0) }
     ensures changed { let entries = entries_of (object_at machine.old.objects id.0).slot in
@@ -102,7 +105,10 @@ fn collect<S: Store>(machine: &mut Machine<S>, me: Ref) -> Result<Option<Value>,
 }
 
 /// What a table gives.
-fn give_found<S: Store>(machine: &mut Machine<S>, answer: Option<Value>) -> Result<Mode, OutOfMemory>
+fn give_found<S: Store>(
+    machine: &mut Machine<S>,
+    answer: Option<Value>,
+) -> Result<Mode, OutOfMemory>
     ensures { let decision = table_given answer in
         IfOk result (LeadsTo (λ a. follows_by (naming_of machine.old.me) (λ n. as_it_is) decision
         (party_of a machine.old)) machine.old machine.new) }

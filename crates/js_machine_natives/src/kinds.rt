@@ -31,7 +31,10 @@ use lava_base::ids::Ref;
 use lava_base::memory::OutOfMemory;
 
 /// What `classOf` decides of these operands.
-fn kind_decision<S: Store>(machine: &Machine<S>, args: &[Value]) -> Result<Decision<MakerNext>, OutOfMemory>
+fn kind_decision<S: Store>(
+    machine: &Machine<S>,
+    args: &[Value],
+) -> Result<Decision<MakerNext>, OutOfMemory>
     ensures { let known = known_of machine.now (first_object args.now) in
         let names = naming_of machine.now.me in
         let seen = marks_seen names machine.now.objects machine.now.common known in
@@ -81,7 +84,10 @@ fn ask_kind_of<S: Store>(
 }
 
 /// Follows what `classOf` decides.
-fn follow_kind<S: Store>(machine: &mut Machine<S>, decision: Decision<MakerNext>) -> Result<Mode, OutOfMemory>
+fn follow_kind<S: Store>(
+    machine: &mut Machine<S>,
+    decision: Decision<MakerNext>,
+) -> Result<Mode, OutOfMemory>
     ensures { IfOk result (LeadsTo (λ a. kind_follows (naming_of machine.old.me) a.shared decision
         (party_of a machine.old)) machine.old machine.new) }
 {

@@ -71,7 +71,11 @@ pub fn give_made_text<S: Store>(machine: &mut Machine<S>, text: Text) -> Result<
 }
 
 /// A text that a native gives: one that it makes is charged.
-fn give_text_of<S: Store>(machine: &mut Machine<S>, which: Native, text: Text) -> Result<Mode, OutOfMemory>
+fn give_text_of<S: Store>(
+    machine: &mut Machine<S>,
+    which: Native,
+    text: Text,
+) -> Result<Mode, OutOfMemory>
     ensures { let made = makes_text which in
         IfOk result (LeadsTo (λ a. gives_text made text (party_of a machine.old))
         machine.old machine.new) }
@@ -83,7 +87,11 @@ fn give_text_of<S: Store>(machine: &mut Machine<S>, which: Native, text: Text) -
 }
 
 /// A value that a native gives: a text that it makes is charged once it is known.
-fn give_value_of<S: Store>(machine: &mut Machine<S>, which: Native, value: Value) -> Result<Mode, OutOfMemory>
+fn give_value_of<S: Store>(
+    machine: &mut Machine<S>,
+    which: Native,
+    value: Value,
+) -> Result<Mode, OutOfMemory>
     ensures { let reply = reply_kind.Value value in
         IfOk result (LeadsTo (λ a. native_gives which reply (party_of a machine.old))
         machine.old machine.new) }
@@ -95,7 +103,11 @@ fn give_value_of<S: Store>(machine: &mut Machine<S>, which: Native, value: Value
 }
 
 /// What a native gives.
-fn give_native<S: Store>(machine: &mut Machine<S>, which: Native, reply: Reply) -> Result<Mode, OutOfMemory>
+fn give_native<S: Store>(
+    machine: &mut Machine<S>,
+    which: Native,
+    reply: Reply,
+) -> Result<Mode, OutOfMemory>
     ensures { IfOk result (LeadsTo (λ a. native_gives which reply (party_of a machine.old))
         machine.old machine.new) }
 {
@@ -168,7 +180,11 @@ fn native_decision<S: Store>(
 }
 
 /// A native that asks no `Slot` does what it does with the newest values, its operands.
-fn act_decided<S: Store>(machine: &mut Machine<S>, which: Native, count: u32) -> Result<Mode, OutOfMemory>
+fn act_decided<S: Store>(
+    machine: &mut Machine<S>,
+    which: Native,
+    count: u32,
+) -> Result<Mode, OutOfMemory>
     ensures { let args = args_on count machine.old.values in
         let rest = record machine.old { values = drop count machine.old.values } in
         IfOk result (LeadsTo (λ a. native_acts (naming_of machine.old.me) a.shared which args
@@ -180,7 +196,11 @@ fn act_decided<S: Store>(machine: &mut Machine<S>, which: Native, count: u32) ->
 }
 
 /// A native that is charged does what it does with the newest values, its operands.
-fn act_native<S: Store>(machine: &mut Machine<S>, which: Native, count: u32) -> Result<Mode, OutOfMemory>
+fn act_native<S: Store>(
+    machine: &mut Machine<S>,
+    which: Native,
+    count: u32,
+) -> Result<Mode, OutOfMemory>
     ensures { let args = args_on count machine.old.values in
         let rest = record machine.old { values = drop count machine.old.values } in
         IfOk result (LeadsTo (λ a. native_acts (naming_of machine.old.me) a.shared which args
@@ -202,7 +222,11 @@ pub fn last_values<S: Store>(machine: &Machine<S>, count: u32) -> &[Value]
 }
 
 /// What a native costs, whose operands are the newest values.
-pub fn native_cost<S: Store>(machine: &Machine<S>, which: Native, count: u32) -> Result<u64, OutOfMemory>
+pub fn native_cost<S: Store>(
+    machine: &Machine<S>,
+    which: Native,
+    count: u32,
+) -> Result<u64, OutOfMemory>
     ensures { let items = list_items (naming_of machine.now.me) machine.now.objects
         machine.now.common in
         let args = args_on count machine.now.values in
@@ -218,7 +242,11 @@ pub fn native_cost<S: Store>(machine: &Machine<S>, which: Native, count: u32) ->
 }
 
 /// A native is charged, and its operands stay on the stack of values meanwhile.
-fn charge_native<S: Store>(machine: &mut Machine<S>, which: Native, count: u32) -> Result<Mode, OutOfMemory>
+fn charge_native<S: Store>(
+    machine: &mut Machine<S>,
+    which: Native,
+    count: u32,
+) -> Result<Mode, OutOfMemory>
     ensures { let args = args_on count machine.old.values in
         let rest = record machine.old { values = drop count machine.old.values } in
         IfOk result (LeadsTo (λ a. charged (naming_of machine.old.me) a.shared which args (party_of
@@ -237,7 +265,11 @@ fn charge_native<S: Store>(machine: &mut Machine<S>, which: Native, count: u32) 
 }
 
 /// A native begins, whose operands are the newest values.
-pub fn run_native<S: Store>(machine: &mut Machine<S>, which: Native, count: u32) -> Result<Mode, OutOfMemory>
+pub fn run_native<S: Store>(
+    machine: &mut Machine<S>,
+    which: Native,
+    count: u32,
+) -> Result<Mode, OutOfMemory>
     ensures { let args = args_on count machine.old.values in
         let rest = record machine.old { values = drop count machine.old.values } in
         IfOk result (LeadsTo (λ a. runs_native (naming_of machine.old.me) a.shared which args
@@ -250,7 +282,11 @@ pub fn run_native<S: Store>(machine: &mut Machine<S>, which: Native, count: u32)
 }
 
 /// What was charged for comes: the native does what it does.
-fn native_paid<S: Store>(machine: &mut Machine<S>, which: Native, count: u32) -> Result<Mode, OutOfMemory>
+fn native_paid<S: Store>(
+    machine: &mut Machine<S>,
+    which: Native,
+    count: u32,
+) -> Result<Mode, OutOfMemory>
     ensures { IfOk result (IsDelivered (frame_kind.Charged which count) mode_kind.Value
         machine.old machine.new) }
 {

@@ -76,7 +76,10 @@ fn target<S: Store>(machine: &Machine<S>, me: Ref) -> Option<Ref>
 }
 
 /// What a proxy decides of the ask of the machine.
-pub fn proxy_decision<S: Store>(machine: &Machine<S>, me: Ref) -> Result<Decision<ProxyNext>, OutOfMemory>
+pub fn proxy_decision<S: Store>(
+    machine: &Machine<S>,
+    me: Ref,
+) -> Result<Decision<ProxyNext>, OutOfMemory>
     ensures { IfOk result (λ d. d ≡ proxy_decided machine.now me) }
 {
     let target = target(machine, me);

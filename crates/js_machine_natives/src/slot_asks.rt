@@ -159,7 +159,11 @@ fn slot_step<S: Store>(
 }
 
 /// What a native does whose operands are the newest values; None where it has none.
-fn first_step<S: Store>(machine: &Machine<S>, which: Native, count: u32) -> Result<Option<SlotStep>, OutOfMemory>
+fn first_step<S: Store>(
+    machine: &Machine<S>,
+    which: Native,
+    count: u32,
+) -> Result<Option<SlotStep>, OutOfMemory>
     ensures { let args = args_on count machine.now.values in
         IfOk result (λ s. s ≡ first_step machine.now which args) }
 {
@@ -183,7 +187,11 @@ fn asks_foreign<S: Store>(machine: &Machine<S>, count: u32) -> bool
 }
 
 /// What a native costs beside its first step.
-fn cost_behind<S: Store>(machine: &Machine<S>, which: Native, count: u32) -> Result<u32, OutOfMemory>
+fn cost_behind<S: Store>(
+    machine: &Machine<S>,
+    which: Native,
+    count: u32,
+) -> Result<u32, OutOfMemory>
     ensures { let items = list_items (naming_of machine.now.me) machine.now.objects
         machine.now.common in
         let args = args_on count machine.now.values in
@@ -201,7 +209,11 @@ fn cost_behind<S: Store>(machine: &Machine<S>, which: Native, count: u32) -> Res
 }
 
 /// A native that asks is charged, and its operands stay on the stack of values meanwhile.
-fn charge_slot<S: Store>(machine: &mut Machine<S>, which: Native, count: u32) -> Result<Mode, OutOfMemory>
+fn charge_slot<S: Store>(
+    machine: &mut Machine<S>,
+    which: Native,
+    count: u32,
+) -> Result<Mode, OutOfMemory>
     ensures { let names = naming_of machine.old.me in
         let args = args_on count machine.old.values in
         let rest = record machine.old { values = drop count machine.old.values } in
@@ -250,7 +262,11 @@ fn charge_refused<S: Store>(
 }
 
 /// The first operand is asked: a foreign object at once, and any other once that is charged.
-fn charge_or_ask<S: Store>(machine: &mut Machine<S>, which: Native, count: u32) -> Result<Mode, OutOfMemory>
+fn charge_or_ask<S: Store>(
+    machine: &mut Machine<S>,
+    which: Native,
+    count: u32,
+) -> Result<Mode, OutOfMemory>
     ensures { let names = naming_of machine.old.me in
         let args = args_on count machine.old.values in
         let rest = record machine.old { values = drop count machine.old.values } in
@@ -304,7 +320,11 @@ pub fn run_slot_native<S: Store>(
 }
 
 /// The first operand is asked.
-fn ask_first<S: Store>(machine: &mut Machine<S>, which: Native, count: u32) -> Result<Mode, OutOfMemory>
+fn ask_first<S: Store>(
+    machine: &mut Machine<S>,
+    which: Native,
+    count: u32,
+) -> Result<Mode, OutOfMemory>
     ensures { let args = args_on count machine.old.values in
         let rest = record machine.old { values = drop count machine.old.values } in
         IfOk result (LeadsTo (λ a. asks_first (naming_of machine.old.me) a.shared which args
@@ -315,7 +335,11 @@ fn ask_first<S: Store>(machine: &mut Machine<S>, which: Native, count: u32) -> R
 }
 
 /// The first of these operands is asked.
-fn ask_with<S: Store>(machine: &mut Machine<S>, which: Native, args: List<Value>) -> Result<Mode, OutOfMemory>
+fn ask_with<S: Store>(
+    machine: &mut Machine<S>,
+    which: Native,
+    args: List<Value>,
+) -> Result<Mode, OutOfMemory>
     ensures { IfOk result (LeadsTo (λ a. asks_first (naming_of machine.old.me) a.shared which args
         (party_of a machine.old)) machine.old machine.new) }
 {
@@ -549,7 +573,11 @@ pub fn resume_told<S: Store>(
 }
 
 /// What was charged for comes: the first operand is asked.
-fn slot_paid<S: Store>(machine: &mut Machine<S>, which: Native, count: u32) -> Result<Mode, OutOfMemory>
+fn slot_paid<S: Store>(
+    machine: &mut Machine<S>,
+    which: Native,
+    count: u32,
+) -> Result<Mode, OutOfMemory>
     ensures { IfOk result (IsDelivered (frame_kind.SlotCharged which count) mode_kind.Value
         machine.old machine.new) }
 {

@@ -114,7 +114,11 @@ pub fn method_got<S: Store>(
 }
 
 /// A primitive value becomes a property key (ECMA-262, ToPropertyKey, steps 2 and 3).
-pub fn reach_key<S: Store>(machine: &mut Machine<S>, goal: KeyGoal, value: Value) -> Result<Mode, OutOfMemory>
+pub fn reach_key<S: Store>(
+    machine: &mut Machine<S>,
+    goal: KeyGoal,
+    value: Value,
+) -> Result<Mode, OutOfMemory>
     ensures { let goal = goal_kind.Key goal in
         IfOk result (Reaches goal value machine.old machine.new) }
 {
@@ -128,7 +132,11 @@ pub fn reach_key<S: Store>(machine: &mut Machine<S>, goal: KeyGoal, value: Value
 }
 
 /// What a property key is for goes on with it.
-fn key_comes<S: Store>(machine: &mut Machine<S>, goal: KeyGoal, key: Key) -> Result<Mode, OutOfMemory>
+fn key_comes<S: Store>(
+    machine: &mut Machine<S>,
+    goal: KeyGoal,
+    key: Key,
+) -> Result<Mode, OutOfMemory>
     ensures { IfOk result (KeyReaches goal key machine.old machine.new) }
 {
     match goal {
@@ -141,7 +149,11 @@ fn key_comes<S: Store>(machine: &mut Machine<S>, goal: KeyGoal, key: Key) -> Res
 }
 
 /// A value becomes a property key, and what that is for goes on with it: at once, or once an object became a primitive value (ECMA-262, ToPropertyKey). What it is for stands on the stack of values.
-pub fn with_key_of<S: Store>(machine: &mut Machine<S>, value: Value, goal: KeyGoal) -> Result<Mode, OutOfMemory>
+pub fn with_key_of<S: Store>(
+    machine: &mut Machine<S>,
+    value: Value,
+    goal: KeyGoal,
+) -> Result<Mode, OutOfMemory>
     ensures { IfOk result (BecomesKey value goal machine.old machine.new) }
 {
     match object_of_value(&value) {

@@ -38,7 +38,11 @@ fn fault_undefined<S: Store>(machine: &mut Machine<S>, name: u32) -> Result<Mode
 }
 
 /// Asks whether there is a free name, which is read.
-pub fn begin_global<S: Store>(machine: &mut Machine<S>, name: u32, soft: bool) -> Result<Mode, OutOfMemory>
+pub fn begin_global<S: Store>(
+    machine: &mut Machine<S>,
+    name: u32,
+    soft: bool,
+) -> Result<Mode, OutOfMemory>
     ensures { let text = text_at machine.old.code name in
         IfOk result (LeadsTo (λ a. global_value (naming_of machine.old.me) text soft
         (party_of a machine.old))
@@ -68,7 +72,11 @@ fn get_global<S: Store>(machine: &mut Machine<S>, name: u32) -> Result<Mode, Out
 }
 
 /// A free name that is not there: under `typeof` it is undefined.
-fn missing_global<S: Store>(machine: &mut Machine<S>, name: u32, soft: bool) -> Result<Mode, OutOfMemory>
+fn missing_global<S: Store>(
+    machine: &mut Machine<S>,
+    name: u32,
+    soft: bool,
+) -> Result<Mode, OutOfMemory>
     ensures { let text = text_at machine.old.code name in
         IfOk result (LeadsTo (λ a. missing_global (naming_of machine.old.me) text soft
         (party_of a machine.old))
@@ -100,7 +108,11 @@ pub fn global_found<S: Store>(
 }
 
 /// Asks whether there is a free name, which is written.
-pub fn begin_set_global<S: Store>(machine: &mut Machine<S>, name: u32, value: u32) -> Result<Mode, OutOfMemory>
+pub fn begin_set_global<S: Store>(
+    machine: &mut Machine<S>,
+    name: u32,
+    value: u32,
+) -> Result<Mode, OutOfMemory>
     ensures { let text = text_at machine.old.code name in
         let term = term_at machine.old.code value in
         IfOk result (LeadsTo (λ a. set_global (naming_of machine.old.me) text term
@@ -116,7 +128,11 @@ pub fn begin_set_global<S: Store>(machine: &mut Machine<S>, name: u32, value: u3
 }
 
 /// Writes a free name that is there.
-fn write_global<S: Store>(machine: &mut Machine<S>, name: u32, value: Value) -> Result<Mode, OutOfMemory>
+fn write_global<S: Store>(
+    machine: &mut Machine<S>,
+    name: u32,
+    value: Value,
+) -> Result<Mode, OutOfMemory>
     ensures { let text = text_at machine.old.code name in
         IfOk result (LeadsTo (λ a. put_global (naming_of machine.old.me) text Bool.true value
         (party_of a machine.old)) machine.old machine.new) }

@@ -74,7 +74,10 @@ fn prototype_inherited<S: Store>(
 }
 
 /// What a function has as `prototype` comes to the frame that has the object.
-pub fn prototype_comes<S: Store>(machine: &mut Machine<S>, prototype: Value) -> Result<Mode, OutOfMemory>
+pub fn prototype_comes<S: Store>(
+    machine: &mut Machine<S>,
+    prototype: Value,
+) -> Result<Mode, OutOfMemory>
     ensures { let frame = frame_kind.InstanceOf in
         IfOk result (LeadsTo (deed_with frame prototype machine.old)
         (under frame machine.old) machine.new) }
@@ -84,7 +87,11 @@ pub fn prototype_comes<S: Store>(machine: &mut Machine<S>, prototype: Value) -> 
 }
 
 /// A function that is not bound is asked for its `prototype`, from which an object may inherit.
-pub fn get_prototype<S: Store>(machine: &mut Machine<S>, function: Ref, object: Ref) -> Result<Mode, OutOfMemory>
+pub fn get_prototype<S: Store>(
+    machine: &mut Machine<S>,
+    function: Ref,
+    object: Ref,
+) -> Result<Mode, OutOfMemory>
     ensures { let instance = value_kind.Ref object in
         IfOk result (LeadsTo (λ a. has_instance_by (naming_of machine.old.me) a.shared function
         instance (party_of a machine.old)) machine.old machine.new) }
@@ -100,7 +107,11 @@ pub fn get_prototype<S: Store>(machine: &mut Machine<S>, function: Ref, object: 
 
 /// Whether a value inherits from a function that is not bound (ECMA-262, OrdinaryHasInstance, steps 3 to 6).
 #[tactic(auto, using(js_machine::proofs::Instance_laws::instance_other))]
-fn has_instance_by<S: Store>(machine: &mut Machine<S>, function: Ref, value: Value) -> Result<Mode, OutOfMemory>
+fn has_instance_by<S: Store>(
+    machine: &mut Machine<S>,
+    function: Ref,
+    value: Value,
+) -> Result<Mode, OutOfMemory>
     ensures { IfOk result (LeadsTo (λ a. has_instance_by (naming_of machine.old.me) a.shared
         function value (party_of a machine.old)) machine.old machine.new) }
 {
@@ -111,7 +122,11 @@ fn has_instance_by<S: Store>(machine: &mut Machine<S>, function: Ref, value: Val
 }
 
 /// Whether a value inherits from a function (ECMA-262, OrdinaryHasInstance).
-pub fn has_instance<S: Store>(machine: &mut Machine<S>, function: Ref, value: Value) -> Result<Mode, OutOfMemory>
+pub fn has_instance<S: Store>(
+    machine: &mut Machine<S>,
+    function: Ref,
+    value: Value,
+) -> Result<Mode, OutOfMemory>
     ensures { let callee = value_kind.Ref function in
         IfOk result (LeadsTo (λ a. has_instance (naming_of machine.old.me) a.shared value callee
         (party_of a machine.old)) machine.old machine.new) }

@@ -134,7 +134,12 @@ fn looked<S: Store>(
 }
 
 /// Looks whether an object can be called (ECMA-262, IsCallable).
-fn look_at<S: Store>(machine: &mut Machine<S>, look: Look, object: Ref, held: Value) -> Result<Mode, OutOfMemory>
+fn look_at<S: Store>(
+    machine: &mut Machine<S>,
+    look: Look,
+    object: Ref,
+    held: Value,
+) -> Result<Mode, OutOfMemory>
     ensures { let names = naming_of machine.old.me in
         let target = value_kind.Ref object in
         IfOk result (LeadsTo (λ a. see_callable names a.shared target (party_of a machine.old)
@@ -162,7 +167,10 @@ fn convert_operand<S: Store>(
 }
 
 /// Does what an operation says, whatever it is.
-fn operate_any<S: Store>(machine: &mut Machine<S>, operation: Operation) -> Result<Mode, OutOfMemory>
+fn operate_any<S: Store>(
+    machine: &mut Machine<S>,
+    operation: Operation,
+) -> Result<Mode, OutOfMemory>
     ensures { IfOk result (LeadsTo (λ a. act_of (naming_of machine.old.me) a.shared operation
         (party_of a machine.old)) machine.old machine.new) }
 {
@@ -184,7 +192,10 @@ fn operate_any<S: Store>(machine: &mut Machine<S>, operation: Operation) -> Resu
 
 /// Does what an operation says. (A value, which is what comes of most, is given at once: what the others move would be laid out for it, too.)
 #[inline]
-pub fn operate<S: Store>(machine: &mut Machine<S>, operation: Operation) -> Result<Mode, OutOfMemory>
+pub fn operate<S: Store>(
+    machine: &mut Machine<S>,
+    operation: Operation,
+) -> Result<Mode, OutOfMemory>
     ensures { IfOk result (LeadsTo (λ a. act_of (naming_of machine.old.me) a.shared operation
         (party_of a machine.old)) machine.old machine.new) }
 {
@@ -239,7 +250,11 @@ pub fn go_on_binary<S: Store>(
 }
 
 /// The operand of an operator became a primitive value; another one is held.
-pub fn operand_comes<S: Store>(machine: &mut Machine<S>, rest: Rest, value: Value) -> Result<Mode, OutOfMemory>
+pub fn operand_comes<S: Store>(
+    machine: &mut Machine<S>,
+    rest: Rest,
+    value: Value,
+) -> Result<Mode, OutOfMemory>
     ensures { let goal = goal_kind.Operand rest in
         IfOk result (Reaches goal value machine.old machine.new) }
 {

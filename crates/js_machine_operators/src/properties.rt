@@ -29,7 +29,11 @@ use lava_base::memory::OutOfMemory;
 
 /// The value of a property that has this key.
 #[tactic(auto, using(js_machine::proofs::Referenced::named))]
-fn get_named<S: Store>(machine: &mut Machine<S>, object: Value, key: Key) -> Result<Mode, OutOfMemory>
+fn get_named<S: Store>(
+    machine: &mut Machine<S>,
+    object: Value,
+    key: Key,
+) -> Result<Mode, OutOfMemory>
     ensures { let ask = ask_kind.Get key object in
         IfOk result (WaitsForValue frame_kind.Given object ask machine.old machine.new) }
 {
@@ -50,7 +54,11 @@ pub fn key_to_get<S: Store>(machine: &mut Machine<S>, key: Key) -> Result<Mode, 
 }
 
 /// The key of a property that is read is an object.
-fn convert_to_get<S: Store>(machine: &mut Machine<S>, object: Value, key: Value) -> Result<Mode, OutOfMemory>
+fn convert_to_get<S: Store>(
+    machine: &mut Machine<S>,
+    object: Value,
+    key: Value,
+) -> Result<Mode, OutOfMemory>
     requires { is_nullish object ≡ Bool.false }
     ensures { IfOk result (LeadsTo (λ a. get_key (naming_of machine.old.me) a.shared object key
         (party_of a machine.old)) machine.old machine.new) }
@@ -60,7 +68,11 @@ fn convert_to_get<S: Store>(machine: &mut Machine<S>, object: Value, key: Value)
 }
 
 /// The value of a property of a value (ECMA-262, GetValue, step 3).
-pub fn get_key<S: Store>(machine: &mut Machine<S>, object: Value, key: Value) -> Result<Mode, OutOfMemory>
+pub fn get_key<S: Store>(
+    machine: &mut Machine<S>,
+    object: Value,
+    key: Value,
+) -> Result<Mode, OutOfMemory>
     ensures { IfOk result (LeadsTo (λ a. get_key (naming_of machine.old.me) a.shared object key
         (party_of a machine.old)) machine.old machine.new) }
 {
@@ -140,7 +152,11 @@ pub fn put_property<S: Store>(
 }
 
 /// Whether a property was set: the value is given, or there is an error.
-pub fn set_done<S: Store>(machine: &mut Machine<S>, done: bool, value: Value) -> Result<Mode, OutOfMemory>
+pub fn set_done<S: Store>(
+    machine: &mut Machine<S>,
+    done: bool,
+    value: Value,
+) -> Result<Mode, OutOfMemory>
     ensures { IfOk result (LeadsTo (λ a. if done then give value (party_of a machine.old)
         else faults (naming_of machine.old.me) fault_kind.CannotSet
         (party_of a machine.old)) machine.old machine.new) }
@@ -152,7 +168,11 @@ pub fn set_done<S: Store>(machine: &mut Machine<S>, done: bool, value: Value) ->
 }
 
 /// The key of a property that is deleted is an object.
-fn convert_to_delete<S: Store>(machine: &mut Machine<S>, object: Value, key: Value) -> Result<Mode, OutOfMemory>
+fn convert_to_delete<S: Store>(
+    machine: &mut Machine<S>,
+    object: Value,
+    key: Value,
+) -> Result<Mode, OutOfMemory>
     requires { is_nullish object ≡ Bool.false }
     ensures { IfOk result (LeadsTo (λ a. delete_property (naming_of machine.old.me) a.shared object
         key (party_of a machine.old)) machine.old machine.new) }

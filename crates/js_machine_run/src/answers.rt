@@ -43,7 +43,11 @@ fn deliver_set<S: Store>(machine: &mut Machine<S>, done: bool) -> Result<Mode, O
 }
 
 /// A frame that waits for a truth value goes on with it.
-fn go_on_flag<S: Store>(machine: &mut Machine<S>, frame: Frame, flag: bool) -> Result<Mode, OutOfMemory>
+fn go_on_flag<S: Store>(
+    machine: &mut Machine<S>,
+    frame: Frame,
+    flag: bool,
+) -> Result<Mode, OutOfMemory>
     ensures { let reply = reply_kind.Flag flag in
         IfOk result (LeadsTo (deed_replied frame reply machine.old)
         (under frame machine.old) machine.new) }
@@ -92,7 +96,11 @@ fn leave_scope<S: Store>(machine: &mut Machine<S>, scope: u32) -> Result<Mode, O
 }
 
 /// A value comes to a frame that waits for another answer, and passes it.
-pub fn pass_value<S: Store>(machine: &mut Machine<S>, frame: Frame, value: Value) -> Result<Mode, OutOfMemory>
+pub fn pass_value<S: Store>(
+    machine: &mut Machine<S>,
+    frame: Frame,
+    value: Value,
+) -> Result<Mode, OutOfMemory>
     requires { takes_answers frame ≡ Bool.true }
     ensures { IfOk result (LeadsTo (deed_with frame value machine.old)
         (under frame machine.old) machine.new) }

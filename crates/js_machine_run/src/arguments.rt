@@ -20,7 +20,11 @@ use js_text::value::Value;
 use lava_base::memory::OutOfMemory;
 
 /// What so many arguments are for goes on with them.
-pub fn apply<S: Store>(machine: &mut Machine<S>, purpose: Purpose, done: u32) -> Result<Mode, OutOfMemory>
+pub fn apply<S: Store>(
+    machine: &mut Machine<S>,
+    purpose: Purpose,
+    done: u32,
+) -> Result<Mode, OutOfMemory>
     ensures { let args = args_on done machine.old.values in
         let below = drop done machine.old.values in
         let rest = record machine.old { values = drop (done + held purpose) machine.old.values } in

@@ -133,7 +133,12 @@ fn wait_local<S: Store>(
 
 /// A slot waits for its first value.
 #[inline]
-fn wait_first<S: Store>(machine: &mut Machine<S>, hops: u32, slot: u32, value: u32) -> Result<Mode, OutOfMemory>
+fn wait_first<S: Store>(
+    machine: &mut Machine<S>,
+    hops: u32,
+    slot: u32,
+    value: u32,
+) -> Result<Mode, OutOfMemory>
     ensures { let frame = frame_kind.Init hops slot in
         IfOk result (Waits frame value machine.old machine.new) }
 {
@@ -183,7 +188,11 @@ fn wait_short<S: Store>(
 
 /// A branch without an alternate waits for its test.
 #[inline]
-fn wait_test<S: Store>(machine: &mut Machine<S>, test: u32, consequent: u32) -> Result<Mode, OutOfMemory>
+fn wait_test<S: Store>(
+    machine: &mut Machine<S>,
+    test: u32,
+    consequent: u32,
+) -> Result<Mode, OutOfMemory>
     ensures { let frame = frame_kind.If consequent in
         IfOk result (Waits frame test machine.old machine.new) }
 {
@@ -212,7 +221,11 @@ fn wait_choice<S: Store>(
 
 /// A label waits for its body.
 #[inline]
-fn wait_label<S: Store>(machine: &mut Machine<S>, label: u32, body: u32) -> Result<Mode, OutOfMemory>
+fn wait_label<S: Store>(
+    machine: &mut Machine<S>,
+    label: u32,
+    body: u32,
+) -> Result<Mode, OutOfMemory>
     ensures { let frame = frame_kind.Label label in
         IfOk result (Waits frame body machine.old machine.new) }
 {
@@ -230,7 +243,11 @@ fn wait_thrown<S: Store>(machine: &mut Machine<S>, value: u32) -> Result<Mode, O
 
 /// A property waits for its object.
 #[inline]
-fn wait_object<S: Store>(machine: &mut Machine<S>, object: u32, key: u32) -> Result<Mode, OutOfMemory>
+fn wait_object<S: Store>(
+    machine: &mut Machine<S>,
+    object: u32,
+    key: u32,
+) -> Result<Mode, OutOfMemory>
     ensures { let frame = frame_kind.GetObject key in
         IfOk result (Waits frame object machine.old machine.new) }
 {
@@ -253,7 +270,11 @@ fn wait_target<S: Store>(
 
 /// A property that is deleted waits for its object.
 #[inline]
-fn wait_deleted<S: Store>(machine: &mut Machine<S>, object: u32, key: u32) -> Result<Mode, OutOfMemory>
+fn wait_deleted<S: Store>(
+    machine: &mut Machine<S>,
+    object: u32,
+    key: u32,
+) -> Result<Mode, OutOfMemory>
     ensures { let frame = frame_kind.DeleteObject key in
         IfOk result (Waits frame object machine.old machine.new) }
 {
@@ -271,7 +292,11 @@ fn wait_super<S: Store>(machine: &mut Machine<S>, key: u32) -> Result<Mode, OutO
 
 /// A call waits for what it calls.
 #[inline]
-fn wait_callee<S: Store>(machine: &mut Machine<S>, callee: u32, arguments: u32) -> Result<Mode, OutOfMemory>
+fn wait_callee<S: Store>(
+    machine: &mut Machine<S>,
+    callee: u32,
+    arguments: u32,
+) -> Result<Mode, OutOfMemory>
     ensures { let frame = frame_kind.Callee arguments in
         IfOk result (Waits frame callee machine.old machine.new) }
 {
@@ -280,7 +305,11 @@ fn wait_callee<S: Store>(machine: &mut Machine<S>, callee: u32, arguments: u32) 
 
 /// A construction waits for what constructs.
 #[inline]
-fn wait_constructor<S: Store>(machine: &mut Machine<S>, callee: u32, arguments: u32) -> Result<Mode, OutOfMemory>
+fn wait_constructor<S: Store>(
+    machine: &mut Machine<S>,
+    callee: u32,
+    arguments: u32,
+) -> Result<Mode, OutOfMemory>
     ensures { let frame = frame_kind.NewCallee arguments in
         IfOk result (Waits frame callee machine.old machine.new) }
 {
@@ -303,7 +332,11 @@ fn wait_receiver<S: Store>(
 
 /// A call of a method of `super` waits for its key.
 #[inline]
-fn wait_method<S: Store>(machine: &mut Machine<S>, key: u32, arguments: u32) -> Result<Mode, OutOfMemory>
+fn wait_method<S: Store>(
+    machine: &mut Machine<S>,
+    key: u32,
+    arguments: u32,
+) -> Result<Mode, OutOfMemory>
     ensures { let frame = frame_kind.CallSuperKey arguments in
         IfOk result (Waits frame key machine.old machine.new) }
 {

@@ -102,7 +102,10 @@ fn follow<S: Store>(
 }
 
 /// What the table of decisions says of the ask of the machine.
-fn table_decision<S: Store>(machine: &mut Machine<S>, me: Ref) -> Result<Decision<ExoticNext>, OutOfMemory>
+fn table_decision<S: Store>(
+    machine: &mut Machine<S>,
+    me: Ref,
+) -> Result<Decision<ExoticNext>, OutOfMemory>
     ensures decided { let names = naming_of machine.old.me in
         let decided = decided names machine.old.objects machine.old.common me machine.old.asked.ask
         in
@@ -221,7 +224,11 @@ pub fn resume_object<S: Store>(
 }
 
 /// What waited is open no longer, and goes on with a reply.
-pub fn wake<S: Store>(machine: &mut Machine<S>, wait: Wait, reply: Reply) -> Result<Mode, OutOfMemory>
+pub fn wake<S: Store>(
+    machine: &mut Machine<S>,
+    wait: Wait,
+    reply: Reply,
+) -> Result<Mode, OutOfMemory>
     ensures { IfOk result (Wakes wait reply machine.old machine.new) }
 {
     match wait {

@@ -52,7 +52,10 @@ pub(crate) fn go_on_key<S: Store>(machine: &mut Machine<S>, key: Value) -> Resul
 
 /// The value for a property comes to the frame that has the object and the key.
 #[tactic(auto, using(js_machine::proofs::Operands::with_both))]
-pub(crate) fn go_on_put<S: Store>(machine: &mut Machine<S>, value: Value) -> Result<Mode, OutOfMemory>
+pub(crate) fn go_on_put<S: Store>(
+    machine: &mut Machine<S>,
+    value: Value,
+) -> Result<Mode, OutOfMemory>
     ensures { IfOk result (LeadsTo (deed_with frame_kind.PutValue value machine.old)
         (under frame_kind.PutValue machine.old) machine.new) }
 {
@@ -72,7 +75,11 @@ fn go_on_delete<S: Store>(machine: &mut Machine<S>, key: Value) -> Result<Mode, 
 }
 
 /// A frame goes on with a value.
-fn go_on<S: Store>(machine: &mut Machine<S>, frame: Frame, value: Value) -> Result<Mode, OutOfMemory>
+fn go_on<S: Store>(
+    machine: &mut Machine<S>,
+    frame: Frame,
+    value: Value,
+) -> Result<Mode, OutOfMemory>
     ensures { IfOk result (LeadsTo (deed_with frame value machine.old)
         (under frame machine.old) machine.new) }
 {

@@ -39,7 +39,10 @@ fn left_comes<S: Store>(
 /// Its right operand comes.
 #[inline]
 #[tactic(auto, using(crate::proofs::Coming::comes))]
-fn right_comes<S: Store>(machine: &mut Machine<S>, operator: BinaryOperator) -> Result<Mode, OutOfMemory>
+fn right_comes<S: Store>(
+    machine: &mut Machine<S>,
+    operator: BinaryOperator,
+) -> Result<Mode, OutOfMemory>
     ensures { let frame = frame_kind.BinaryRight operator in
         IfOk result (IsDelivered frame mode.Value machine.old machine.new) }
 {
@@ -73,7 +76,11 @@ fn test_comes<S: Store>(machine: &mut Machine<S>, consequent: u32) -> Result<Mod
 
 /// The test of a branch comes.
 #[inline]
-fn choice_comes<S: Store>(machine: &mut Machine<S>, consequent: u32, alternate: u32) -> Result<Mode, OutOfMemory>
+fn choice_comes<S: Store>(
+    machine: &mut Machine<S>,
+    consequent: u32,
+    alternate: u32,
+) -> Result<Mode, OutOfMemory>
     ensures { let frame = frame_kind.IfElse consequent alternate in
         IfOk result (IsDelivered frame mode.Value machine.old machine.new) }
 {
@@ -98,7 +105,11 @@ fn local_comes<S: Store>(
 
 /// The first value of a slot comes.
 #[inline]
-fn first_comes<S: Store>(machine: &mut Machine<S>, hops: u32, slot: u32) -> Result<Mode, OutOfMemory>
+fn first_comes<S: Store>(
+    machine: &mut Machine<S>,
+    hops: u32,
+    slot: u32,
+) -> Result<Mode, OutOfMemory>
     ensures { let frame = frame_kind.Init hops slot in
         IfOk result (IsDelivered frame mode.Value machine.old machine.new) }
 {
@@ -158,7 +169,11 @@ fn key_comes<S: Store>(machine: &mut Machine<S>, at: u32) -> Result<Mode, OutOfM
 /// The object of a method comes.
 #[inline]
 #[tactic(auto, using(crate::proofs::Coming::stays_there))]
-fn receiver_comes<S: Store>(machine: &mut Machine<S>, key: u32, arguments: u32) -> Result<Mode, OutOfMemory>
+fn receiver_comes<S: Store>(
+    machine: &mut Machine<S>,
+    key: u32,
+    arguments: u32,
+) -> Result<Mode, OutOfMemory>
     ensures { let frame = frame_kind.CallObject key arguments in
         IfOk result (IsDelivered frame mode.Value machine.old machine.new) }
 {
@@ -167,7 +182,10 @@ fn receiver_comes<S: Store>(machine: &mut Machine<S>, key: u32, arguments: u32) 
 
 /// The operand of an operator comes.
 #[inline]
-fn operand_comes<S: Store>(machine: &mut Machine<S>, operator: UnaryOperator) -> Result<Mode, OutOfMemory>
+fn operand_comes<S: Store>(
+    machine: &mut Machine<S>,
+    operator: UnaryOperator,
+) -> Result<Mode, OutOfMemory>
     ensures { let frame = frame_kind.Unary operator in
         IfOk result (IsDelivered frame mode.Value machine.old machine.new) }
 {
@@ -187,7 +205,11 @@ fn update_comes<S: Store>(machine: &mut Machine<S>, turns: u32) -> Result<Mode, 
 
 /// A form that others follow is done.
 #[inline]
-fn others_follow<S: Store>(machine: &mut Machine<S>, start: u32, count: u32) -> Result<Mode, OutOfMemory>
+fn others_follow<S: Store>(
+    machine: &mut Machine<S>,
+    start: u32,
+    count: u32,
+) -> Result<Mode, OutOfMemory>
     ensures { let frame = frame_kind.Seq start count in
         IfOk result (IsDelivered frame mode.Value machine.old machine.new) }
 {

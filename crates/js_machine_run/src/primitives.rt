@@ -14,10 +14,10 @@ use js_desc::fault::FaultText;
 use js_desc::reply::Reply;
 use js_machine::machine::Machine;
 use js_ordinary::next::Next;
-use js_store::store::Store;
 use js_ordinary::primitives::{
     BOOLEAN_PROTOTYPE, NUMBER_PROTOTYPE, STRING_PROTOTYPE, SYMBOL_PROTOTYPE, get_v,
 };
+use js_store::store::Store;
 use js_text::copy::{copy_key, copy_value};
 use js_text::length::spells_length;
 use js_text::text::Text;

@@ -21,7 +21,10 @@ use lava_base::ids::Ref;
 use lava_base::memory::OutOfMemory;
 
 /// Follows the decision of a proxy.
-fn follow_proxy<S: Store>(machine: &mut Machine<S>, decision: Decision<ProxyNext>) -> Result<Mode, OutOfMemory>
+fn follow_proxy<S: Store>(
+    machine: &mut Machine<S>,
+    decision: Decision<ProxyNext>,
+) -> Result<Mode, OutOfMemory>
     ensures { IfOk result (LeadsTo (λ a. follows_proxy (naming_of machine.old.me) a.shared decision
         (party_of a machine.old)) machine.old machine.new) }
 {

@@ -31,7 +31,11 @@ use js_text::value::Value;
 use lava_base::memory::OutOfMemory;
 
 /// A completion comes to a frame that takes values alone.
-fn deliver_plain<S: Store>(machine: &mut Machine<S>, frame: Frame, mode: Mode) -> Result<Mode, OutOfMemory>
+fn deliver_plain<S: Store>(
+    machine: &mut Machine<S>,
+    frame: Frame,
+    mode: Mode,
+) -> Result<Mode, OutOfMemory>
     requires takes { takes_values frame ≡ true }
     requires comes { is_completion mode ≡ true }
     ensures { IfOk result (IsDelivered frame mode machine.old machine.new) }
@@ -55,7 +59,11 @@ fn deliver_decision<S: Store>(machine: &mut Machine<S>, mode: Mode) -> Result<Mo
 }
 
 /// A completion comes to a frame that was taken off.
-pub fn deliver<S: Store>(machine: &mut Machine<S>, frame: Frame, mode: Mode) -> Result<Mode, OutOfMemory>
+pub fn deliver<S: Store>(
+    machine: &mut Machine<S>,
+    frame: Frame,
+    mode: Mode,
+) -> Result<Mode, OutOfMemory>
     requires { is_completion mode ≡ true }
     ensures { IfOk result (IsDelivered frame mode machine.old machine.new) }
 {
@@ -88,7 +96,11 @@ pub fn deliver<S: Store>(machine: &mut Machine<S>, frame: Frame, mode: Mode) -> 
 }
 
 /// A completion or an answer comes to a frame that was taken off.
-fn deliver_any<S: Store>(machine: &mut Machine<S>, frame: Frame, mode: Mode) -> Result<Mode, OutOfMemory>
+fn deliver_any<S: Store>(
+    machine: &mut Machine<S>,
+    frame: Frame,
+    mode: Mode,
+) -> Result<Mode, OutOfMemory>
     requires { is_handed mode ≡ true }
     ensures { IfOk result (IsDelivered frame mode machine.old machine.new) }
 {

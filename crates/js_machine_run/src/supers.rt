@@ -75,7 +75,10 @@ fn get_above<S: Store>(
 }
 
 /// The object where `super` looks comes to the frame that has the key of a property.
-fn super_home_comes<S: Store>(machine: &mut Machine<S>, above: Option<Ref>) -> Result<Mode, OutOfMemory>
+fn super_home_comes<S: Store>(
+    machine: &mut Machine<S>,
+    above: Option<Ref>,
+) -> Result<Mode, OutOfMemory>
     ensures { let reply = reply_kind.Proto above in
         IfOk result (LeadsTo (deed_replied frame_kind.SuperHome reply machine.old)
         (under frame_kind.SuperHome machine.old) machine.new) }
@@ -148,7 +151,10 @@ fn go_on_prototype<S: Store>(
 }
 
 /// An answer comes to a frame that waits for a prototype.
-pub fn deliver_prototype<S: Store>(machine: &mut Machine<S>, frame: Frame) -> Result<Mode, OutOfMemory>
+pub fn deliver_prototype<S: Store>(
+    machine: &mut Machine<S>,
+    frame: Frame,
+) -> Result<Mode, OutOfMemory>
     ensures { IfOk result (IsDelivered frame mode_kind.Answer machine.old machine.new) }
 {
     match prototype_in(machine) {

@@ -30,7 +30,11 @@ pub fn enter<S: Store>(machine: &mut Machine<S>, count: u32) -> Result<(), OutOf
 }
 
 /// A form in a new scope.
-pub fn begin_scope<S: Store>(machine: &mut Machine<S>, count: u32, body: u32) -> Result<Mode, OutOfMemory>
+pub fn begin_scope<S: Store>(
+    machine: &mut Machine<S>,
+    count: u32,
+    body: u32,
+) -> Result<Mode, OutOfMemory>
     ensures { let term = term_at machine.old.code body in
         IfOk result (LeadsTo (λ a. inside (replicate count None) term (party_of a machine.old) Give)
         machine.old machine.new) }
@@ -70,7 +74,11 @@ pub fn exit_scope<S: Store>(machine: &mut Machine<S>, scope: u32, mode: Mode) ->
 
 /// A `break` to a label ends there; every other completion passes it (ECMA-262, "Labelled Statements").
 #[tactic(auto, using(js_machine::proofs::Exits::passes_label))]
-pub fn deliver_label<S: Store>(machine: &mut Machine<S>, label: u32, mode: Mode) -> Result<Mode, OutOfMemory>
+pub fn deliver_label<S: Store>(
+    machine: &mut Machine<S>,
+    label: u32,
+    mode: Mode,
+) -> Result<Mode, OutOfMemory>
     requires { is_completion mode ≡ true }
     ensures { IfOk result (IsDelivered (frame.Label label) mode machine.old machine.new) }
 {

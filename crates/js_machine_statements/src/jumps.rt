@@ -38,7 +38,10 @@ pub fn begin_return<S: Store>(machine: &mut Machine<S>) -> Result<Mode, OutOfMem
 }
 
 /// `return` with a value (ECMA-262, "The return Statement").
-pub fn begin_return_value<S: Store>(machine: &mut Machine<S>, value: u32) -> Result<Mode, OutOfMemory>
+pub fn begin_return_value<S: Store>(
+    machine: &mut Machine<S>,
+    value: u32,
+) -> Result<Mode, OutOfMemory>
     ensures { let to = jump_kind.Return (Some (term_at machine.old.code value)) in
         IfOk result (LeadsTo (λ a. jump to (party_of a machine.old)) machine.old machine.new) }
 {

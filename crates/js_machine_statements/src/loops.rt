@@ -36,7 +36,11 @@ pub fn turn<S: Store>(machine: &mut Machine<S>, turns: u32) -> Result<Mode, OutO
 }
 
 /// A turn of a loop, or its end.
-fn turn_or_end<S: Store>(machine: &mut Machine<S>, truth: bool, turns: u32) -> Result<Mode, OutOfMemory>
+fn turn_or_end<S: Store>(
+    machine: &mut Machine<S>,
+    truth: bool,
+    turns: u32,
+) -> Result<Mode, OutOfMemory>
     ensures { let turn = turns_at machine.old.code turns in
         IfOk result (LeadsTo (λ a. if truth then Evaluate turn.body (party_of a machine.old) (Turned
         turn) else give undefined_value.Undefined (party_of a machine.old)) machine.old machine.new) }
@@ -48,7 +52,11 @@ fn turn_or_end<S: Store>(machine: &mut Machine<S>, truth: bool, turns: u32) -> R
 }
 
 /// The test of a turn has its value.
-pub fn tested<S: Store>(machine: &mut Machine<S>, turns: u32, value: Value) -> Result<Mode, OutOfMemory>
+pub fn tested<S: Store>(
+    machine: &mut Machine<S>,
+    turns: u32,
+    value: Value,
+) -> Result<Mode, OutOfMemory>
     ensures { let turn = turns_at machine.old.code turns in
         IfOk result (LeadsTo (λ a. if to_boolean value then Evaluate turn.body (party_of a
         machine.old) (Turned turn) else give undefined_value.Undefined (party_of a machine.old))
@@ -58,7 +66,11 @@ pub fn tested<S: Store>(machine: &mut Machine<S>, turns: u32, value: Value) -> R
 }
 
 /// A loop begins with its test or with its first turn.
-pub fn begin_loop<S: Store>(machine: &mut Machine<S>, turns: u32, tests_first: bool) -> Result<Mode, OutOfMemory>
+pub fn begin_loop<S: Store>(
+    machine: &mut Machine<S>,
+    turns: u32,
+    tests_first: bool,
+) -> Result<Mode, OutOfMemory>
     ensures { let turn = turns_at machine.old.code turns in
         IfOk result (LeadsTo (λ a. loop_begins tests_first turn (party_of a machine.old))
         machine.old machine.new) }

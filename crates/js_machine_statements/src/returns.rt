@@ -33,7 +33,11 @@ fn returned<S: Store>(machine: &mut Machine<S>, mode: Mode) -> Value
 }
 
 /// What a constructor gives: an object that it returns, and else the one that was made for it (ECMA-262, "ECMAScript Function Objects", [[Construct]]).
-fn constructed<S: Store>(machine: &mut Machine<S>, object: u32, value: Value) -> Result<Mode, OutOfMemory>
+fn constructed<S: Store>(
+    machine: &mut Machine<S>,
+    object: u32,
+    value: Value,
+) -> Result<Mode, OutOfMemory>
     ensures { let names = naming_of machine.old.me in
         let this = value_kind.Ref (names.own object) in
         IfOk result (LeadsTo (λ a. constructed names a.shared this value (party_of a machine.old))
@@ -64,7 +68,10 @@ fn derived_constructed<S: Store>(
 }
 
 /// `this`, which a class with a parent has after its `super` call.
-fn derived_this<S: Store>(machine: &mut Machine<S>, this: Option<Value>) -> Result<Mode, OutOfMemory>
+fn derived_this<S: Store>(
+    machine: &mut Machine<S>,
+    this: Option<Value>,
+) -> Result<Mode, OutOfMemory>
     ensures { let names = naming_of machine.old.me in
         IfOk result (LeadsTo (λ a. derived_this names a.shared this (party_of a machine.old))
         machine.old machine.new) }

@@ -14,7 +14,11 @@ use lava_base::memory::OutOfMemory;
 
 /// Forms in their order; the last one takes the place of the list (ECMA-262, "Block").
 #[inline]
-pub fn in_order<S: Store>(machine: &mut Machine<S>, start: u32, count: u32) -> Result<Mode, OutOfMemory>
+pub fn in_order<S: Store>(
+    machine: &mut Machine<S>,
+    start: u32,
+    count: u32,
+) -> Result<Mode, OutOfMemory>
     ensures { let terms = terms_of machine.old.code (term_at machine.old.code) start count in
         IfOk result (LeadsTo (λ a. in_order terms (party_of a machine.old)) machine.old machine.new) }
 {

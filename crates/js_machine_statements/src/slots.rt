@@ -38,7 +38,11 @@ pub fn reached<S: Store>(machine: &Machine<S>, hops: u32) -> u32
 
 /// The value of a slot so many hops outwards, if it is initialised.
 #[inline]
-pub fn local<S: Store>(machine: &Machine<S>, hops: u32, slot: u32) -> Result<Option<Value>, OutOfMemory>
+pub fn local<S: Store>(
+    machine: &Machine<S>,
+    hops: u32,
+    slot: u32,
+) -> Result<Option<Value>, OutOfMemory>
     ensures { let scope = outwards machine.now.scopes hops (scope_of machine.now.bodies) in
         IfOk result (λ v. v ≡ slot_of machine.now.scopes scope slot) }
 {
@@ -67,7 +71,11 @@ pub fn write_local<S: Store>(machine: &mut Machine<S>, hops: u32, slot: u32, val
 /// Gives the value of a slot (ECMA-262, GetBindingValue).
 #[inline]
 #[tactic(auto, using(crate::proofs::Slotted::found_ok, crate::proofs::Slotted::not_found))]
-pub fn get_slot<S: Store>(machine: &mut Machine<S>, hops: u32, slot: u32) -> Result<Mode, OutOfMemory>
+pub fn get_slot<S: Store>(
+    machine: &mut Machine<S>,
+    hops: u32,
+    slot: u32,
+) -> Result<Mode, OutOfMemory>
     ensures { IfOk result (LeadsTo (λ a. get_slot (naming_of machine.old.me) hops slot (party_of a
         machine.old)) machine.old machine.new) }
 {

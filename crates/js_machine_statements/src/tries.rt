@@ -60,7 +60,11 @@ fn enter_with<S: Store>(machine: &mut Machine<S>, value: Value) -> Result<(), Ou
 }
 
 /// A handler begins, with what was thrown (ECMA-262, CatchClauseEvaluation).
-fn handle<S: Store>(machine: &mut Machine<S>, guarded: u32, handler: u32) -> Result<Mode, OutOfMemory>
+fn handle<S: Store>(
+    machine: &mut Machine<S>,
+    guarded: u32,
+    handler: u32,
+) -> Result<Mode, OutOfMemory>
     ensures { let term = term_at machine.old.code handler in
         let last = finalizer_of machine.old.code guarded in
         IfOk result (GoesOn (λ a v p. inside (Some v ∷ []) term p (finishes last))
@@ -84,7 +88,11 @@ fn catch_throw<S: Store>(machine: &mut Machine<S>, guarded: u32) -> Result<Mode,
 }
 
 /// What comes out of the body of a `try`.
-pub fn deliver_guarded<S: Store>(machine: &mut Machine<S>, guarded: u32, mode: Mode) -> Result<Mode, OutOfMemory>
+pub fn deliver_guarded<S: Store>(
+    machine: &mut Machine<S>,
+    guarded: u32,
+    mode: Mode,
+) -> Result<Mode, OutOfMemory>
     requires { is_completion mode ≡ true }
     ensures { IfOk result (IsDelivered (frame.Guarded guarded) mode machine.old machine.new) }
 {
@@ -111,7 +119,11 @@ pub fn deliver_handled<S: Store>(
 
 /// What stands last gave a value, so that the earlier completion stays.
 #[tactic(auto, using(crate::proofs::Tried::stays))]
-pub fn end_finally<S: Store>(machine: &mut Machine<S>, earlier: Mode, value: Value) -> Result<Mode, OutOfMemory>
+pub fn end_finally<S: Store>(
+    machine: &mut Machine<S>,
+    earlier: Mode,
+    value: Value,
+) -> Result<Mode, OutOfMemory>
     ensures { let last = frame.Finally earlier in
         IfOk result (LeadsTo (deed_with last value machine.old) (under last machine.old)
         machine.new) }

@@ -26,7 +26,12 @@ fn is_same_text<S: Store>(machine: &Machine<S>, first: u32, second: u32) -> bool
 }
 
 /// Whether a label is one of a list.
-fn is_label<S: Store>(machine: &Machine<S>, label: u32, start: u32, count: u32) -> Result<bool, OutOfMemory>
+fn is_label<S: Store>(
+    machine: &Machine<S>,
+    label: u32,
+    start: u32,
+    count: u32,
+) -> Result<bool, OutOfMemory>
     ensures { let part = part_of start count machine.now.code.numbers in
         let labels = map (text_at machine.now.code) part in
         IfOk result (λ is. is ≡ is_label (text_at machine.now.code label) labels) }
@@ -71,7 +76,11 @@ fn end_turn<S: Store>(machine: &mut Machine<S>, turns: u32) -> Result<Mode, OutO
 
 /// A turn ends with a `continue` (ECMA-262, LoopContinues).
 #[tactic(auto, using(crate::proofs::Turned::goes_round, crate::proofs::Turned::goes_further))]
-fn continue_turn<S: Store>(machine: &mut Machine<S>, turns: u32, to: u32) -> Result<Mode, OutOfMemory>
+fn continue_turn<S: Store>(
+    machine: &mut Machine<S>,
+    turns: u32,
+    to: u32,
+) -> Result<Mode, OutOfMemory>
     ensures { let mode = mode_kind.Continue to in
         IfOk result (IsDelivered (frame.Turned turns) mode machine.old machine.new) }
 {
@@ -97,7 +106,11 @@ fn break_turn<S: Store>(machine: &mut Machine<S>, turns: u32, to: u32) -> Result
 
 /// What comes out of a turn ends the loop, or goes on with it.
 #[tactic(auto, using(crate::proofs::Turned::passes_turn))]
-pub fn deliver_turn<S: Store>(machine: &mut Machine<S>, turns: u32, mode: Mode) -> Result<Mode, OutOfMemory>
+pub fn deliver_turn<S: Store>(
+    machine: &mut Machine<S>,
+    turns: u32,
+    mode: Mode,
+) -> Result<Mode, OutOfMemory>
     requires { is_completion mode ≡ true }
     ensures { IfOk result (IsDelivered (frame.Turned turns) mode machine.old machine.new) }
 {

@@ -111,7 +111,7 @@ fn places_made<S: Store>(
 ) -> Result<Decision<NativeNext>, OutOfMemory>
     ensures made { let names = naming_of (S.owner store.old).0 in
         let step = places_made names (S.objects store.old) places.now in
-        IfOk result (λ d. (d, (S.objects store.new)) ≡ step) }
+        IfOk result (λ d. (d, S.objects store.new) ≡ step) }
     ensures party { S.owner store.new ≡ S.owner store.old }
 {
     let values = place_values(alloc, places)?;
@@ -130,7 +130,8 @@ fn sorted_items<S: Store>(
     items: Option<List<Value>>,
 ) -> Result<Decision<NativeNext>, OutOfMemory>
     ensures sorted { let names = naming_of (S.owner store.old).0 in
-        IfOk result (λ d. (d, (S.objects store.new)) ≡ sorted_items names (S.objects store.old) items) }
+        let step = sorted_items names (S.objects store.old) items in
+        IfOk result (λ d. (d, S.objects store.new) ≡ step) }
     ensures party { S.owner store.new ≡ S.owner store.old }
 {
     let Some(items) = items else {
@@ -152,7 +153,8 @@ fn sort_list<S: Store>(
 ) -> Result<Decision<NativeNext>, OutOfMemory>
     ensures sorted { let names = naming_of (S.owner store.old).0 in
         let items = list_items names (S.objects store.old) common.now list.now in
-        IfOk result (λ d. (d, (S.objects store.new)) ≡ sorted_items names (S.objects store.old) items) }
+        let step = sorted_items names (S.objects store.old) items in
+        IfOk result (λ d. (d, S.objects store.new) ≡ step) }
     ensures party { S.owner store.new ≡ S.owner store.old }
 {
     let items = list_items(alloc, store, common, list)?;
@@ -168,7 +170,7 @@ fn sort_native<S: Store>(
 ) -> Result<Decision<NativeNext>, OutOfMemory>
     ensures sorted { let names = naming_of (S.owner store.old).0 in
         let step = sort_native names (S.objects store.old) common.now args.now in
-        IfOk result (λ d. (d, (S.objects store.new)) ≡ step) }
+        IfOk result (λ d. (d, S.objects store.new) ≡ step) }
     ensures party { S.owner store.new ≡ S.owner store.old }
 {
     match args {
@@ -187,7 +189,7 @@ pub(crate) fn item_native<S: Store>(
 ) -> Result<Decision<NativeNext>, OutOfMemory>
     ensures ok { let names = naming_of (S.owner store.old).0 in
         let step = item_step names (S.objects store.old) common.now which args.now in
-        IfOk result (λ d. (d, (S.objects store.new)) ≡ step) }
+        IfOk result (λ d. (d, S.objects store.new) ≡ step) }
     ensures plain { IfOk result (λ d. calls_items which ≡ false) }
     ensures party { S.owner store.new ≡ S.owner store.old }
 {

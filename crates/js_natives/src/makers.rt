@@ -33,7 +33,7 @@ pub(crate) fn maker_native<S: Store>(
         let objects = S.objects store.old in
         let seen = marks_seen names objects common.now foreign.now in
         let step = maker_native names seen objects common.now which args.now in
-        IfOk result (λ d. (d, (S.objects store.new)) ≡ step) }
+        IfOk result (λ d. (d, S.objects store.new) ≡ step) }
     ensures party { S.owner store.new ≡ S.owner store.old }
 {
     match which {

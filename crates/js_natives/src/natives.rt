@@ -41,7 +41,7 @@ fn native_step<S: Store>(
         let objects = S.objects store.old in
         let seen = marks_seen names objects common.now foreign.now in
         let step = native_step names seen objects common.now read find which args.now in
-        IfOk result (λ d. (d, (S.objects store.new)) ≡ step) }
+        IfOk result (λ d. (d, S.objects store.new) ≡ step) }
     ensures party { S.owner store.new ≡ S.owner store.old }
 {
     match family_of(which) {

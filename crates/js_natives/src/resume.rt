@@ -36,7 +36,7 @@ fn step_resumed<S: Store>(
         let objects = S.objects store.old in
         let seen = marks_seen names objects common.now foreign.now in
         let step = step_resumed names seen objects common.now read next reply in
-        IfOk result (λ d. (d, (S.objects store.new)) ≡ step) }
+        IfOk result (λ d. (d, S.objects store.new) ≡ step) }
     ensures party { S.owner store.new ≡ S.owner store.old }
 {
     match next {
