@@ -50,6 +50,14 @@ impl<S: Store> Machine<S> {
         }
     }
 
+    /// The objects of the party that runs.
+    pub fn objects(&self) -> &S
+        ensures objects { S.objects result.now ≡ self.now.objects }
+        ensures owner { (S.owner result.now).0 ≡ self.now.me }
+    {
+        &self.store
+    }
+
     /// A reference, where its object is a foreign one.
     pub fn foreign_of(&self, object: Ref) -> Option<Ref>
         ensures { result ≡ foreign_at object ((naming_of self.now.me).origin object) }

@@ -100,6 +100,14 @@ impl<S: Store> Own<S> {
             calls: Vec::new(alloc),
         })
     }
+
+    /// The party's objects.
+    pub fn store(&self) -> &S
+        ensures objects { S.objects result.now ≡ self.now.objects }
+        ensures owner { (S.owner result.now).0 ≡ self.now.me }
+    {
+        &self.store
+    }
 }
 
 impl<S: Store> Machine<S> {

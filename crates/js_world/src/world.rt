@@ -2,7 +2,10 @@
 
 ghost use Rattle.std.specs.Prelude.{◌≡◌, ◌<◌, length, replicate, option_map, IfOk, OnOk};
 ghost use Rattle.js_world.specs.First.{RestsFirst, as_new};
-ghost use Rattle.js_world.specs.Worlds.{aside, charged, exchanged, turned};
+ghost use Rattle.js_crossing.specs.js_machine.Looks.{marks_in};
+ghost use Rattle.js_crossing.specs.js_run.Heap as heap;
+ghost use Rattle.js_crossing.specs.js_run.Journal.{Application};
+ghost use Rattle.js_world.specs.Worlds.{HasOwn, Suits, aside, charged, exchanged, own_here, steps_of, turned};
 
 use crate::waiting::Waiting;
 use js_crossing::js_machine::machine::Machine;
@@ -12,7 +15,9 @@ use js_crossing::newest::TracedCrossing;
 use js_desc::reply::Reply;
 use js_store::flat::FlatStore;
 use js_store::store::Store;
+use lava_base::ids::{PartyId, Ref};
 use lava_base::list::List;
+use lava_base::marks::Marks;
 use lava_base::memory::OutOfMemory;
 use std::alloc::Global;
 use std::marker::Model;
@@ -116,6 +121,36 @@ impl<S: Store> World<S> {
         ensures { result.now ≡ self.now.steps }
     {
         self.steps.as_slice()
+    }
+
+    /// The steps that a party has taken.
+    pub fn steps_of(&self, party: PartyId) -> u64
+        requires { party.0 < length self.now.steps }
+        ensures { result ≡ steps_of self.now party.0 }
+    {
+        self.steps[party.0 as usize]
+    }
+
+    /// The store of a party. Wherever the machine stands as a world of the one heap does, it has that party's objects in that world.
+    pub fn store_of(&self, party: PartyId) -> &S
+        requires { party.0 < length self.now.others }
+        ensures objects { S.objects result.now ≡ (own_here self.now party.0).objects }
+        ensures heap { (app : Application) (w : heap.World) → HasOwn app w self.now party.0
+            → S.objects result.now ≡ (w.own party.0).objects }
+        ensures owner { (app : Application) → Suits app self.now → (S.owner result.now).0 ≡ party.0 }
+    {
+        if self.machine.party().0 == party.0 {
+            self.machine.objects()
+        } else {
+            self.others[party.0 as usize].store()
+        }
+    }
+
+    /// What everyone may know of an object that a crossing has named, or that is the own one of the party in the machine or a common one; that of an ordinary object for any other.
+    pub fn marks_of(&self, reference: Ref) -> Marks
+        ensures { result ≡ marks_in self.now.machine reference }
+    {
+        self.machine.marks_of(reference)
     }
 
     /// What the host's import was answered with; nothing before it is.
