@@ -139,7 +139,7 @@ fn world_of(
     ensures new { IfOk result (λ world. world ≡ as_new machine others.items leads.items budget) }
     ensures rests { IfOk result RestsFirst }
 {
-    World::new(alloc, machine, others, leads, budget)
+    FlatWorld::new(alloc, machine, others, leads, budget)
 }
 
 /// The machine of all parties over prepared packages.
