@@ -19,7 +19,7 @@ fn marks_of(world: &FlatWorld, value: &Value) -> Marks
         ≡ shown_in world.now.machine value.now }
 {
     match value {
-        Value::Ref(object) => world.machine().marks_of(*object),
+        Value::Ref(object) => world.marks_of(*object),
         _ => NO_MARKS,
     }
 }
