@@ -1,9 +1,9 @@
 -- Objects that are constructed.
-use Rattle.std.proofs.Common.{◌≡◌, ℕ, List, [], ◌∷◌, ◌++◌, length, drop, reverse, Some, refl, sym, ap, ◌∙◌, subst, Result, Ok, Err, IfOk}
+use Rattle.std.proofs.Common.{◌≡◌, ℕ, [], ◌++◌, length, drop, reverse, Some, refl, sym, ap, ◌∙◌, subst, Result, Ok, Err, IfOk}
 use Rattle.std.proofs.lemmas.List.{length-reverse, reverse-reverse}
 use Rattle.lava_base.specs.declared.ids.MadeSymbol.{MadeSymbol}
 use Rattle.lava_base.specs.declared.ids.Ref.{Ref}
-use Rattle.js_text.specs.Naming.{Naming, naming_of}
+use Rattle.js_text.specs.Naming.{naming_of}
 use Rattle.js_text.specs.declared.value.Key.{Key}
 use Rattle.js_text.specs.declared.value.Value.{Value}
 use Rattle.js_text.specs.declared.value.Value.TheVariants as value

@@ -1,5 +1,5 @@
 -- The items of arrays, which come on the stack of values.
-use Rattle.std.proofs.Common.{◌≡◌, ℕ, zero, suc, ◌+◌, ◌<◌, ◌≤◌, Bool, true, false, List, [], ◌∷◌, ◌++◌, length, nat_lt, drop, reverse, Option, Some, None, refl, sym, ap, ◌∙◌, subst, arith, drop-drop, Result, Ok, Err, IfOk, OnOk, if◌then◌else◌}
+use Rattle.std.proofs.Common.{◌≡◌, ℕ, zero, suc, ◌+◌, Bool, true, false, List, [], ◌∷◌, ◌++◌, length, nat_lt, drop, reverse, Option, Some, None, refl, sym, ap, ◌∙◌, subst, arith, drop-drop, Result, Ok, Err, IfOk, OnOk, if◌then◌else◌}
 use Rattle.std.specs.Option.{option_map}
 use Rattle.std.proofs.lemmas.Bool.{ltb-false}
 use Rattle.std.proofs.lemmas.List.{get_or_past, length-reverse, reverse-append, reverse-reverse}

@@ -1,5 +1,5 @@
 -- Modules that are evaluated, and imports.
-use Rattle.std.proofs.Common.{◌≡◌, ℕ, suc, ◌+◌, ◌-◌, ◌<◌, ◌≤◌, Bool, true, false, List, [], ◌∷◌, ◌++◌, drop, length, map, slice_get, slice_set, nat_lt, Option, Some, None, refl, sym, ap, ◌∙◌, subst, arith, Result, Ok, Err, IfOk, OnOk, if◌then◌else◌, replicate}
+use Rattle.std.proofs.Common.{◌≡◌, ℕ, suc, ◌+◌, ◌-◌, ◌<◌, ◌≤◌, Bool, true, false, List, [], ◌∷◌, ◌++◌, drop, length, map, slice_set, nat_lt, Option, Some, None, refl, sym, ap, ◌∙◌, subst, arith, Result, Ok, Err, IfOk, OnOk, if◌then◌else◌, replicate}
 use Rattle.std.proofs.lemmas.Bool.{lt-ltb, le-ltb}
 use Rattle.std.proofs.lemmas.List.{map-set}
 use Rattle.lava_base.specs.declared.ids.MadeSymbol.{MadeSymbol}
@@ -11,10 +11,9 @@ use Rattle.js_desc.specs.declared.ask.Ask.{Ask}
 use Rattle.js_desc.specs.declared.ask.Ask.TheVariants as ask
 use Rattle.js_desc.specs.declared.reply.Reply.{Reply}
 use Rattle.js_desc.specs.declared.reply.Reply.TheVariants as reply
-use Rattle.js_code.specs.Decoded.{template_at, term_at}
+use Rattle.js_code.specs.Decoded.{term_at}
 use Rattle.js_code.specs.Tables.{Tables, part_of}
 use Rattle.js_code.specs.declared.node.TemplateRow.{TemplateRow}
-use Rattle.js_term.specs.declared.term.Template.{out-Template}
 use Rattle.js_term.specs.declared.term.TemplateKind.TheVariants as kind
 use Rattle.js_state.specs.Scopes.{Scope, with_slot}
 use Rattle.js_machine.specs.js_run.Acts.{Act, Closes, End, Evaluate, Give, Import, Then, give, on_value, with_value}
@@ -28,9 +27,9 @@ use Rattle.js_machine.specs.js_run.Requests.{is_link}
 use Rattle.js_machine.specs.js_run.Runs.{Asks_out, Imports, answered}
 use Rattle.js_machine.specs.js_run.declared.TheConstants.{MAX_DEPTH}
 use Rattle.js_machine.specs.Bodies.{running_of}
-use Rattle.js_machine.specs.Evaluated.{given_of, import_sent, imports_over, module_numbered, module_object, module_over, module_threw, numbers_from, unbegun, with_module, with_module_objects, with_module_scope}
+use Rattle.js_machine.specs.Evaluated.{import_sent, imports_over, module_numbered, module_over, module_threw, numbers_from, unbegun, with_module, with_module_objects, with_module_scope}
 use Rattle.js_machine.specs.Filling.{scope_with, with_open_scope}
-use Rattle.js_machine.specs.Made.{row_of, with_object}
+use Rattle.js_machine.specs.Made.{row_of}
 use Rattle.js_machine.specs.Opened.{runs, template_of}
 use Rattle.js_machine.specs.Packages.{loaded_in, loaded_of}
 use Rattle.js_machine.specs.Steps.{Deed, IsDelivered, LeadsTo, WaitsFor, Wakes, over, settles, under, with_top}

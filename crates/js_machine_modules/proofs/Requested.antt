@@ -1,5 +1,5 @@
 -- Paths, part by part.
-use Rattle.std.proofs.Common.{◌≡◌, ◌∙◌, refl, sym, ap, ℕ, suc, ◌-◌, Bool, true, false, List, [], ◌∷◌, ◌++◌, length, take, Some, arith}
+use Rattle.std.proofs.Common.{◌≡◌, ◌∙◌, refl, sym, ap, ℕ, suc, ◌-◌, Bool, true, false, List, [], ◌∷◌, length, take, Some, arith}
 use Rattle.js_machine.specs.js_run.Requests.{but_last, joined_parts, up}
 
 -- all parts but the last one

@@ -1,5 +1,5 @@
 -- What a `require` does.
-use Rattle.std.proofs.Common.{◌≡◌, ℕ, zero, suc, ◌+◌, ◌<◌, ◌≤◌, ◌↔◌, Bool, true, false, cond, List, [], ◌∷◌, ◌++◌, length, map, nat_eq, slice_get, Option, Some, None, refl, sym, ap, ◌∙◌, subst, Result, Ok, Err, IfOk, OnOk, if◌then◌else◌}
+use Rattle.std.proofs.Common.{◌≡◌, ℕ, suc, ◌<◌, ◌≤◌, Bool, true, false, List, [], ◌∷◌, length, map, nat_eq, slice_get, Option, Some, None, refl, sym, ap, ◌∙◌, subst, Result, Ok, Err, IfOk, OnOk, if◌then◌else◌}
 use Rattle.std.specs.Map.{lookup}
 use Rattle.std.specs.Option.{option_and_then, option_map}
 use Rattle.std.proofs.lemmas.Bool.{lt-ltb, le-ltb}
@@ -13,13 +13,11 @@ use Rattle.js_text.specs.declared.value.Value.{Value}
 use Rattle.js_text.specs.declared.value.Value.TheVariants as value
 use Rattle.js_desc.specs.declared.ask.Ask.{Ask}
 use Rattle.js_desc.specs.declared.ask.Ask.TheVariants as ask
-use Rattle.js_desc.specs.declared.fault.FaultText.TheVariants as fault
 use Rattle.js_ordinary.specs.Origins.{object_of, there}
 use Rattle.js_ordinary.specs.Targets.{object_seen, origin_of_target}
 use Rattle.js_ordinary.specs.declared.target.Target.{Target}
 use Rattle.js_store.specs.Frozen.{CommonObject, common_ref}
 use Rattle.js_store.specs.Objects.{Object}
-use Rattle.js_store.specs.declared.slot.Entry.{Entry}
 use Rattle.js_store.specs.declared.slot.Held.TheVariants as held
 use Rattle.js_store.specs.declared.slot.Slot.{Slot}
 use Rattle.js_store.specs.declared.slot.Slot.TheVariants as slot
@@ -27,14 +25,14 @@ use Rattle.js_code.specs.Tables.{Tables}
 use Rattle.js_machine.specs.js_run.Acts.{Act, End, give, throws, with_value}
 use Rattle.js_machine.specs.js_run.Completions as halt_kind
 use Rattle.js_machine.specs.js_run.Decisions.{called_at, decides_ask, decides_by_slot, decides_object}
-use Rattle.js_machine.specs.js_run.Faults.{error_object, faults}
+use Rattle.js_machine.specs.js_run.Faults.{error_object}
 use Rattle.js_machine.specs.js_run.Modules.{evaluates_module, get_exports, imported_module, imports, imports_there, loaded_at, mapped, module_value, path_of, requires_by, requires_module, requires_path, requires_there, throws_plain_error}
 use Rattle.js_machine.specs.js_run.Parties.{Party, Shared, made}
 use Rattle.js_machine.specs.js_run.Requests.{candidates, directory_of, not_found_text, first_module, first_of, joined_parts, module_at, module_of, parts_of, walked, whole_request}
 use Rattle.js_machine.specs.js_run.Runs.{answered, settle}
 use Rattle.js_machine.specs.js_run.declared.intrinsics.TheConstants.{ERROR_PROTOTYPE}
 use Rattle.js_machine.specs.Halts.{halt_number}
-use Rattle.js_machine.specs.Packages.{loaded_in, loaded_of}
+use Rattle.js_machine.specs.Packages.{loaded_of}
 use Rattle.js_machine.specs.Evaluated.{IsImported, module_or, unbegun, waits_for_exports}
 use Rattle.js_machine.specs.Requested.{begun_at, first_place, first_text, imported_place, mapped_given, module_in, module_path, place_at, place_from, place_there, request_in, requires_given, with_plain_error}
 use Rattle.js_machine.specs.Steps.{Deed, LeadsTo, settles}

@@ -1,5 +1,4 @@
-use Rattle.std.proofs.Common.{◌∙◌, ◌++◌, ap, length, reverse, sym}
-use Rattle.js_text.specs.Naming.{naming_of}
+use Rattle.std.proofs.Common.{◌++◌, ap, length, reverse}
 use Rattle.js_machine_calls.proofs.Spread_out.{none_seen, seen_count, seen_pushed}
 use Rattle.js_machine_calls.proofs.listed_arguments.push_items_of.Goals as goal
 

@@ -1,4 +1,4 @@
-use Rattle.std.proofs.Common.{◌∙◌, sym, ap, if◌then◌else◌, slice_get}
+use Rattle.std.proofs.Common.{◌∙◌, sym, if◌then◌else◌, slice_get}
 use Rattle.js_text.specs.Naming.{naming_of}
 use Rattle.js_machine.specs.js_run.Modules.{requires_builtin, requires_package, requires_path}
 use Rattle.js_machine.specs.js_run.Requests.{first_part, is_builtin, is_dots, is_relative, link_of, parts_of}

@@ -1,4 +1,4 @@
-use Rattle.std.proofs.Common.{rules, IfOk, ℤ, ◌≡◌, sym, subst, w64}
+use Rattle.std.proofs.Common.{rules, IfOk, ℤ, sym, subst, w64}
 use Rattle.std.proofs.lemmas.Int.{to_z-of_z}
 use Rattle.js_text.specs.declared.value.Value.TheVariants as value
 use Rattle.js_machine.specs.js_run.Operators.{binary_value}
