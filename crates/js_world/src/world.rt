@@ -131,6 +131,19 @@ impl<S: Store> World<S> {
         self.steps[party.0 as usize]
     }
 
+    /// The store of a party, which stands in the machine or in its place.
+    #[tactic(auto, using(crate::proofs::Stored::objects_here, crate::proofs::Stored::owner_here, crate::proofs::Stored::objects_there, crate::proofs::Stored::owner_there))]
+    fn stored(&self, party: u32) -> &S
+        requires { party < length self.now.others }
+        ensures objects { S.objects result.now ≡ (own_here self.now party).objects }
+        ensures owner { (S.owner result.now).0 ≡ (own_here self.now party).me }
+    {
+        if self.machine.party().0 == party {
+            return self.machine.objects();
+        }
+        self.others[party as usize].store()
+    }
+
     /// The store of a party. Wherever the machine stands as a world of the one heap does, it has that party's objects in that world.
     pub fn store_of(&self, party: PartyId) -> &S
         requires { party.0 < length self.now.others }
@@ -139,11 +152,7 @@ impl<S: Store> World<S> {
             → S.objects result.now ≡ (w.own party.0).objects }
         ensures owner { (app : Application) → Suits app self.now → (S.owner result.now).0 ≡ party.0 }
     {
-        if self.machine.party().0 == party.0 {
-            self.machine.objects()
-        } else {
-            self.others[party.0 as usize].store()
-        }
+        self.stored(party.0)
     }
 
     /// What everyone may know of an object that a crossing has named, or that is the own one of the party in the machine or a common one; that of an ordinary object for any other.
