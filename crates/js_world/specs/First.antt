@@ -11,7 +11,7 @@ use Rattle.js_crossing.specs.declared.leads.Lead.{Lead}
 
 -- a machine of all parties that has done nothing yet
 abbrev pub as_new : View → List Own → List (List Lead) → (budget : ℕ) → WorldView
-as_new machine others leads budget = record { machine = machine; others = others; leads = leads; steps = replicate (length others) 0; spent = 0; budget = budget; stack = []; last = None; tracing = false; newest = None }
+as_new machine others leads budget = record { machine = machine; others = others; leads = leads; steps = replicate (length others) 0; spent = 0; budget = budget; stack = []; last = None; tracing = false; newest = None; short = false }
 
 -- each party has what the application has of it, and what is known is what the starts name
 pub record IsFirst (app : Application) (v : WorldView) : Type 0 where

@@ -35,7 +35,7 @@ use Rattle.js_crossing.specs.declared.leads.Lead.{Lead}
 use Rattle.js_crossing.specs.declared.newest.TracedCrossing.{TracedCrossing}
 use Rattle.js_world.specs.declared.waiting.Waiting.{Waiting}
 
--- the party that runs has its own things in the machine, and each other one has them in its place of the list. Where the links of each party lead stands in a list, too. What waits stands with the newest first. The answer to the host's import is kept, once there is one, and where crossings are traced the newest of them
+-- the party that runs has its own things in the machine, and each other one has them in its place of the list. Where the links of each party lead stands in a list, too. What waits stands with the newest first. The answer to the host's import is kept, once there is one, and where crossings are traced the newest of them. After want of memory it is short of memory for good
 pub record WorldView : Type 0 where
   pub machine : View
   pub others : List Own
@@ -47,6 +47,7 @@ pub record WorldView : Type 0 where
   pub last : Option (Reply Ref MadeSymbol)
   pub tracing : Bool
   pub newest : Option TracedCrossing
+  pub short : Bool
 
 -- THE THINGS OF EACH PARTY
 

@@ -1,6 +1,6 @@
 // The first import of a run.
 
-ghost use Rattle.std.specs.Prelude.{◌≡◌, [], IfOk};
+ghost use Rattle.std.specs.Prelude.{◌≡◌, [], false, IfOk, OnErr, OnOk, true};
 ghost use Rattle.js_crossing.specs.js_run.Journal.{root_link};
 ghost use Rattle.js_world.specs.First.{IsBegun};
 
@@ -29,13 +29,33 @@ fn first_import(alloc: Global) -> Result<Imported, OutOfMemory>
 }
 
 impl<S: Store> World<S> {
-    /// The host imports the application's own package, whose party runs then.
-    pub fn begin(&mut self, alloc: Global) -> Result<Mode, OutOfMemory>
+    /// The host imports the application's own package.
+    fn begin_on(&mut self, alloc: Global) -> Result<Mode, OutOfMemory>
         requires { self.now.machine.frames ≡ [] }
         ensures { IfOk result (IsBegun self.old self.new) }
     {
         let imported = first_import(alloc)?;
         self.keep_import(HOST, ROOT_PARTY, &imported)?;
         self.hand_import(ROOT_PARTY, &imported)
+    }
+
+    /// The host imports the application's own package, whose party runs then. Want of memory is
+    /// answered too after want of memory.
+    pub fn begin(&mut self, alloc: Global) -> Result<Mode, OutOfMemory>
+        requires { self.now.machine.frames ≡ [] }
+        ensures begins { IfOk result (IsBegun self.old self.new) }
+        ensures open { OnOk result (self.old.short ≡ false) }
+        ensures short { OnErr result (self.new.short ≡ true) }
+    {
+        if self.short {
+            return Err(OutOfMemory);
+        }
+        match self.begin_on(alloc) {
+            Ok(mode) => Ok(mode),
+            Err(short) => {
+                self.short = true;
+                Err(short)
+            }
+        }
     }
 }

@@ -1,6 +1,6 @@
 // From one crossing to the next.
 
-ghost use Rattle.std.specs.Prelude.{◌≡◌, ◌<◌, [], drop, length, IfOk, OnOk, Some, true};
+ghost use Rattle.std.specs.Prelude.{◌≡◌, ◌<◌, [], drop, false, length, IfOk, OnErr, OnOk, Some, true};
 ghost use Rattle.js_crossing.specs.js_run.Completions.{reply_of};
 ghost use Rattle.js_crossing.specs.js_run.Journal.{end_of, is_host, owner_of};
 ghost use Rattle.js_crossing.specs.js_run.Runs.{Asks};
@@ -231,13 +231,31 @@ impl<S: Store> World<S> {
         }
     }
 
-    /// To the next crossing, or to a call of the outside before it. Want of memory is answered too
-    /// where a number of a party is none, where steps could be too many to be counted, where the
-    /// table of leads has no such link, and where an ask makes a party.
-    pub fn cross(&mut self, mode: Mode) -> Result<Turn, OutOfMemory>
+    /// To the next crossing, or to a call of the outside before it.
+    fn cross_on(&mut self, mode: Mode) -> Result<Turn, OutOfMemory>
         ensures { IfOk result (Crosses self.old mode self.new) }
     {
         let stop = self.run_party(mode)?;
         self.follow(stop)
+    }
+
+    /// To the next crossing, or to a call of the outside before it. Want of memory is answered too
+    /// after want of memory, where a number of a party is none, where steps could be too many to be
+    /// counted, where the table of leads has no such link, and where an ask makes a party.
+    pub fn cross(&mut self, mode: Mode) -> Result<Turn, OutOfMemory>
+        ensures crosses { IfOk result (Crosses self.old mode self.new) }
+        ensures open { OnOk result (self.old.short ≡ false) }
+        ensures short { OnErr result (self.new.short ≡ true) }
+    {
+        if self.short {
+            return Err(OutOfMemory);
+        }
+        match self.cross_on(mode) {
+            Ok(turn) => Ok(turn),
+            Err(short) => {
+                self.short = true;
+                Err(short)
+            }
+        }
     }
 }

@@ -1,6 +1,6 @@
 // Answers of the outside.
 
-ghost use Rattle.std.specs.Prelude.{◌≡◌, ◌<◌, length, IfOk, OnOk};
+ghost use Rattle.std.specs.Prelude.{◌≡◌, ◌<◌, false, length, IfOk, OnErr, OnOk, true};
 ghost use Rattle.js_world.specs.Asked_outside.{Answers, GoesOnAfter};
 
 use crate::world::World;
@@ -27,12 +27,31 @@ impl<S: Store> World<S> {
         run_on(&mut self.machine, None, pause, mode)
     }
 
-    /// The outside answers the newest call of the party in the machine, at which a crossing paused,
-    /// and the machine goes on to the end of the crossing.
-    pub fn answer(&mut self, pause: Pause, answer: HostAnswer) -> Result<Turn, OutOfMemory>
+    /// The outside answers, and the machine goes on to the end of the crossing.
+    fn answer_on(&mut self, pause: Pause, answer: HostAnswer) -> Result<Turn, OutOfMemory>
         ensures { IfOk result (Answers pause answer self.old self.new) }
     {
         let stop = self.go_on_after(pause, answer)?;
         self.follow(stop)
+    }
+
+    /// The outside answers the newest call of the party in the machine, at which a crossing paused,
+    /// and the machine goes on to the end of the crossing. Want of memory is answered too after
+    /// want of memory.
+    pub fn answer(&mut self, pause: Pause, answer: HostAnswer) -> Result<Turn, OutOfMemory>
+        ensures answers { IfOk result (Answers pause answer self.old self.new) }
+        ensures open { OnOk result (self.old.short ≡ false) }
+        ensures short { OnErr result (self.new.short ≡ true) }
+    {
+        if self.short {
+            return Err(OutOfMemory);
+        }
+        match self.answer_on(pause, answer) {
+            Ok(turn) => Ok(turn),
+            Err(short) => {
+                self.short = true;
+                Err(short)
+            }
+        }
     }
 }

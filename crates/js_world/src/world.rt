@@ -44,6 +44,8 @@ pub struct World<S: Store> {
     pub(crate) tracing: bool,
     /// It, once there is one.
     pub(crate) newest: Option<TracedCrossing>,
+    /// Whether memory was wanting, after which it always is.
+    pub(crate) short: bool,
 }
 
 /// The machine of all parties whose objects stand in flat stores, which is the one that a command runs.
@@ -66,6 +68,7 @@ impl<S: Store> Model for World<S> {
       last = w.last;
       tracing = w.tracing;
       newest = w.newest;
+      short = w.short;
     } };
 }
 
@@ -113,6 +116,7 @@ impl<S: Store> World<S> {
             last: None,
             tracing: false,
             newest: None,
+            short: false,
         })
     }
 

@@ -1,5 +1,5 @@
 use Rattle.js_world.proofs.Outside_laws.{answers_so}
-use Rattle.js_world.proofs.world.World.answer.Goals as goal
+use Rattle.js_world.proofs.world.World.answer_on.Goals as goal
 
 pub returns : goal.returns
 returns g c =
