@@ -1,6 +1,5 @@
 pub mod Given_laws
 pub mod Kept
-pub mod Stored
 pub mod Traced_laws
 pub mod Turned_laws
 pub mod Crossed

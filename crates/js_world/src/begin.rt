@@ -44,7 +44,7 @@ impl<S: Store> World<S> {
     pub fn begin(&mut self, alloc: Global) -> Result<Mode, OutOfMemory>
         requires { self.now.machine.frames ≡ [] }
         ensures begins { IfOk result (IsBegun self.old self.new) }
-        ensures open { OnOk result (self.old.short ≡ false) }
+        ensures enough { OnOk result (self.old.short ≡ false) }
         ensures short { OnErr result (self.new.short ≡ true) }
     {
         if self.short {

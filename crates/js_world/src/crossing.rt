@@ -244,7 +244,7 @@ impl<S: Store> World<S> {
     /// counted, where the table of leads has no such link, and where an ask makes a party.
     pub fn cross(&mut self, mode: Mode) -> Result<Turn, OutOfMemory>
         ensures crosses { IfOk result (Crosses self.old mode self.new) }
-        ensures open { OnOk result (self.old.short ≡ false) }
+        ensures enough { OnOk result (self.old.short ≡ false) }
         ensures short { OnErr result (self.new.short ≡ true) }
     {
         if self.short {

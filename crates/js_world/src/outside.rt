@@ -40,7 +40,7 @@ impl<S: Store> World<S> {
     /// want of memory.
     pub fn answer(&mut self, pause: Pause, answer: HostAnswer) -> Result<Turn, OutOfMemory>
         ensures answers { IfOk result (Answers pause answer self.old self.new) }
-        ensures open { OnOk result (self.old.short ≡ false) }
+        ensures enough { OnOk result (self.old.short ≡ false) }
         ensures short { OnErr result (self.new.short ≡ true) }
     {
         if self.short {

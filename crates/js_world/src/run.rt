@@ -15,7 +15,7 @@ impl<S: Store> World<S> {
     pub fn run_to_end(&mut self, mode: Mode) -> Result<Turn, OutOfMemory>
         ensures ends { IfOk result (Ends self.old mode self.new) }
         ensures stops { IfOk result (λ t. runs_still t ≡ false) }
-        ensures open { OnOk result (self.old.short ≡ false) }
+        ensures enough { OnOk result (self.old.short ≡ false) }
         ensures short { OnErr result (self.new.short ≡ true) }
     {
         if self.short {

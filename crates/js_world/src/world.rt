@@ -136,7 +136,6 @@ impl<S: Store> World<S> {
     }
 
     /// The store of a party, which stands in the machine or in its place.
-    #[tactic(auto, using(crate::proofs::Stored::objects_here, crate::proofs::Stored::owner_here, crate::proofs::Stored::objects_there, crate::proofs::Stored::owner_there))]
     fn stored(&self, party: u32) -> &S
         requires { party < length self.now.others }
         ensures objects { S.objects result.now ≡ (own_here self.now party).objects }
