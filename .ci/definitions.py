@@ -40,7 +40,10 @@ HEAD = """# The definitions, by the clause that each restates
 `.ci/definitions.py` makes this page from the citation lines above the definitions, and `.ci/run` compares it: change those lines, and \
 run the script. A definition stands in `crates/CRATE/specs/FILE.antt`. The last column has the public functions and types whose comment \
 names the clause. What a definition says in plain words stands above it in its file, and a definition that cites nothing is a helper or \
-a law, or of this repository's own subject (the run of parties, the outside)."""
+a law, or of this repository's own subject (the run of parties, the outside).
+
+ECMA-262 is cited by the names of its clauses; the numbers of steps fit its 15th edition (June 2024), but for those that `DECISIONS.md`, \
+"The standard", names, which also says how that was looked at. Where a number is off, the clause's name and words decide."""
 OWN_HEAD = "Where a definition takes the place of a standard's, and departs from it by choice."
 
 
