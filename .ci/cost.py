@@ -5,7 +5,7 @@
                                and stands in FOLDER/ci.log too; the costs stand in FOLDER/costs (the folder: /tmp/rt-ci-costs)
   .ci/cost.py watch PID FILE   watches an `rt ci` that goes on, and appends to the file what each process took
   .ci/cost.py table FILE       prints a Markdown table of what stands in the file
-  .ci/cost.py write FILE       writes the column `Minutes` of docs/ARCHITECTURE.md, and the lines on the whole run there
+  .ci/cost.py write FILE       writes the column `Minutes` of docs/ARCHITECTURE.md, of the proofs, and the paragraph on the whole run there
 
 The log of `rt ci` has no times, so the processes below it are looked at some times a second in /proc. A line of the file is one
 process that has ended: its processor seconds, the crate, the part and the command. What a process takes after the last look at it,
@@ -181,24 +181,20 @@ def table(path):
     row("all", *(minutes(it) for it in sums), minutes(max(whole, sum(sums))))
 
 
-def cell(of):
-    """Returns what the page says of a crate: the minutes in all, and those of tests and edits where they took half a minute."""
-    if not of:
-        return ""
-    more = [f"{part} {minutes(of[part])}" for part in PARTS[1:] if of[part] >= 30]
-    return minutes(sum(of.values())) + (f" ({', '.join(more)})" if more else "")
-
-
 def write(path):
     costs, whole = costs_in(path)
     sums = {part: sum(of[part] for of in costs.values()) for part in PARTS}
     known, whole = sum(sums.values()), max(whole, sum(sums.values()))
     lacking = [it for it in order() if it not in costs]
+    # (`./lava prove` reads the last cell of a crate's row, so it has the proof alone)
+    more = {part: [f"{it} {minutes(costs[it][part])}" for it in order() if it in costs and costs[it][part] >= 30] for part in PARTS[1:]}
     day = time.strftime("%d %B %Y", time.localtime(os.path.getmtime(path))).lstrip("0")
     said = (
         f"The figures are of a run that ended on {day}: {minutes(whole)} minutes of processor time, {minutes(sums['proof'])} of them for proofs, "
         f"{minutes(sums['tests'])} for tests and programs, {minutes(sums['edits'])} for edits and {minutes(whole - known)} that the watch did not see."
     )
+    for part, told in more.items():
+        said += f" {part.capitalize()} took half a minute or more of: {', '.join(told)}." if told else ""
     if lacking:
         said += f" None stands where the watch saw nothing of a crate: {', '.join(lacking)}."
     out, is_within = [], False
@@ -212,7 +208,7 @@ def write(path):
         elif line.startswith("<!-- costs end"):
             is_within = False
         if row and row[1] in order():
-            line = "|".join([*line.split("|")[:-2], f" {cell(costs.get(row[1]))} ", ""])
+            line = "|".join([*line.split("|")[:-2], f" {minutes(costs[row[1]]['proof']) if row[1] in costs else ''} ", ""])
         if not is_within:
             out.append(line)
     with open(PAGE, "w", encoding="utf-8") as it:
