@@ -221,12 +221,13 @@ def page():
     table(out, ("Name", "Is", "", "Note"), rows)
     out += ["In a module there are `exports`, `require` and `module` besides, and `undefined` is a name for the value. What a row of the policy grants, "
             "and the application's own package has, are the host's objects:", ""]
-    table(out, ("Name", "Members"), [(f"`{name}`" if name != "fs" else "`fs`, by `require('fs')`", ", ".join(f"`{it}`" for it in found)) for name, found in host().items()])
+    table(out, ("Name", "Members"), [(f"`{name}`" if name != "fs" else "`fs`, by `require('fs')` or `require('node:fs')`", ", ".join(f"`{it}`" for it in found)) for name, found in host().items()])
     missing = [it for it in STANDARD["globalThis"].split() if it not in [*names, "undefined"]]
     out += ["**In ECMA-262, and not here:** " + ", ".join(f"`{it}`" for it in missing) + ". There are no regular expressions, dates, promises, typed arrays, "
             "weak references and sets, and no `eval`; numbers that are no integers have no functions. Nor is there anything of a browser or of Node.js, as "
             "timers, `process`, `Buffer` and `fetch`.", ""]
-    out += ["## Properties", "", "`f(x)` is a method with its parameters as the prelude writes them; a path is the object that stands there.", ""]
+    out += ["## Properties", "", "`f(x)` is a method with its parameters as the prelude writes them; a path is the object that stands there. "
+            "What is not here may be inherited, as `valueOf` of `Object.prototype`.", ""]
     used = set()
     for path in [it for it in known if it in every]:
         rows, has = [], {key for key, *_ in every[path]}
