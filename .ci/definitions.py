@@ -20,8 +20,10 @@ import os
 import re
 import sys
 
+sys.dont_write_bytecode = True
+from printed_page import serve
+
 TOP = os.path.dirname(os.path.dirname(os.path.abspath(__file__)))
-PAGE = f"{TOP}/docs/DEFINITIONS.md"
 STANDARDS = ("ECMA-262", "Unicode", "SES", "LavaMoat")
 NAMES = "|".join(STANDARDS)
 CLAUSE = r"(?P<clause>\"[^\"]+\"|[^\s,.:;\"()](?:[^,.;\"()]|\.(?=\w))*)(?:, (?P<part>\S|\S.*[^\s.]))?"
@@ -174,23 +176,4 @@ def page():
     return "\n".join(out), faults
 
 
-def main(words):
-    if words not in ([], ["--check"], ["--print"]):
-        sys.exit(__doc__)
-    text, faults = page()
-    if faults:
-        sys.exit("\n".join(faults))
-    if words == ["--print"]:
-        print(text, end="")
-    elif not words:
-        with open(PAGE, "w", encoding="utf-8") as it:
-            it.write(text)
-    else:
-        stands, wanted = lines_of(PAGE), text.split("\n")
-        for number in range(max(len(stands), len(wanted))):
-            here, there = (it[number] if number < len(it) else "(no line)" for it in (stands, wanted))
-            if here != there:
-                sys.exit(f"docs/DEFINITIONS.md:{number + 1} is\n  {here}\nand .ci/definitions.py makes\n  {there}")
-
-
-main(sys.argv[1:])
+serve(".ci/definitions.py", "docs/DEFINITIONS.md", page, __doc__)

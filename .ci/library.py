@@ -13,8 +13,10 @@ import os
 import re
 import sys
 
+sys.dont_write_bytecode = True
+from printed_page import serve
+
 TOP = os.path.dirname(os.path.dirname(os.path.abspath(__file__)))
-PAGE = f"{TOP}/docs/LIBRARY.md"
 
 # The names of the global object and the properties of the intrinsics, in ECMA-262, 15th edition (June 2024), without its Annex B.
 STANDARD = {
@@ -249,24 +251,4 @@ def page():
     return "\n".join(out), faults
 
 
-def main(words):
-    if words not in ([], ["--check"], ["--print"]):
-        sys.exit(__doc__)
-    text, faults = page()
-    if faults:
-        sys.exit("\n".join(faults))
-    if words == ["--print"]:
-        print(text, end="")
-    elif not words:
-        with open(PAGE, "w", encoding="utf-8") as it:
-            it.write(text)
-    else:
-        with open(PAGE, encoding="utf-8") as it:
-            stands, wanted = it.read().split("\n"), text.split("\n")
-        for number in range(max(len(stands), len(wanted))):
-            here, there = (it[number] if number < len(it) else "(no line)" for it in (stands, wanted))
-            if here != there:
-                sys.exit(f"docs/LIBRARY.md:{number + 1} is\n  {here}\nand .ci/library.py makes\n  {there}")
-
-
-main(sys.argv[1:])
+serve(".ci/library.py", "docs/LIBRARY.md", page, __doc__)
