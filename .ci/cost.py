@@ -4,12 +4,13 @@
   .ci/cost.py run [FOLDER]     runs `rt ci` as its child, watches it, and ends with its status. Its output comes as it is written,
                                and stands in FOLDER/ci.log too; the costs stand in FOLDER/costs (the folder: /tmp/rt-ci-costs)
   .ci/cost.py watch PID FILE   watches an `rt ci` that goes on, and appends to the file what each process took
-  .ci/cost.py table FILE       prints the Markdown table of docs/ARCHITECTURE.md
+  .ci/cost.py table FILE       prints a Markdown table of what stands in the file
+  .ci/cost.py write FILE       writes the column `Minutes` of docs/ARCHITECTURE.md, of the proofs, and the paragraph on the whole run there
 
 The log of `rt ci` has no times, so the processes below it are looked at some times a second in /proc. A line of the file is one
 process that has ended: its processor seconds, the crate, the part and the command. What a process takes after the last look at it,
 and what ended before the watch began, is missing. A line `whole` is what the system counted for the run up to then: its own time and
-that of all children that it has waited for. The table's last row is the rest, which no line tells.
+that of all children that it has waited for. What no line tells is the rest.
 """
 import os
 import re
@@ -22,6 +23,7 @@ TICKS = os.sysconf("SC_CLK_TCK")
 PAUSE = 0.25
 PARTS = ("proof", "tests", "edits")
 TOP = os.path.dirname(os.path.dirname(os.path.abspath(__file__)))
+PAGE = f"{TOP}/docs/ARCHITECTURE.md"
 
 
 def stat(pid):
@@ -142,10 +144,12 @@ def run(folder):
 def order():
     """Returns the crates as crates.txt has them."""
     with open(f"{TOP}/crates.txt", encoding="utf-8") as it:
-        return [line.split(":")[0].split()[0] for line in it if line.split(":")[0].strip() and not line.startswith("#")]
+        heads = [line.partition("#")[0].partition(":") for line in it]
+    return [name.split()[0] for name, colon, _ in heads if colon]
 
 
-def table(path):
+def costs_in(path):
+    """Returns the seconds of each part by the crate, and those of the whole run."""
     costs, whole = {}, 0
     with open(path, encoding="utf-8") as it:
         for line in it:
@@ -154,9 +158,17 @@ def table(path):
                 whole = max(whole, float(seconds))
             elif crate != "-":
                 costs.setdefault(crate, dict.fromkeys(PARTS, 0))[part] += float(seconds)
+    return costs, whole
+
+
+def minutes(seconds):
+    return f"{seconds / 60:.1f}"
+
+
+def table(path):
+    costs, whole = costs_in(path)
     first = {crate: at for at, crate in enumerate(order())}
     row = lambda *cells: print("| " + " | ".join(cells) + " |")
-    minutes = lambda seconds: f"{seconds / 60:.1f}"
     row("Crate", "Proof", "Tests", "Edits", "Sum")
     row("---", "--:", "--:", "--:", "--:")
     for crate in sorted(costs, key=lambda it: (first.get(it, len(first)), it)):
@@ -169,6 +181,40 @@ def table(path):
     row("all", *(minutes(it) for it in sums), minutes(max(whole, sum(sums))))
 
 
+def write(path):
+    costs, whole = costs_in(path)
+    sums = {part: sum(of[part] for of in costs.values()) for part in PARTS}
+    known, whole = sum(sums.values()), max(whole, sum(sums.values()))
+    lacking = [it for it in order() if it not in costs]
+    # (`./lava prove` reads the last cell of a crate's row, so it has the proof alone)
+    more = {part: [f"{it} {minutes(costs[it][part])}" for it in order() if it in costs and costs[it][part] >= 30] for part in PARTS[1:]}
+    day = time.strftime("%d %B %Y", time.localtime(os.path.getmtime(path))).lstrip("0")
+    said = (
+        f"The figures are of a run that ended on {day}: {minutes(whole)} minutes of processor time, {minutes(sums['proof'])} of them for proofs, "
+        f"{minutes(sums['tests'])} for tests and programs, {minutes(sums['edits'])} for edits and {minutes(whole - known)} that the watch did not see."
+    )
+    for part, told in more.items():
+        said += f" {part.capitalize()} took half a minute or more of: {', '.join(told)}." if told else ""
+    if lacking:
+        said += f" None stands where the watch saw nothing of a crate: {', '.join(lacking)}."
+    out, is_within = [], False
+    with open(PAGE, encoding="utf-8") as it:
+        lines = it.read().splitlines()
+    for line in lines:
+        row = re.match(r"\| `(\w+)` \|", line)
+        if line.startswith("<!-- costs:"):
+            out += [line, said]
+            is_within = True
+        elif line.startswith("<!-- costs end"):
+            is_within = False
+        if row and row[1] in order():
+            line = "|".join([*line.split("|")[:-2], f" {minutes(costs[row[1]]['proof']) if row[1] in costs else ''} ", ""])
+        if not is_within:
+            out.append(line)
+    with open(PAGE, "w", encoding="utf-8") as it:
+        it.writelines(f"{line}\n" for line in out)
+
+
 def main(words):
     if words[:1] == ["run"] and len(words) <= 2:
         return run(words[1] if words[1:] else "/tmp/rt-ci-costs")
@@ -176,6 +222,8 @@ def main(words):
         return watch(int(words[1]), words[2])
     if words[:1] == ["table"] and len(words) == 2:
         return table(words[1])
+    if words[:1] == ["write"] and len(words) == 2:
+        return write(words[1])
     print(__doc__, end="", file=sys.stderr)
     return 2
 

@@ -20,8 +20,10 @@ import os
 import re
 import sys
 
+sys.dont_write_bytecode = True
+from printed_page import serve
+
 TOP = os.path.dirname(os.path.dirname(os.path.abspath(__file__)))
-PAGE = f"{TOP}/docs/DEFINITIONS.md"
 STANDARDS = ("ECMA-262", "Unicode", "SES", "LavaMoat")
 NAMES = "|".join(STANDARDS)
 CLAUSE = r"(?P<clause>\"[^\"]+\"|[^\s,.:;\"()](?:[^,.;\"()]|\.(?=\w))*)(?:, (?P<part>\S|\S.*[^\s.]))?"
@@ -40,7 +42,10 @@ HEAD = """# The definitions, by the clause that each restates
 `.ci/definitions.py` makes this page from the citation lines above the definitions, and `.ci/run` compares it: change those lines, and \
 run the script. A definition stands in `crates/CRATE/specs/FILE.antt`. The last column has the public functions and types whose comment \
 names the clause. What a definition says in plain words stands above it in its file, and a definition that cites nothing is a helper or \
-a law, or of this repository's own subject (the run of parties, the outside)."""
+a law, or of this repository's own subject (the run of parties, the outside).
+
+ECMA-262 is cited by the names of its clauses; the numbers of steps fit its 15th edition (June 2024), but for those that `DECISIONS.md`, \
+"The standard", names, which also says how that was looked at. Where a number is off, the clause's name and words decide."""
 OWN_HEAD = "Where a definition takes the place of a standard's, and departs from it by choice."
 
 
@@ -171,23 +176,4 @@ def page():
     return "\n".join(out), faults
 
 
-def main(words):
-    if words not in ([], ["--check"], ["--print"]):
-        sys.exit(__doc__)
-    text, faults = page()
-    if faults:
-        sys.exit("\n".join(faults))
-    if words == ["--print"]:
-        print(text, end="")
-    elif not words:
-        with open(PAGE, "w", encoding="utf-8") as it:
-            it.write(text)
-    else:
-        stands, wanted = lines_of(PAGE), text.split("\n")
-        for number in range(max(len(stands), len(wanted))):
-            here, there = (it[number] if number < len(it) else "(no line)" for it in (stands, wanted))
-            if here != there:
-                sys.exit(f"docs/DEFINITIONS.md:{number + 1} is\n  {here}\nand .ci/definitions.py makes\n  {there}")
-
-
-main(sys.argv[1:])
+serve(".ci/definitions.py", "docs/DEFINITIONS.md", page, __doc__)
