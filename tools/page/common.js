@@ -244,8 +244,9 @@ class Rows {
       row.style.top = (i - from) * this.height + 'px';
       rows.push(row);
     }
+    this.rows.replaceChildren(...rows);
     const more = this.drawn?.(from, to);
-    this.rows.replaceChildren(...more ? [more] : [], ...rows);
+    if (more) this.rows.append(more);
     this.rows.style.transform = `translateY(${Math.round(this.box.scrollTop - (this.first - from) * this.height)}px)`;
     this.rows.style.height = most ? (to - from) * this.height + 'px' : '0';
     if (this.chosen >= from && this.chosen < to) this.box.setAttribute('aria-activedescendant', `${this.id}-${this.chosen}`);
@@ -430,7 +431,7 @@ function graph({ nodes, edges, choose, chosen, kinds, label }) {
     svg('title', null, `${node.label}\n${node.sub}`),
     svg('rect', { width: wide, height: high, rx: 5 }),
     svg('text', { x: 9, y: 15 }, node.label.length > 20 ? '..' + node.label.slice(-18) : node.label),
-    svg('text', { class: 'dim', x: 9, y: 29 }, node.sub));
+    svg('text', { class: 'dim', x: 9, y: 29 }, cut(node.sub, 21)));
     boxes.push({ node: box, id: node.id });
     picture.append(box);
   }

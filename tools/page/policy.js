@@ -11,6 +11,7 @@ function policyPanels(page, panel, policy) {
   const importers = new Map(rows.map(row => [row.name, []]));
   for (const row of rows) for (const name of row.imports) importers.get(name)?.push(row.name);
   const everything = rows.find(row => row.everything);
+  if (everything) for (const name of policy.links[everything.name] ?? []) importers.get(name)?.unshift(everything.name);
   const kinds = new Set(['import']);
   const groups = {
     fs: ['hold fs', row => row.fs.length], writes: ['may write globals', row => row.writes.length], host: ['hold other host objects', row => row.host.length || row.builtins.length],
@@ -68,7 +69,7 @@ function policyPanels(page, panel, policy) {
     const names = new Set(wanted.map(row => row.name));
     const picture = graph({
       nodes: wanted.map(row => ({ id: row.name, label: escaped(row.name), group: row.everything ? 'root' : '', alarm: row.fs.length + row.writes.length > 0 && !row.everything,
-        sub: row.everything ? 'everything' : [...row.fs, ...row.writes.map(key => 'write ' + key), ...row.builtins, ...row.host, ...row.globals].map(escaped).join(' ').slice(0, 26) || 'holds nothing' })),
+        sub: row.everything ? 'everything' : [...row.fs, ...row.writes.map(key => 'write ' + key), ...row.builtins, ...row.host, ...row.globals].map(escaped).join(' ') || 'holds nothing' })),
       edges: edges.filter(edge => names.has(edge.from) && names.has(edge.to)), kinds, chosen, choose: take, label: 'Packages, and an arrow from each to those that it may import. The table says the same.',
     });
     box.replaceChildren(picture);
@@ -89,7 +90,7 @@ function policyPanels(page, panel, policy) {
     page.side(el('h2', null, el('code', null, escaped(name))),
       el('dl', null, el('dt', null, 'folder'), el('dd', null, row.directory === null || row.directory === undefined ? 'none' : escaped(row.directory || '.')),
         el('dt', null, 'may import'), el('dd', null, row.everything ? 'all' : row.imports.length ? links(row.imports) : 'nothing'),
-        el('dt', null, 'is imported by'), el('dd', null, importers.get(name).length ? links(importers.get(name)) : 'the application alone, if at all')),
+        el('dt', null, 'is imported by'), el('dd', null, importers.get(name).length ? links(importers.get(name)) : 'nobody')),
       part('The override took away', row.taken.map(([kind, key]) => el('p', null, keysOf([`${kind} ${key}`], 'gone')))),
       part('The override added', row.added.map(([kind, key]) => el('p', null, keysOf([`${kind} ${key}`])))),
       row.unused ? part('No source asks for', row.unused.map(([kind, key]) => el('p', null, keysOf([`${kind} ${key}`])))) : [],

@@ -468,7 +468,7 @@ class TracePage {
         (joined && this.partner[i] >= 0 ? ', ' + cut(this.body(this.partner[i]), 200) : '') + (hidden ? `, ${hidden} folded` : '') },
     el('span', { class: 'n' }, String(i + 1)), el('span', { class: 'room' }), el('span', { class: 'pair', title: this.pair(i) }, this.pair(i)),
     this.indent(i),
-    el('button', { class: 'fold', tabindex: '-1', hidden: !foldable, 'aria-label': 'fold or unfold', onclick: () => this.toggle(i, !this.isFolded(i)) }, this.isFolded(i) ? '\u25b8' : '\u25be'),
+    el('button', { class: foldable ? 'fold' : 'fold none', tabindex: '-1', disabled: !foldable, 'aria-label': 'fold or unfold', onclick: () => this.toggle(i, !this.isFolded(i)) }, this.isFolded(i) ? '\u25b8' : '\u25be'),
     el('span', { class: 'what' }, this.told(i, 300, false, find), joined ? this.answered(i, 300, false, find) : null,
       hidden ? el('span', { class: 'hidden' }, `${counted(hidden)} between`) : null));
     row.querySelector('.room').style.width = this.laneWidth + 'px';
@@ -494,7 +494,7 @@ class TracePage {
     const width = Math.round((lanes.length - 1) * apart + 44), high = this.list.height, place = new Map(lanes.map((id, k) => [id, 22 + k * apart]));
     if (width !== this.laneWidth) {
       this.laneWidth = width;
-      for (const node of this.list.rows.querySelectorAll('.room')) node.style.width = width + 'px';
+      // (the rows were made for the width before)
       queueMicrotask(() => this.list.draw());
     }
     const height = (to - from) * high;
@@ -517,8 +517,7 @@ class TracePage {
     }
     this.openSpans(picture, from, to, place);
     picture.style.position = 'absolute';
-    picture.style.left = 'calc(9ch + 10px)';
-    picture.style.left = this.list.rows.querySelector('.n')?.offsetWidth + 'px';
+    picture.style.left = (this.list.numberWidth ??= this.list.rows.querySelector('.n')?.offsetWidth) + 'px';
     picture.style.pointerEvents = 'none';
     this.drawLaneNames(lanes, place, width);
     return picture;
@@ -552,7 +551,7 @@ class TracePage {
     this.laneKey = key;
     const slant = lanes.length > 1 && (width - 44) / (lanes.length - 1) < 80;
     const names = lanes.map(id => this.name(id)), longest = Math.min(20, Math.max(...names.map(name => name.length), 1));
-    const height = slant ? Math.round(longest * 5.4 + 14) : 24, left = this.list.rows.querySelector('.n')?.offsetWidth ?? 80;
+    const height = slant ? Math.round(longest * 5.4 + 14) : 24, left = this.list.numberWidth ?? 73;
     const picture = svg('svg', { width: left + width + (slant ? 130 : 60), height });
     lanes.forEach((id, k) => {
       const x = left + place.get(id), short = names[k].length > 20 ? '..' + names[k].slice(-18) : names[k];
