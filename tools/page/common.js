@@ -369,6 +369,11 @@ function graph({ nodes, edges, choose, chosen, kinds, label }) {
     return { x: 20 + c * across, y: 26 + (rows - count) * down / 2 + row * down };
   };
   const picture = svg('svg', { width, height, viewBox: `0 0 ${width} ${height}`, role: 'group', 'aria-label': label });
+  // (a wide picture is made smaller, up to where it can be read)
+  picture.style.width = '100%';
+  picture.style.height = 'auto';
+  picture.style.maxWidth = width + 'px';
+  picture.style.minWidth = Math.round(width * 0.72) + 'px';
   if (host.length && wall) {
     const x = 20 + wall * across - (across - wide) / 2;
     picture.append(svg('line', { class: 'wall', x1: x, x2: x, y1: 8, y2: height - 8 }));

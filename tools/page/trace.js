@@ -322,7 +322,7 @@ class TracePage {
     panel.append(tools, this.laneHead, this.list.box);
     this.party = null;
     this.fold();
-    return () => { this.list.draw(); };
+    return () => { this.list.draw(); this.list.box.focus({ preventScroll: true }); };
   }
 
   crossingKey(key, at) {
