@@ -127,13 +127,17 @@ class TracePage {
       } else node.append(part);
       return node;
     };
-    for (const [token] of text.slice(0, most * 2).matchAll(TOKENS)) {
+    for (const { 0: token, index: at } of text.slice(0, most * 2).matchAll(TOKENS)) {
       if (shown > most) { nodes.push('..'); break; }
       shown += token.length;
       if (/^[#@]\d/.test(token)) {
         const node = this.ref(token);
         if (reach) node.setAttribute('tabindex', '0');
         nodes.push(node);
+      } else if (token === '"') {
+        // a text that goes on past what is shown: nothing in it is a name
+        nodes.push(plain(cut(text.slice(at), most), 'text'));
+        break;
       } else if (token[0] === '"') nodes.push(plain(cut(token, most), 'text'));
       else if (token[0] === '%') nodes.push(plain(token, 'common'));
       else if (token[0] === '/') nodes.push(plain(token, 'marks'));
@@ -583,7 +587,7 @@ class TracePage {
   // Who made a reference, who was given it, who asked it, in order.
   life(name) {
     const uses = [], isAt = [];
-    let asked = 0, given = 0;
+    let asked = 0, given = 0, marks = null;
     for (let at = 0, i = 0; (at = this.whole.indexOf(name, at)) >= 0;) {
       while (this.offset[i + 1] <= at) i++;
       const end = this.text[at + name.length];
@@ -593,6 +597,7 @@ class TracePage {
       // the target of an ask is its first item
       const line = this.line(i), before = line.slice(0, at - this.offset[i]);
       const isTarget = this.isAsk(i) && /ask [A-Za-z]+ (?:[a-z][A-Za-z]* )?$/.test(before);
+      if (!uses.length) marks = /^\/[A-Z][A-Za-z]*(?:\+call)?(?:\+new)?/.exec(line.slice(at - this.offset[i] + name.length))?.[0];
       uses.push(i);
       isAt.push(isTarget ? 1 : 0);
       if (isTarget) asked++; else given++;
@@ -601,7 +606,6 @@ class TracePage {
     }
     const [, sign, owner, count] = /^([#@])(\d+)\.(\d+)$/.exec(name);
     const isHost = sign === '#' && owner === '0' && Number(count) < this.data.host.length;
-    const marks = uses.length ? new RegExp('^' + name.replace('.', '\\.') + '(/[A-Z][A-Za-z]*(?:\\+call)?(?:\\+new)?)').exec(this.line(uses[0]).slice(this.line(uses[0]).indexOf(name)))?.[1] : null;
     const holders = new Map();
     uses.forEach((i, k) => { if (!isAt[k]) { const to = this.to[i]; if (!holders.has(to) && String(to) !== owner) holders.set(to, i); } });
     const list = new Rows({
