@@ -24,7 +24,8 @@ class TracePage {
     this.parties = data.parties;
     this.offset = new Uint32Array(this.n + 1);
     for (let i = 0; i < this.n; i++) this.offset[i + 1] = this.offset[i] + this.len[i] + 1;
-    this.whole = new TextDecoder('latin1').decode(this.text);
+    // (ASCII: so a string of one byte a letter, which is searched in half the time)
+    this.whole = new TextDecoder().decode(this.text);
     this.folded = new Set();
     this.deepest = 0;
     for (let i = 0; i < this.n; i++) if (this.depth[i] > this.deepest) this.deepest = this.depth[i];
@@ -100,6 +101,8 @@ class TracePage {
     const hash = decodeURIComponent(location.hash.slice(1));
     const [tab, at] = hash.split('/');
     this.page.show(this.page.tabs.some(one => one.name === tab) ? tab : 'parties');
+    // what a search looks in, before the first one
+    (globalThis.requestIdleCallback ?? setTimeout)(() => { this.lower ??= this.whole.toLowerCase(); });
     if (tab === 'crossings' && /^[1-9]\d{0,9}$/.test(at) && Number(at) <= this.n) this.goTo(Number(at) - 1);
   }
 
