@@ -120,9 +120,8 @@ class Page {
   }
 
   side(...kids) {
-    this.aside.replaceChildren(
-      el('button', { class: 'off', onclick: () => this.close() }, 'Close'),
-      ...kids);
+    this.aside.replaceChildren();
+    fill(this.aside, null, [el('button', { class: 'off', onclick: () => this.close() }, 'Close'), kids]);
     this.aside.hidden = false;
     this.aside.scrollTop = 0;
     this.onside?.();
