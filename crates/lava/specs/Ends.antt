@@ -1,6 +1,6 @@
 -- How the program ends.
 use Rattle.std.specs.Prelude.{ℕ, List}
-use Rattle.lava_cli.specs.RunAnswers.{CommandAnswers}
+use Rattle.lava_cli.specs.Answers.{CommandAnswers}
 use Rattle.lava_host.specs.Hosts.{host_world}
 use Rattle.lava_streams.specs.Files.{Files}
 use Rattle.lava_streams.specs.Outside.{Stand}

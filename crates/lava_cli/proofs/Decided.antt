@@ -1,5 +1,5 @@
 -- What a folder holds decides the answer.
-use Rattle.std.proofs.Common.{◌≡◌, ◌⊎◌, ℕ, List, Option, Some, None, Result, Ok, Err, sym, ap, ◌∙◌, subst, inl, inr}
+use Rattle.std.proofs.Common.{◌≡◌, ◌⊎◌, ℕ, List, Option, Some, Result, Ok, Err, sym, ap, ◌∙◌, subst, inl, inr}
 use Rattle.lava_host.specs.Hosts.{HostWorld}
 use Rattle.lava_lines.specs.Lines as lines
 use Rattle.lava_lines.specs.Puts as puts
@@ -7,7 +7,7 @@ use Rattle.lava_lines.specs.declared.status.TheConstants as texts
 use Rattle.lava_streams.specs.Files.{Files}
 use Rattle.lava_streams.specs.Outside.{Stand, HasFault}
 use Rattle.pkg_graph.specs.declared.fault.GraphFault.TheVariants as graph
-use Rattle.lava_words.specs.Words.{Asked, Runs, Trees}
+use Rattle.lava_policy.specs.PolicyOutcomes.{MemoryStops}
 use Rattle.lava_runner.specs.lava_report.Tells.{RunReports}
 use Rattle.lava_runner.specs.lava_report.declared.outcome.RunOutcome.{RunOutcome}
 use Rattle.lava_runner.specs.lava_report.declared.outcome.RunOutcome.TheVariants as outcome
@@ -20,22 +20,22 @@ use Rattle.lava_runner.specs.lava_loading.declared.loading.LoadingFault.{Loading
 use Rattle.lava_runner.specs.lava_loading.declared.loading.LoadingFault.TheVariants as loading
 use Rattle.lava_runner.specs.lava_loading.declared.policies.PoliciesFault.TheVariants as policies
 use Rattle.lava_runner.specs.lava_loading.pkg_load.declared.fault.LoadFault.TheVariants as load
-use Rattle.lava_cli.specs.Causes.{AnswersHeld, DecidesOf, TellsFolder, TellsLack, outcome_of}
-use Rattle.lava_cli.specs.RunAnswers.{AnswersTo, HasReadFolder, HasRunIn, IsRefusedBy, RunComes, RunsOf, WordsLack}
+use Rattle.lava_cli.specs.Causes.{AnswersHeld, TellsFolder, TellsLack, outcome_of}
+use Rattle.lava_cli.specs.RunAnswers.{HasReadFolder, HasRunIn, IsRefusedBy, MemoryLacks, RunComes, RunsOf, outside_in}
 
 -- RESULTS
 
-abbrev is_ok : {X Y : Type 0} → Result X Y → Type 0
+abbrev pub is_ok : {X Y : Type 0} → Result X Y → Type 0
 is_ok (Ok x) = Unit {0}
 is_ok (Err y) = ⊥
 
-ok_err : {X Y : Type 0} {x : X} {y : Y} → Ok x ≡ Err y → ⊥
+pub ok_err : {X Y : Type 0} {x : X} {y : Y} → Ok x ≡ Err y → ⊥
 ok_err p = subst is_ok p tt
 
-ok_one : {X Y : Type 0} {x y : X} → ◌≡◌ {A = Result X Y} (Ok x) (Ok y) → x ≡ y
+pub ok_one : {X Y : Type 0} {x y : X} → ◌≡◌ {A = Result X Y} (Ok x) (Ok y) → x ≡ y
 ok_one p = cc
 
-err_one : {X Y : Type 0} {x y : Y} → ◌≡◌ {A = Result X Y} (Err x) (Err y) → x ≡ y
+pub err_one : {X Y : Type 0} {x y : Y} → ◌≡◌ {A = Result X Y} (Err x) (Err y) → x ≡ y
 err_one p = cc
 
 -- WHAT A REFUSAL IS OF
@@ -117,7 +117,7 @@ module _ (one : One_loading) (meaning : Meaning) (means : IsSourceMeaning meanin
         rest = rest;
       }
 
-  answered : (o : RunOutcome) (r : Result LoadedApplication LoadingFault) → IsHeld files directory r → RunComes mode directory budget before mid o → RunReports o mid.errors after.errors status
+  pub answered : (o : RunOutcome) (r : Result LoadedApplication LoadingFault) → IsHeld files directory r → RunComes mode directory budget before mid o → RunReports o mid.errors after.errors status
       → after ≡ record mid { errors = after.errors } → Answer r
   answered (outcome.Ran e) r q h t rest = inl (ran_as (outcome.Ran e) r q h t rest)
   answered (outcome.Prelude place what) r q h t rest = inl (ran_as (outcome.Prelude place what) r q h t rest)
@@ -126,11 +126,6 @@ module _ (one : One_loading) (meaning : Meaning) (means : IsSourceMeaning meanin
   answered (outcome.Policies f) r q c t rest = refused (loading.Policies f) r q c t rest
   answered (outcome.Load f) r q c t rest = refused (loading.Load f) r q c t rest
 
-pub decides : One_loading → (asked : Option Asked) (before after : HostWorld) (status : ℕ) → AnswersTo asked before after status ⊎ WordsLack before after status → DecidesOf asked before after status
-decides one None before after status a = a
-decides one (Some (Trees file)) before after status a = tt
-decides one (Some (Runs mode directory budget)) before after status (inl a) =
-    λ meaning means. record {
-      answers = λ files told r held. answered one meaning means mode directory budget before a.mid after status files told a.outcome r held a.comes a.told a.rest;
-    }
-decides one (Some (Runs mode directory budget)) before after status (inr l) = λ meaning means. record { answers = λ files told r held. inr (inr l.told) }
+-- there was no memory to begin with a report
+pub memory_stops : (before after : HostWorld) (status : ℕ) → MemoryLacks before after status → MemoryStops (outside_in before) (outside_in after) status
+memory_stops before after status l = record { told = l.told; output = ap (λ (w : HostWorld). w.output) l.rest }

@@ -7,7 +7,6 @@ use Rattle.lava_lines.specs.Puts as puts
 use Rattle.lava_lines.specs.declared.status.TheConstants as texts
 use Rattle.lava_streams.specs.Files.{Files}
 use Rattle.lava_streams.specs.Outside.{Stand, HasFault}
-use Rattle.lava_words.specs.Words.{Asked, Runs, Trees}
 use Rattle.lava_runner.specs.lava_report.Tells.{RunReports, TellsEnding, TellsReport}
 use Rattle.lava_runner.specs.lava_report.declared.outcome.Ended.{Ended}
 use Rattle.lava_runner.specs.lava_report.declared.outcome.RunOutcome.{RunOutcome}
@@ -20,8 +19,8 @@ use Rattle.lava_cli.specs.Causes.{outcome_of}
 use Rattle.lava_runner.specs.Counts.{AreCounted, AreFaultless, count_of}
 use Rattle.lava_runner.specs.Endings.{ending_status}
 use Rattle.lava_runner.specs.Isolated.{Each_run_isolates}
-use Rattle.lava_cli.specs.Finishes.{FinishesOf, HasFinished, HasNoCause, IsLack}
-use Rattle.lava_cli.specs.RunAnswers.{AnswersTo, HasRunIn, IsRefusedBy, RunComes, WordsLack}
+use Rattle.lava_cli.specs.Finishes.{HasFinished, HasNoCause, IsLack}
+use Rattle.lava_cli.specs.RunAnswers.{HasRunIn, IsRefusedBy, RunComes}
 use Rattle.lava_runner.proofs.Told.{ending_told}
 use Rattle.lava_runner.proofs.Counted.{counted_on, failed_so, forgotten, rises_behind, rises_before, run_counted, touched_so, went_well}
 use Rattle.lava_cli.proofs.Decided.{FailsFolder, held_so, sorted}
@@ -34,22 +33,22 @@ put_counted line own w v status t (inl p) = touched_so which.Errors w v None t (
 put_counted line own w v status t (inr p) =
     forgotten w v (Some which.Errors) (touched_so which.Errors w v (Some which.Errors) t (failed_so which.Errors which.Errors w.errors.count v.errors.count refl p.1.0))
 
-line_counted : (line : List ℕ) (own : ℕ) (w v : HostWorld) (status : ℕ) → v ≡ record w { errors = v.errors } → puts.PutsLine line own w.errors v.errors status → AreCounted w v None
+pub line_counted : (line : List ℕ) (own : ℕ) (w v : HostWorld) (status : ℕ) → v ≡ record w { errors = v.errors } → puts.PutsLine line own w.errors v.errors status → AreCounted w v None
 line_counted line own w v status t (inl p) = put_counted line own w v status t p
 line_counted line own w v status t (inr p) = put_counted texts.MEMORY_LINE.now texts.MEMORY_STATUS w v status t p
 
 -- A RUN
 
+-- the folder alone was read, without a fault, and then the run has its counts
+pub ran_counted : (mode : Mode) (directory : List ℕ) (budget : ℕ) (before mid : HostWorld) (e : Ended) → HasRunIn mode directory budget before mid (outcome.Ran e) → AreCounted before mid e.report.which
+ran_counted mode directory budget before mid e h =
+    counted_on before h.mid mid e.report.which
+    (touched_so which.Folder before h.mid None h.read.rest (went_well which.Folder before.folder.count h.mid.folder.count h.read.counts))
+    (run_counted mode directory h.app budget h.mid mid e.report h.ran.0)
+
 module _ (law : Each_run_isolates) (mode : Mode) (directory : List ℕ) (budget : ℕ) (before mid after : HostWorld) (status : ℕ) (faultless : AreFaultless before after) (rest : after ≡ record mid { errors = after.errors }) where
   abbrev Answer : Type 0
   Answer = HasFinished mode directory budget before after status ⊎ IsLack after status
-
-  -- the folder alone was read, without a fault
-  loaded_counted : (e : Ended) (h : HasRunIn mode directory budget before mid (outcome.Ran e)) → AreCounted before h.mid None
-  loaded_counted e h = touched_so which.Folder before h.mid None h.read.rest (went_well which.Folder before.folder.count h.mid.folder.count h.read.counts)
-
-  ran_counted : (e : Ended) → HasRunIn mode directory budget before mid (outcome.Ran e) → AreCounted before mid e.report.which
-  ran_counted e h = counted_on before h.mid mid e.report.which (loaded_counted e h) (run_counted mode directory h.app budget h.mid mid e.report h.ran.0)
 
   finished : (e : Ended) (h : HasRunIn mode directory budget before mid (outcome.Ran e)) → TellsEnding e.name e.report.ending e.report.uncaught mid.errors after.errors status → Answer
   finished e h t = by (ending_told e.name e.report.ending e.report.uncaught mid.errors after.errors status t)
@@ -69,13 +68,13 @@ module _ (law : Each_run_isolates) (mode : Mode) (directory : List ℕ) (budget 
             told = subst (λ n. TellsEnding n e.report.ending e.report.uncaught mid.errors after.errors status) h.ran.1 t;
             rest = rest;
           })
-      by (inr (inl f)) = absurd (faultless which.Errors (rises_behind before.errors.count mid.errors.count after.errors.count ((ran_counted e h).each which.Errors) f))
+      by (inr (inl f)) = absurd (faultless which.Errors (rises_behind before.errors.count mid.errors.count after.errors.count ((ran_counted mode directory budget before mid e h).each which.Errors) f))
       by (inr (inr l)) = inr (mid.errors, l)
 
   ran : (e : Ended) (h : HasRunIn mode directory budget before mid (outcome.Ran e)) (failed : Option Which) → e.report.which ≡ failed → TellsReport failed e mid.errors after.errors status → Answer
   ran e h None is t = finished e h t
   ran e h (Some w) is t =
-      absurd (faultless w (rises_before (count_of w before) (count_of w mid) (count_of w after) ((ran_counted e h).rose w is) ((line_counted _ texts.OUTSIDE_STATUS mid after status rest t).each w)))
+      absurd (faultless w (rises_before (count_of w before) (count_of w mid) (count_of w after) ((ran_counted mode directory budget before mid e h).rose w is) ((line_counted _ texts.OUTSIDE_STATUS mid after status rest t).each w)))
 
   refused : (files : Files) → before.folder.told ≡ Some files → HasNoCause files directory → (g : LoadingFault) → IsRefusedBy directory before mid g → RunReports (outcome_of g) mid.errors after.errors status → Answer
   refused files told none g c t = by (sorted directory before mid after status g c t)
@@ -85,17 +84,10 @@ module _ (law : Each_run_isolates) (mode : Mode) (directory : List ℕ) (budget 
       by (inr (inl f)) = absurd (faultless which.Folder (subst (λ (s : Stand Files). HasFault before.folder s) (sym (ap (λ (w : HostWorld). w.folder) rest)) f.0))
       by (inr (inr l)) = inr (mid.errors, l)
 
-  answered : (files : Files) → before.folder.told ≡ Some files → HasNoCause files directory → (o : RunOutcome) → RunComes mode directory budget before mid o → RunReports o mid.errors after.errors status → Answer
+  pub answered : (files : Files) → before.folder.told ≡ Some files → HasNoCause files directory → (o : RunOutcome) → RunComes mode directory budget before mid o → RunReports o mid.errors after.errors status → Answer
   answered files told none (outcome.Ran e) h t = ran e h e.report.which refl t
   answered files told none (outcome.Prelude place what) h t = absurd (none.common place what h.ran)
   answered files told none outcome.OutOfMemory h t = inr (mid.errors, t)
   answered files told none (outcome.Graph f) c t = refused files told none (loading.Graph f) c t
   answered files told none (outcome.Policies f) c t = refused files told none (loading.Policies f) c t
   answered files told none (outcome.Load f) c t = refused files told none (loading.Load f) c t
-
-pub finishes : Each_run_isolates → (asked : Option Asked) (before after : HostWorld) (status : ℕ) → AnswersTo asked before after status ⊎ WordsLack before after status → FinishesOf asked before after status
-finishes law None before after status a = tt
-finishes law (Some (Trees file)) before after status a = tt
-finishes law (Some (Runs mode directory budget)) before after status (inl a) =
-    λ files told none faultless. answered law mode directory budget before a.mid after status faultless a.rest files told none a.outcome a.comes a.told
-finishes law (Some (Runs mode directory budget)) before after status (inr l) = λ files told none faultless. inr (before.errors, l.told)

@@ -1,5 +1,5 @@
--- What `lava run DIR` and `lava trace DIR` answer: the cause of each answer, and what the call leaves of the outside.
-use Rattle.std.specs.Prelude.{◌≡◌, ◌⊎◌, ℕ, List, Option, Some, None, Result, Ok, Err}
+-- What `lava run DIR` and `lava trace DIR` answer: the cause of each answer, and what the call leaves of the outside; and what `lava tree FILE` answers.
+use Rattle.std.specs.Prelude.{◌≡◌, ℕ, List, Result, Ok, Err}
 use Rattle.lava_host.specs.Hosts.{HostWorld}
 use Rattle.lava_lines.specs.Puts as puts
 use Rattle.lava_lines.specs.declared.status.TheConstants as texts
@@ -10,7 +10,6 @@ use Rattle.lava_tree.specs.TreeAnswers.{TreeAnswers, TreeEnds, TreeMisses, TreeR
 use Rattle.lava_runner.specs.ses_prelude.Preludes.{IsPreludeFault, prelude}
 use Rattle.lava_runner.specs.lava_loading.Loads.{CountsLoading, IsLoading}
 use Rattle.lava_runner.specs.lava_report.Tells.{RunReports, ended_in}
-use Rattle.lava_words.specs.Words.{Asked, Runs, Trees, command_of}
 use Rattle.lava_runner.specs.lava_loading.declared.loading.LoadedApplication.{LoadedApplication}
 use Rattle.lava_runner.specs.lava_loading.declared.loading.LoadingFault.{LoadingFault}
 use Rattle.lava_runner.specs.lava_loading.declared.loading.LoadingFault.TheVariants as loading
@@ -66,6 +65,11 @@ pub record RunAnswers (mode : Mode) (directory : List ℕ) (budget : ℕ) (befor
   pub told : RunReports outcome mid.errors after.errors status
   pub rest : after ≡ record mid { errors = after.errors }
 
+-- there was no memory to begin, as to take the words apart: that is told, and nothing else is touched
+pub record MemoryLacks (before after : HostWorld) (status : ℕ) : Type 0 where
+  pub told : puts.Lacks before.errors after.errors status
+  pub rest : after ≡ record before { errors = after.errors }
+
 -- what a command changes of the outside, where it leaves input and clock
 abbrev pub outside_in : HostWorld → Outside
 outside_in w = outside w.folder w.output w.errors
@@ -83,17 +87,3 @@ pub record TreeAnswersIn (file : List ℕ) (before after : HostWorld) (status : 
 pub record UsageAnswers (before after : HostWorld) (status : ℕ) : Type 0 where
   pub told : puts.Puts texts.USAGE_LINE.now texts.USAGE_STATUS before.errors after.errors status
   pub rest : after ≡ record before { errors = after.errors }
-
-abbrev pub AnswersTo : Option Asked → (before after : HostWorld) → (status : ℕ) → Type 0
-AnswersTo None before after status = UsageAnswers before after status
-AnswersTo (Some (Runs mode directory budget)) before after status = RunAnswers mode directory budget before after status
-AnswersTo (Some (Trees file)) before after status = TreeAnswersIn file before after status
-
--- there was no memory to take the words apart: that is told, and nothing else is touched
-pub record WordsLack (before after : HostWorld) (status : ℕ) : Type 0 where
-  pub told : puts.Lacks before.errors after.errors status
-  pub rest : after ≡ record before { errors = after.errors }
-
--- the answer to words
-abbrev pub CommandAnswers : (said : List (List ℕ)) → (before after : HostWorld) → (status : ℕ) → Type 0
-CommandAnswers said before after status = AnswersTo (command_of said) before after status ⊎ WordsLack before after status

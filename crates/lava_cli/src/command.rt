@@ -6,15 +6,19 @@ ghost use Rattle.std.specs.IoError.{error_kind};
 ghost use Rattle.lava_host.specs.Hosts.{host_world};
 ghost use Rattle.lava_lines.specs.Puts.{Puts};
 ghost use Rattle.lava_lines.specs.declared.status.TheConstants as texts;
-ghost use Rattle.lava_words.specs.Words.{told_command};
+ghost use Rattle.lava_words.specs.Words.{IsAskable, told_command};
+ghost use Rattle.lava_cli.specs.Answers.{AnswersTo, CommandAnswers};
 ghost use Rattle.lava_cli.specs.Causes.{CommandDecides};
 ghost use Rattle.lava_cli.specs.Finishes.{CommandFinishes};
 ghost use Rattle.lava_cli.specs.Isolates.{CommandIsolates};
-ghost use Rattle.lava_cli.specs.RunAnswers.{AnswersTo, CommandAnswers, RunAnswers};
+ghost use Rattle.lava_cli.specs.RunAnswers.{RunAnswers};
 
+use crate::big_command::big;
 use crate::run_command::run_directory;
 use lava_lines::report::put_line;
 use lava_lines::status::{MEMORY_LINE, MEMORY_STATUS, USAGE_LINE, USAGE_STATUS};
+use lava_policy::check::check;
+use lava_policy::policy::policy;
 use lava_runner::lava_loading::laws::one_loading;
 use lava_runner::lava_report::report::Mode;
 use lava_runner::lava_report::run_report::report_run;
@@ -63,6 +67,7 @@ fn do_asked<F: Folder, I: Source, O: Sink, E: Sink, C: Clock>(
     err: &mut E,
     clock: &mut C,
 ) -> u8
+    requires { IsAskable (option_map told_command asked) }
     ensures { let before = host_world (F.Folder.stand folder.old) (I.Source.stand input.old)
         (O.Sink.stand out.old) (E.Sink.stand err.old) (C.Clock.stand clock.old) in
         let after = host_world (F.Folder.stand folder.new) (I.Source.stand input.new)
@@ -80,6 +85,11 @@ fn do_asked<F: Folder, I: Source, O: Sink, E: Sink, C: Clock>(
             alloc, mode, directory, budget, folder, input, out, err, clock,
         ),
         Some(Command::Tree { file }) => tree(alloc, file, folder, out, err),
+        Some(Command::Policy { directory }) => policy(alloc, directory, folder, out, err),
+        Some(Command::Check { directory }) => check(alloc, directory, folder, out, err),
+        Some(Command::Big { count, budget }) => {
+            big(alloc, count, budget, input, out, err, clock)
+        }
         None => put_line(USAGE_LINE.as_bytes(), USAGE_STATUS, err),
     }
 }
@@ -111,11 +121,14 @@ fn answer<F: Folder, I: Source, O: Sink, E: Sink, C: Clock>(
 /// - `run DIR [--budget N]` loads the application of a directory (`package.json`, its policy files, `index.js` or its `main`, and what these require) and runs it, each package with what its row grants it.
 /// - `trace DIR [--budget N]` does the same, and appends the trace of the run in place of what it prints.
 /// - `tree FILE` appends the lines of the core term that a module is lowered to.
+/// - `policy DIR` appends the policy that the sources of an application ask for, whatever its policy files hold.
+/// - `check DIR` appends a line `denied PACKAGE REQUEST` for each literal request of a module that is reached which an application's policy denies.
+/// - `big N [--budget N]` runs an application of N packages that stands in memory, 1 to 200, and appends a line `packages N crossings C status S` behind what it prints, unless a call of the outside failed in the run. The folder is not touched.
 ///
-/// The words are those of a command of `clap`: `--budget=N` is the option too, and behind `--` a word may begin with `-`.
+/// The words are those of a command of `clap`: `--budget=N` is the option too, and behind `--` a word may begin with `-`. A budget that is none is a usage fault of every command.
 ///
 /// The statuses: 0 done, 1 a thrown value that nothing caught, 2 usage, 3 nothing was loaded, 4 a policy file is refused, 5 a limit of the language, 6 the budget was used up,
-/// 7 a call on an object of the outside failed, 9 want of memory.
+/// 7 a call on an object of the outside failed, 8 `check` printed a line, 9 want of memory.
 pub fn lava<F: Folder, I: Source, O: Sink, E: Sink, C: Clock>(
     alloc: Global,
     words: &[String],
@@ -137,9 +150,10 @@ pub fn lava<F: Folder, I: Source, O: Sink, E: Sink, C: Clock>(
         let after = host_world (F.Folder.stand folder.new) (I.Source.stand input.new)
         (O.Sink.stand out.new) (E.Sink.stand err.new) (C.Clock.stand clock.new) in
         CommandDecides (map string_bytes words.now) before after result }
-    // Where there is no cause, the run is over, or there was no memory.
-    ensures finishes { let before = host_world (F.Folder.stand folder.old) (I.Source.stand input.old)
-        (O.Sink.stand out.old) (E.Sink.stand err.old) (C.Clock.stand clock.old) in
+    // Where there is no cause, the run is over or the report is printed, or there was no memory.
+    ensures finishes { let before = host_world (F.Folder.stand folder.old)
+        (I.Source.stand input.old) (O.Sink.stand out.old) (E.Sink.stand err.old)
+        (C.Clock.stand clock.old) in
         let after = host_world (F.Folder.stand folder.new) (I.Source.stand input.new)
         (O.Sink.stand out.new) (E.Sink.stand err.new) (C.Clock.stand clock.new) in
         CommandFinishes (map string_bytes words.now) before after result }

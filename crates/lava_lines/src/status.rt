@@ -24,6 +24,9 @@ pub const BUDGET_STATUS: u8 = 6;
 /// The exit status where a call on an object of the outside failed.
 pub const OUTSIDE_STATUS: u8 = 7;
 
+/// The exit status of a `check` that printed a line.
+pub const DENIED_STATUS: u8 = 8;
+
 /// The exit status for want of memory.
 pub const MEMORY_STATUS: u8 = 9;
 

@@ -3,7 +3,7 @@ use Rattle.std.proofs.Common.{◌≡◌, ℕ, List, Option, Result, Ok, Err, sub
 use Rattle.lava_streams.specs.Files.{Files}
 use Rattle.pkg_graph.specs.declared.graph.Package.{Package}
 use Rattle.policy_row.specs.Rows.{Rows}
-use Rattle.lava_loading.specs.Loads.{CountsLoading, IsGraphRead, IsLoadRead, IsLoading, IsLoadingIn, IsLoadingOf}
+use Rattle.lava_loading.specs.Loads.{AreReachedIn, AreSources, CountsLoading, IsGraphRead, IsLoadRead, IsLoading, IsLoadingIn, IsLoadingOf, LoadedSources}
 use Rattle.lava_loading.specs.Policies.{ArePolicies}
 use Rattle.lava_loading.specs.declared.loading.LoadedApplication.{LoadedApplication}
 use Rattle.lava_loading.specs.declared.loading.LoadingFault.{LoadingFault}
@@ -23,5 +23,12 @@ loaded_so told mid directory ps (Err (fault.Graph f)) e g i = absurd i
 loaded_so told mid directory ps (Err (fault.Policies f)) e g i = record { packages = ps; graph = g; load = subst (λ t. IsLoadingIn t directory ps (Err (fault.Policies f))) e i }
 loaded_so told mid directory ps (Err (fault.Load f)) e g i = record { packages = ps; graph = g; load = subst (λ t. IsLoadingIn t directory ps (Err (fault.Load f))) e i }
 
-pub counted_so : (old mid new : ℕ) (r : Result LoadedApplication LoadingFault) → mid ≡ old → CountsLoading mid new r → CountsLoading old new r
+-- its packages were read, and then its modules were loaded
+pub reached_so : (told mid : Option Files) (directory : List ℕ) (ps : List Package) (r : LoadedSources) → mid ≡ told → IsGraphRead told directory (Ok ps) → AreReachedIn mid directory ps r → AreSources told directory r
+reached_so told mid directory ps (Ok app) e g i = record { packages = ps; graph = g; load = subst (λ t. AreReachedIn t directory ps (Ok app)) e i }
+reached_so told mid directory ps (Err (fault.Graph f)) e g i = absurd i
+reached_so told mid directory ps (Err (fault.Policies f)) e g i = absurd i
+reached_so told mid directory ps (Err (fault.Load f)) e g i = record { packages = ps; graph = g; load = subst (λ t. AreReachedIn t directory ps (Err (fault.Load f))) e i }
+
+pub counted_so : {T : Type 0} (old mid new : ℕ) (r : Result T LoadingFault) → mid ≡ old → CountsLoading mid new r → CountsLoading old new r
 counted_so old mid new r e c = subst (λ n. CountsLoading n new r) e c

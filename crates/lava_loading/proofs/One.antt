@@ -10,8 +10,8 @@ use Rattle.pkg_graph.specs.declared.graph.Package.{Package}
 use Rattle.pkg_load.specs.Sources.{sources_of}
 use Rattle.pkg_source.specs.Reading.{IsRead}
 use Rattle.policy_row.specs.Rows.{Rows}
-use Rattle.lava_loading.specs.Laws.{IsHeld, IsOfManifests, IsSourceMeaning, Meaning, One_loading, plain_loading}
-use Rattle.lava_loading.specs.Loads.{IsLoadRead, LoadedModules}
+use Rattle.lava_loading.specs.Laws.{AreHeld, IsHeld, IsOfManifests, IsSourceMeaning, Meaning, One_loading, One_sources, plain_loading}
+use Rattle.lava_loading.specs.Loads.{IsLoadRead, LoadedModules, LoadedSources}
 use Rattle.lava_loading.specs.Policies.{ArePolicies}
 use Rattle.lava_loading.specs.declared.loading.LoadedApplication.{LoadedApplication}
 use Rattle.lava_loading.specs.declared.loading.LoadingFault.{LoadingFault}
@@ -91,3 +91,43 @@ staged files directory (Err (fault.Load f)) h =
 pub one_loading : One_loading
 one_loading files directory meaning r q means a b =
     staged_one files directory meaning means (graph_of (world_of files directory)) r q (staged files directory r a) (staged files directory q b)
+
+-- THE SOURCES ALONE
+
+-- what is told of these modules
+abbrev alone : LoadedModules → LoadedSources
+alone (Ok app) = Ok app
+alone (Err f) = Err (fault.Load f)
+
+-- the modules, where the packages are these
+record IsModularAlone (files : Files) (directory : List ℕ) (ps : List Package) (r : LoadedSources) : Type 0 where
+  pub modules : LoadedModules
+  pub read : IsLoadRead (Some files) directory ps modules
+  pub of : IsOfLoad modules
+  pub is : plain_loading r ≡ alone (plain_load modules)
+
+abbrev IsStagedAlone : Files → (directory : List ℕ) → Result (List Package) GraphFault → LoadedSources → Type 0
+IsStagedAlone files directory (Ok ps) r = IsModularAlone files directory ps r
+IsStagedAlone files directory (Err f) r = plain_loading r ≡ Err (fault.Graph f)
+
+module _ (files : Files) (directory : List ℕ) (meaning : Meaning) (means : IsSourceMeaning meaning) where
+  sources_one : (g : Result (List Package) GraphFault) (r q : LoadedSources) → IsStagedAlone files directory g r → IsStagedAlone files directory g q → plain_loading r ≡ plain_loading q
+  sources_one (Ok ps) r q a b =
+      let w = sources_of files directory ps meaning in
+      a.is ∙ ap alone (load_one IsRead w a.modules b.modules (a.read.agrees files refl meaning means) (b.read.agrees files refl meaning means) a.of b.of) ∙ sym b.is
+  sources_one (Err f) r q a b = a ∙ sym b
+
+staged_alone : (files : Files) (directory : List ℕ) (r : LoadedSources) → AreHeld files directory r → IsStagedAlone files directory (graph_of (world_of files directory)) r
+staged_alone files directory (Ok app) h =
+    subst (λ g. IsStagedAlone files directory g (Ok app)) (sym (h.graph.agrees files refl))
+    (record { modules = Ok app; read = h.load; of = tt; is = refl })
+staged_alone files directory (Err (fault.Graph f)) h =
+    subst (λ g. IsStagedAlone files directory g (Err (fault.Graph f))) (sym (expected (graph_of (world_of files directory)) f (h.0.agrees files refl) h.1)) refl
+staged_alone files directory (Err (fault.Policies f)) h = absurd h.0
+staged_alone files directory (Err (fault.Load f)) h =
+    subst (λ g. IsStagedAlone files directory g (Err (fault.Load f))) (sym (h.0.graph.agrees files refl))
+    (record { modules = Err f; read = h.0.load; of = h.1; is = refl })
+
+pub one_sources : One_sources
+one_sources files directory meaning r q means a b =
+    sources_one files directory meaning means (graph_of (world_of files directory)) r q (staged_alone files directory r a) (staged_alone files directory q b)

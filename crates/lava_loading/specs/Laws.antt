@@ -10,7 +10,7 @@ use Rattle.pkg_load.specs.declared.reader.ModuleKind.{ModuleKind}
 use Rattle.pkg_load.specs.declared.reader.ModuleRead.{ModuleRead}
 use Rattle.pkg_source.specs.Reading.{IsRead}
 use Rattle.pkg_source.specs.declared.code.ModuleCode.{ModuleCode}
-use Rattle.lava_loading.specs.Loads.{IsLoading}
+use Rattle.lava_loading.specs.Loads.{AreSources, IsLoading, LoadedSources}
 use Rattle.lava_loading.specs.declared.loading.LoadedApplication.{LoadedApplication}
 use Rattle.lava_loading.specs.declared.loading.LoadingFault.{LoadingFault}
 use Rattle.lava_loading.specs.declared.loading.LoadingFault.TheVariants as fault
@@ -57,8 +57,8 @@ plain_fault (fault.Graph f) = fault.Graph f
 plain_fault (fault.Policies f) = fault.Policies f
 plain_fault (fault.Load f) = fault.Load (plain_module_fault f)
 
-abbrev pub plain_loading : Result LoadedApplication LoadingFault → Result LoadedApplication LoadingFault
-plain_loading (Ok l) = Ok l
+abbrev pub plain_loading : {T : Type 0} → Result T LoadingFault → Result T LoadingFault
+plain_loading (Ok x) = Ok x
 plain_loading (Err f) = Err (plain_fault f)
 
 -- WHAT A FOLDER HOLDS
@@ -68,6 +68,12 @@ plain_loading (Err f) = Err (plain_fault f)
 abbrev pub IsHeld : Files → (directory : List ℕ) → Result LoadedApplication LoadingFault → Type 0
 IsHeld files directory (Ok l) = IsLoading (Some files) directory (Ok l)
 IsHeld files directory (Err f) = IsLoading (Some files) directory (Err f) × IsOfContent f
+
+-- the files below a directory are the sources of this application, or of none for this cause, whatever its policy files hold
+-- own: the order of work
+abbrev pub AreHeld : Files → (directory : List ℕ) → LoadedSources → Type 0
+AreHeld files directory (Ok app) = AreSources (Some files) directory (Ok app)
+AreHeld files directory (Err f) = AreSources (Some files) directory (Err f) × IsOfContent f
 
 -- a function that says of all bytes which module of the language they are, or at which place they are refused and why
 abbrev pub Meaning : Type 0
@@ -81,3 +87,9 @@ abbrev pub One_loading : Type 0
 One_loading =
     (files : Files) (directory : List ℕ) (meaning : Meaning) (r q : Result LoadedApplication LoadingFault)
     → IsSourceMeaning meaning → IsHeld files directory r → IsHeld files directory q → plain_loading r ≡ plain_loading q
+
+-- the same of the sources alone
+abbrev pub One_sources : Type 0
+One_sources =
+    (files : Files) (directory : List ℕ) (meaning : Meaning) (r q : LoadedSources)
+    → IsSourceMeaning meaning → AreHeld files directory r → AreHeld files directory q → plain_loading r ≡ plain_loading q

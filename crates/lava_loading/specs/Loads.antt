@@ -65,9 +65,36 @@ IsLoading told directory (Err (fault.Graph f)) = IsGraphRead told directory (Err
 IsLoading told directory (Err (fault.Policies f)) = IsLoadedFrom told directory (Err (fault.Policies f))
 IsLoading told directory (Err (fault.Load f)) = IsLoadedFrom told directory (Err (fault.Load f))
 
--- what it does to the folder's count of faults
-abbrev pub CountsLoading : ℕ → ℕ → Result LoadedApplication LoadingFault → Type 0
-CountsLoading old new (Ok l) = new ≡ old
+-- THE SOURCES ALONE
+
+abbrev pub LoadedSources : Type 0
+LoadedSources = Result (Application ModuleCode) LoadingFault
+
+-- the modules of these packages are loaded, or why they are not
+abbrev pub AreReachedIn : (told : Option Files) → (directory : List ℕ) → List Package → LoadedSources → Type 0
+AreReachedIn told directory packages (Ok app) = IsLoadRead told directory packages (Ok app)
+AreReachedIn told directory packages (Err (fault.Graph f)) = ⊥
+AreReachedIn told directory packages (Err (fault.Policies f)) = ⊥
+AreReachedIn told directory packages (Err (fault.Load f)) = IsLoadRead told directory packages (Err f)
+
+-- the packages of the application in a directory were read, and then these modules
+pub record AreLoadedFrom (told : Option Files) (directory : List ℕ) (r : LoadedSources) : Type 0 where
+  pub packages : List Package
+  pub graph : IsGraphRead told directory (Ok packages)
+  pub load : AreReachedIn told directory packages r
+
+-- what the loading of the sources of an application answers: its policy files are passed over
+abbrev pub AreSources : (told : Option Files) → (directory : List ℕ) → LoadedSources → Type 0
+AreSources told directory (Ok app) = AreLoadedFrom told directory (Ok app)
+AreSources told directory (Err (fault.Graph f)) = IsGraphRead told directory (Err f)
+AreSources told directory (Err (fault.Policies f)) = ⊥
+AreSources told directory (Err (fault.Load f)) = AreLoadedFrom told directory (Err (fault.Load f))
+
+-- THE FOLDER'S COUNT
+
+-- what loading does to the folder's count of faults
+abbrev pub CountsLoading : {T : Type 0} → ℕ → ℕ → Result T LoadingFault → Type 0
+CountsLoading old new (Ok x) = new ≡ old
 CountsLoading old new (Err (fault.Graph f)) = CountsFolder {T = List Package} old new (Err f)
 CountsLoading old new (Err (fault.Policies f)) = CountsPolicies {T = Rows} old new (Err f)
 CountsLoading old new (Err (fault.Load f)) = CountsLoad {T = Application ModuleCode} old new (Err f)

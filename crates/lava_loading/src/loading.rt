@@ -1,7 +1,7 @@
 // Loading an application.
 
 ghost use Rattle.std.specs.Prelude.{◌≡◌};
-ghost use Rattle.lava_loading.specs.Loads.{CountsLoading, IsLoading, IsLoadingIn, IsLoadingOf};
+ghost use Rattle.lava_loading.specs.Loads.{AreReachedIn, AreSources, CountsLoading, IsLoading, IsLoadingIn, IsLoadingOf};
 
 use crate::policies::{PoliciesFault, read_policies};
 use lava_streams::folder::Folder;
@@ -92,6 +92,42 @@ pub fn load_application<F: Folder>(
 {
     match read_graph(alloc, directory, folder) {
         Ok(graph) => load_packages(alloc, directory, graph, folder),
+        Err(fault) => Err(LoadingFault::Graph(fault)),
+    }
+}
+
+/// Loads the modules that are reached in the packages of an application.
+fn load_reached<F: Folder>(
+    alloc: Global,
+    directory: &str,
+    graph: Graph,
+    folder: &mut F,
+) -> Result<Application<ModuleCode>, LoadingFault>
+    ensures tells { (F.stand folder.new).told ≡ (F.stand folder.old).told }
+    ensures counts { CountsLoading (F.stand folder.old).count (F.stand folder.new).count result }
+    ensures loads { let told = (F.stand folder.old).told in
+        AreReachedIn told directory.now graph result }
+{
+    let reader = SourceReader;
+    match load(alloc, directory, graph, &reader, folder) {
+        Ok(app) => Ok(app),
+        Err(fault) => Err(LoadingFault::Load(fault)),
+    }
+}
+
+/// Reads the packages of the application in a directory, and loads the modules that are reached. Its policy files are passed over, whatever they hold: the answer is never `Policies`.
+pub fn load_sources<F: Folder>(
+    alloc: Global,
+    directory: &str,
+    folder: &mut F,
+) -> Result<Application<ModuleCode>, LoadingFault>
+    ensures tells { (F.stand folder.new).told ≡ (F.stand folder.old).told }
+    ensures counts { CountsLoading (F.stand folder.old).count (F.stand folder.new).count result }
+    ensures loads { let told = (F.stand folder.old).told in
+        AreSources told directory.now result }
+{
+    match read_graph(alloc, directory, folder) {
+        Ok(graph) => load_reached(alloc, directory, graph, folder),
         Err(fault) => Err(LoadingFault::Graph(fault)),
     }
 }

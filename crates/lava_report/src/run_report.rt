@@ -83,8 +83,8 @@ fn tell_uncaught<E: Sink>(alloc: Global, value: Option<List<u8>>, err: &mut E) -
     }
 }
 
-/// Tells the object of the outside that failed.
-fn tell_outside<E: Sink>(alloc: Global, which: Which, err: &mut E) -> u8
+/// Tells the object of the outside that failed, and gives the exit status.
+pub fn tell_outside<E: Sink>(alloc: Global, which: Which, err: &mut E) -> u8
     ensures { spec.TellsOutside which (E.stand err.old) (E.stand err.new) result }
 {
     put_made(outside_line(alloc, which_word(which)), OUTSIDE_STATUS, err)

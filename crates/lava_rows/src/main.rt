@@ -43,6 +43,7 @@ fn row_of(rt: &HostRuntime, kind: Kind, rest: &str) -> Result<String, Fault> {
         Kind::PolicyBytes => memory::policy_bytes(alloc, rest),
         Kind::FolderFails => memory::folder_fails(alloc, rest),
         Kind::OutputFails => memory::output_fails(alloc, rest),
+        Kind::OutputFailsOfApp => memory::output_fails_of_app(alloc, rest),
         Kind::ErrorsFail => memory::errors_fail(alloc, rest),
         Kind::Read => files::read(rt, rest),
         Kind::List => files::list(rt, rest),

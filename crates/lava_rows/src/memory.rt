@@ -21,6 +21,9 @@ const POLICY: &str = "app/lavamoat/node/policy.json";
 // Its override.
 const OVERRIDE: &str = "app/lavamoat/node/policy-override.json";
 
+// The words of the rows that have none of their own.
+const RUN: &str = "run app";
+
 // The program of the rows that have none of their own.
 const PROGRAM: &[u8] = b"console.log('a'); console.log('b');";
 
@@ -96,17 +99,28 @@ pub fn policy_bytes(alloc: Global, count: &str) -> Result<String, Fault> {
     call(alloc, "run app", folder, NEVER, NEVER)
 }
 
-/// `folder N`.
-pub fn folder_fails(alloc: Global, at: &str) -> Result<String, Fault> {
+/// `folder N WORDS`.
+pub fn folder_fails(alloc: Global, rest: &str) -> Result<String, Fault> {
+    let (at, words) = rest.split_once(' ').unwrap_or((rest, RUN));
     let mut folder = folder_with(alloc, "app/index.js", PROGRAM)?;
     folder.fail_at(number(at)?.max(1))?;
-    call(alloc, "run app", folder, NEVER, NEVER)
+    call(alloc, words, folder, NEVER, NEVER)
 }
 
-/// `output N`.
-pub fn output_fails(alloc: Global, at: &str) -> Result<String, Fault> {
+/// `output N WORDS`.
+pub fn output_fails(alloc: Global, rest: &str) -> Result<String, Fault> {
+    let (at, words) = rest.split_once(' ').unwrap_or((rest, RUN));
     let folder = folder_with(alloc, "app/index.js", PROGRAM)?;
-    call(alloc, "run app", folder, number(at)?.max(1), NEVER)
+    call(alloc, words, folder, number(at)?.max(1), NEVER)
+}
+
+/// `output_app N COMMAND FILES`.
+pub fn output_fails_of_app(alloc: Global, rest: &str) -> Result<String, Fault> {
+    let (at, rest) = rest.split_once(' ').unwrap_or((rest, ""));
+    let (command, files) = rest.split_once(' ').unwrap_or((rest, ""));
+    let folder = folder_of(alloc, files)?;
+    let words = format!(in alloc; "{command} app")?;
+    call(alloc, words.as_str(), folder, number(at)?.max(1), NEVER)
 }
 
 /// `errors N`.

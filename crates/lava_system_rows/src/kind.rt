@@ -21,10 +21,12 @@ pub enum Kind {
     Policy,
     /// `policy_bytes N`: runs a folder with a policy file of this many bytes.
     PolicyBytes,
-    /// `folder N`: the N-th call on the folder fails.
+    /// `folder N WORDS`: the N-th call on the folder fails, of these words, or of `run app`.
     FolderFails,
-    /// `output N`: the N-th call on the output fails.
+    /// `output N WORDS`: the N-th call on the output fails, of these words, or of `run app`.
     OutputFails,
+    /// `output_app N COMMAND FILES`: the same of an application of several files.
+    OutputFailsOfApp,
     /// `errors N`: the N-th call on the errors fails.
     ErrorsFail,
     /// `read LIMIT PATH`: reads one of the system's files.
@@ -49,7 +51,7 @@ pub enum Kind {
     Clock,
 }
 
-static KINDS: [(&str, Kind); 22] = [
+static KINDS: [(&str, Kind); 23] = [
     ("run", Kind::Run),
     ("trace", Kind::Trace),
     ("app", Kind::App),
@@ -61,6 +63,7 @@ static KINDS: [(&str, Kind); 22] = [
     ("policy_bytes", Kind::PolicyBytes),
     ("folder", Kind::FolderFails),
     ("output", Kind::OutputFails),
+    ("output_app", Kind::OutputFailsOfApp),
     ("errors", Kind::ErrorsFail),
     ("read", Kind::Read),
     ("list", Kind::List),

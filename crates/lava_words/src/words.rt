@@ -1,12 +1,13 @@
 // The words of a command.
 
-ghost use Rattle.std.specs.Prelude.{◌≡◌, IfOk, map, string_bytes};
+ghost use Rattle.std.specs.Prelude.{◌≡◌, ◌≤◌, IfOk, IfSome, map, string_bytes};
 ghost use Rattle.std.specs.Option.{option_map};
 ghost use Rattle.lava_words.specs.Parsing.{given_as};
-ghost use Rattle.lava_words.specs.Words.{asked_by, budget_in, budget_or, command_named, command_of, digits_after, digit_value, is_digit, told_command};
+ghost use Rattle.lava_words.specs.Words.{IsAskable, IsCount, asked_by, big_named, budget_or, command_named, command_of, count_in, digits_after, digit_value, is_digit, number_in, report_named, told_command};
 
 use crate::parsing::{GivenWords, given};
 use lava_base::memory::OutOfMemory;
+use lava_big::big_app::MAX_PACKAGES;
 use lava_report::report::Mode;
 use std::alloc::Global;
 
@@ -18,6 +19,18 @@ pub const TRACE: &str = "trace";
 
 /// The word of the command that prints a module's term.
 pub const TREE: &str = "tree";
+
+/// The word of the command that prints the policy which an application's sources ask for.
+pub const POLICY: &str = "policy";
+
+/// The word of the command that prints what an application's policy denies of it.
+pub const CHECK: &str = "check";
+
+/// The word of the command that runs an application of so many packages.
+pub const BIG: &str = "big";
+
+/// How many digits a number of packages has at most.
+pub const MAX_COUNT_DIGITS: usize = 3;
 
 /// The number of steps where no other is said.
 pub const DEFAULT_BUDGET: u64 = 10000000;
@@ -40,6 +53,19 @@ pub enum Command<'a> {
     /// Print the term of a file.
     Tree {
         file: &'a str,
+    },
+    /// Print the policy that the sources of the application of a directory ask for.
+    Policy {
+        directory: &'a str,
+    },
+    /// Print what its policy denies of the application of a directory.
+    Check {
+        directory: &'a str,
+    },
+    /// Run the application of so many packages, at least 1 and at most `MAX_PACKAGES`, with a budget.
+    Big {
+        count: u32,
+        budget: u64,
     },
 }
 
@@ -73,16 +99,28 @@ fn digits_value(mut digits: &[u8]) -> Option<u64>
     Some(value)
 }
 
-/// A number of steps: 1 to 10 digits, from 1 to 1,000,000,000.
-fn budget_in(text: &str) -> Option<u64>
-    ensures { result ≡ budget_in text.now }
+/// A number from 1 to a limit, of at most so many digits.
+fn number_in(text: &str, digits: usize, limit: u64) -> Option<u64>
+    ensures number { result ≡ number_in text.now digits limit }
+    ensures within { IfSome result (λ n. (1 ≤ n) × (n ≤ limit)) }
 {
-    if text.is_empty() || text.len() > MAX_DIGITS {
+    if text.is_empty() || text.len() > digits {
         return None;
     }
     match digits_value(text.as_bytes()) {
-        Some(value) if value >= 1 && value <= MAX_BUDGET => Some(value),
+        Some(value) if value >= 1 && value <= limit => Some(value),
         _ => None,
+    }
+}
+
+/// A number of packages: 1 to 3 digits, from 1 to 200.
+fn count_in(text: &str) -> Option<u32>
+    ensures count { result ≡ count_in text.now }
+    ensures within { IfSome result IsCount }
+{
+    match number_in(text, MAX_COUNT_DIGITS, u64::from(MAX_PACKAGES)) {
+        Some(count) => Some(count as u32),
+        None => None,
     }
 }
 
@@ -91,14 +129,48 @@ fn budget_or(budget: Option<&str>) -> Option<u64>
     ensures { result ≡ budget_or (option_map (λ t. t.now) budget.entry) }
 {
     match budget {
-        Some(text) => budget_in(text),
+        // 1 to 10 digits, from 1 to 1,000,000,000
+        Some(text) => number_in(text, MAX_DIGITS, MAX_BUDGET),
         None => Some(DEFAULT_BUDGET),
+    }
+}
+
+/// The command of a word that takes a directory or a file and no budget.
+fn report_named<'a>(command: &'a str, argument: &'a str) -> Option<Command<'a>>
+    ensures named { option_map told_command result ≡ report_named command.now argument.now }
+    ensures within { IsAskable (option_map told_command result) }
+{
+    if command == TREE {
+        return Some(Command::Tree { file: argument });
+    }
+    if command == POLICY {
+        return Some(Command::Policy {
+            directory: argument,
+        });
+    }
+    if command == CHECK {
+        return Some(Command::Check {
+            directory: argument,
+        });
+    }
+    None
+}
+
+/// The command that runs the application of so many packages with a budget.
+fn big_named<'a>(argument: &'a str, budget: u64) -> Option<Command<'a>>
+    ensures named { option_map told_command result ≡ big_named (count_in argument.now) budget }
+    ensures within { IsAskable (option_map told_command result) }
+{
+    match count_in(argument) {
+        Some(count) => Some(Command::Big { count, budget }),
+        None => None,
     }
 }
 
 /// The command of a word, with its argument and a budget.
 fn command_named<'a>(command: &'a str, argument: &'a str, budget: u64) -> Option<Command<'a>>
-    ensures { option_map told_command result ≡ command_named command.now argument.now budget }
+    ensures named { option_map told_command result ≡ command_named command.now argument.now budget }
+    ensures within { IsAskable (option_map told_command result) }
 {
     if command == RUN {
         return Some(Command::Run {
@@ -114,15 +186,16 @@ fn command_named<'a>(command: &'a str, argument: &'a str, budget: u64) -> Option
             budget,
         });
     }
-    if command == TREE {
-        return Some(Command::Tree { file: argument });
+    if command == BIG {
+        return big_named(argument, budget);
     }
-    None
+    report_named(command, argument)
 }
 
 /// The command of the words that were given.
 fn asked_by(given: GivenWords<'_>) -> Option<Command<'_>>
-    ensures { option_map told_command result ≡ asked_by (given_as given.entry) }
+    ensures asks { option_map told_command result ≡ asked_by (given_as given.entry) }
+    ensures within { IsAskable (option_map told_command result) }
 {
     let budget = budget_or(given.budget)?;
     command_named(given.command?, given.argument?, budget)
@@ -133,7 +206,10 @@ pub fn command_of<'a>(
     alloc: Global,
     words: &'a [String],
 ) -> Result<Option<Command<'a>>, OutOfMemory>
-    ensures { IfOk result (λ r. option_map told_command r ≡ command_of (map string_bytes words.entry.now)) }
+    ensures asks { let asked = command_of (map string_bytes words.entry.now) in
+        IfOk result (λ r. option_map told_command r ≡ asked) }
+    // A number of packages is one that an application may have.
+    ensures within { IfOk result (λ r. IsAskable (option_map told_command r)) }
 {
     match given(alloc, words) {
         Ok(Some(given)) => Ok(asked_by(given)),

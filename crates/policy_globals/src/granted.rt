@@ -203,7 +203,7 @@ fn push_live(granted: &mut List<(Name, bool)>, name: &Name, grade: Grade) -> Res
 }
 
 /// The built-in module, as far as keys grant it.
-pub(crate) fn builtins_of_keys(
+pub fn builtins_of_keys(
     alloc: Global,
     keys: &List<(Name, Grade)>,
 ) -> Result<List<(Name, Grant)>, OutOfMemory>

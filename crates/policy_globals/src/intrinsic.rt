@@ -32,7 +32,7 @@ pub const INTRINSICS: [&str; 23] = [
 ];
 
 /// Whether a name is one that every package has.
-pub(crate) fn is_intrinsic_name(name: &str) -> bool
+pub fn is_intrinsic_name(name: &str) -> bool
     ensures { result ≡ is_intrinsic name.now }
 {
     is_among(&INTRINSICS, name)

@@ -106,7 +106,7 @@ fn put_second_name(
 }
 
 /// What stands before the first point of a key, or the whole key.
-fn first_of(key: &str) -> &str
+pub fn first_of(key: &str) -> &str
     ensures { result.now ≡ first_name key.now }
 {
     match key.split_once('.') {

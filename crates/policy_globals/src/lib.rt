@@ -8,9 +8,9 @@
 // Definitions are in specs/: `Hosts`, `Keys`, `Starts`.
 #![tactic(auto)]
 
-mod granted;
+pub mod granted;
 pub mod host;
-mod intrinsic;
-mod keys;
+pub mod intrinsic;
+pub mod keys;
 pub mod laws;
 pub mod start;

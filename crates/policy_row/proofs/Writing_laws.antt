@@ -15,7 +15,7 @@ use Rattle.serde_json.specs.View.{view, members_view}
 use Rattle.serde_json.specs.declared.value.Value.{Value, Object}
 use Rattle.serde_json.proofs.Views.{view-Object}
 use Rattle.policy_row.specs.Names.{kind_name}
-use Rattle.policy_row.specs.Reading.{grade_of, entries_in, kind_in, row_from, first_row, row_of, rows_in, policy_of}
+use Rattle.policy_row.specs.Reading.{IsJson, grade_of, entries_in, kind_in, row_from, first_row, row_of, rows_in, policy_of}
 use Rattle.policy_row.specs.Rows.{Entries, Rows, order_of_names, with_entry, are_in_order, is_in_order, may_stand, are_kept, is_kept}
 use Rattle.policy_row.specs.Texts.{by_bytes}
 use Rattle.policy_row.specs.Writing.{grade_data, written, put_each, entries_data, with_kind, put_kind, row_data, policy_data, IsPolicy}
@@ -177,6 +177,14 @@ entries_done m es items n is past order all =
 pub kept_by_bytes : (rows : List (String Global × Row)) → list_all (λ r. is_kept r.1) (by_bytes rows) ≡ list_all (λ r. is_kept r.1) rows
 kept_by_bytes [] = refl
 kept_by_bytes (r ∷ rows) = rw (kept_by_bytes rows) refl
+
+-- a text that reads back as a policy's value is the JSON of it
+pub is_json : (bytes items : List ℕ) (d : Data) (rows : List (String Global × Row)) (policy : Rows) → bytes ≡ items → by_bytes rows ≡ policy → d ≡ policy_data (by_bytes rows) → IsUtf8 items → (depth d ≤ max_depth → read items ≡ Some d) → IsJson bytes (policy_data policy)
+is_json bytes items d rows policy is same value utf8 back =
+    let deep = policy_deep (by_bytes rows) in
+    let flat : depth d ≤ max_depth = subst (λ (x : Data). depth x ≤ max_depth) (sym value) (omega (arith, deep)) in
+    let whole : d ≡ policy_data policy = value ∙ ap policy_data same in
+    subst (λ (b : List ℕ). IsJson b (policy_data policy)) (sym is) (utf8, back flat ∙ ap Some whole)
 
 -- a text that reads back as a policy's value is this policy
 pub is_policy : (file : PolicyFile) (bytes items : List ℕ) (d : Data) (rows : List (String Global × Row)) (policy : Rows) → bytes ≡ items → by_bytes rows ≡ policy → list_all (λ r. is_kept r.1) rows ≡ true → d ≡ policy_data (by_bytes rows) → IsUtf8 items → (depth d ≤ max_depth → read items ≡ Some d) → IsPolicy file bytes policy

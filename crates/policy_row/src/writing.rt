@@ -7,6 +7,7 @@ ghost use Rattle.json.specs.Lex.{tokens};
 ghost use Rattle.serde_json.specs.Data.{put, object};
 ghost use Rattle.serde_json.specs.View.{view, members_view};
 ghost use Rattle.policy_row.specs.declared.fault.PolicyFile.{PolicyFile};
+ghost use Rattle.policy_row.specs.Reading.{IsJson};
 ghost use Rattle.policy_row.specs.Rows.{are_kept, is_in_order, is_kept};
 ghost use Rattle.policy_row.specs.Texts.{by_bytes};
 ghost use Rattle.policy_row.specs.Writing.{IsPolicy, grade_data, written, entries_data, put_kind, row_data, policy_data};
@@ -119,6 +120,7 @@ fn policy_value(alloc: Global, rows: &BTreeMap<String, Row>) -> Result<Value, Ou
 /// Writes the text of a policy's file, as `serde_json` lays JSON out: a file of these bytes is read as this policy. Rows, kinds and entries stand in byte order, and a kind without an entry is left out. No line feed stands at the end.
 pub fn write_policy(alloc: Global, policy: &Policy) -> Result<List<u8>, OutOfMemory>
     ensures layout { IfOk result (λ bytes. bytes ≡ pretty (tokens bytes)) }
+    ensures writes { IfOk result (λ bytes. IsJson bytes (policy_data policy.now)) }
     ensures reads { IfOk result (λ bytes. (file : PolicyFile) → IsPolicy file bytes policy.now) }
 {
     let value = policy_value(alloc, &policy.rows)?;

@@ -1,8 +1,8 @@
 use Rattle.std.proofs.Common.{map, string_bytes}
 use Rattle.lava_host.specs.Hosts.{host_world}
 use Rattle.lava_words.specs.Words.{command_of}
-use Rattle.lava_cli.proofs.Decided.{decides}
-use Rattle.lava_cli.proofs.Finished.{finishes}
+use Rattle.lava_cli.proofs.Decides.{decides}
+use Rattle.lava_cli.proofs.Finishes.{finishes}
 use Rattle.lava_cli.proofs.Isolation.{isolates}
 use Rattle.lava_cli.proofs.command.lava.Goals as goal
 

@@ -1,0 +1,2 @@
+pub mod BigFiles
+pub mod Summaries

@@ -1,0 +1,14 @@
+pub mod Act_laws
+pub mod Cut_laws
+pub mod Free_laws
+pub mod Granted_laws
+pub mod Graph_laws
+pub mod Identifier_laws
+pub mod Link_laws
+pub mod Module_laws
+pub mod Name_laws
+pub mod Property_laws
+pub mod Request_laws
+pub mod Start_laws
+pub mod Text_laws
+pub mod Use_laws

@@ -1,0 +1,3 @@
+pub mod FreeNames
+pub mod LiteralRequests
+pub mod ReadPackages

@@ -1,0 +1,3 @@
+mod PolicyOutcomesLemmas
+mod PolicyLemmas
+mod CheckLemmas

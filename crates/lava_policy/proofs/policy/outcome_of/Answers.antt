@@ -1,0 +1,9 @@
+use Rattle.lava_streams.specs.Outside.{outside}
+use Rattle.lava_policy.proofs.PolicyLemmas.{printed_so}
+use Rattle.lava_policy.proofs.policy.outcome_of.Goals as goal
+
+pub returns-in-Ok-clause-comes : goal.returns-in-Ok-clause-comes
+returns-in-Ok-clause-comes g c = λ err new_err.
+    (let before = outside (g.F.Folder.stand c.args.folder.now) (g.O.Sink.stand c.args.out.now) err in
+    let after = outside (g.F.Folder.stand c.load_sources.new.folder) (g.O.Sink.stand c.print_policy.new.out) new_err in
+    printed_so c.args.directory.now before after c.in-Ok.app c.print_policy.result c.in-Ok.ensures.loads c.in-Ok.ensures.counts c.print_policy.ensures)

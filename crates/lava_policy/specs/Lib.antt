@@ -1,0 +1,3 @@
+pub mod PolicyOutcomes
+pub mod PolicyAnswers
+pub mod CheckAnswers

@@ -1,0 +1,16 @@
+mod Anys
+mod Covers
+mod Denies
+mod Exact
+mod Firsts
+mod Gives
+mod Graphs
+mod Keeps
+mod Maps
+mod PassLemmas
+mod PlacedRows
+mod Policies
+mod Puts
+mod Raises
+mod Requested
+mod Wants

@@ -1,0 +1,6 @@
+-- There are as many as were counted.
+use Rattle.std.proofs.Common.{◌≡◌, [], replicate}
+use Rattle.policy_gen.proofs.imports.no_imports.Given as goal
+
+abbrev pub invariant-loop : goal.invariant-loop
+invariant-loop l = l.all.items ≡ replicate l.counter []
