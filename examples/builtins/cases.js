@@ -95,7 +95,7 @@ const shownValues = [
 for (const value of shownValues) line('util.inspect', () => util.inspect(value));
 line('util.inspect with options', () => [{ depth: 0 }, { depth: null }, { breakLength: 20 }, { maxArrayLength: 1 }, { maxStringLength: 3 }, { sorted: true }, { compact: false }, { getters: true }].map(options => util.inspect({ z: [1, 2, { deep: { er: { and: 'deeper' } } }], a: 'text', get got() { return 1; } }, options)));
 line('util.inspect by a method', () => util.inspect([{ [util.inspect.custom]: (depth, options) => `<${depth}\n${options.depth}>` }, { [util.inspect.custom]: () => [1] }]));
-each('util.format', [], ['a'], ['a', 'b', 1, {}], ['%s %s', 'x'], ['%s|%s|%s', 1, null, undefined], ['%s', [1, [2, [3]]]], ['%s', { a: { b: 1 } }], ['%d %d %d %d', '12', ' 0x1f ', 'x', true], ['%i %i', '12abc', 'x'], ['%j', { a: [1] }], ['%O', { a: { b: { c: { d: 1 } } } }], ['100%', 1], ['%% %x %s', 'y'], ['%c!', 'css'], [1, '%s', 'x'], ['%s']);
+each('util.format', [], ['a'], ['a', 'b', 1, {}], ['%s %s', 'x'], ['%s|%s|%s', 1, null, undefined], ['%s', [1, [2, [3]]]], ['%s', { a: { b: 1 } }], ['%d %d %d %d', '12', ' 0x1f ', 'x', true], ['%i %i %i', '12abc', 'x', '-0x1fz'], ['%j', { a: [1] }], ['%O', { a: { b: { c: { d: 1 } } } }], ['100%', 1], ['%% %x %s', 'y'], ['%c!', 'css'], [1, '%s', 'x'], ['%s']);
 line('util.format of what has a text', () => util.format('%s %s', { toString: () => 'own' }, new (class { toString() { return 'inherited'; } })()));
 line('util.inherits', () => {
   function A() {}
