@@ -227,7 +227,7 @@ def page():
     missing = [it for it in STANDARD["globalThis"].split() if it not in [*names, "undefined"]]
     out += ["**In ECMA-262, and not here:** " + ", ".join(f"`{it}`" for it in missing) + ". There are no regular expressions, dates, promises, typed arrays, "
             "weak references and sets, and no `eval`; numbers that are no integers have no functions. Nor is there anything of a browser or of Node.js, as "
-            "timers, `process`, `Buffer` and `fetch`.", ""]
+            "timers, `process`, `Buffer` and `fetch` (`examples/builtins` has packages for some of it). What SES has besides stands in `SES.md`.", ""]
     out += ["## Properties", "", "`f(x)` is a method with its parameters as the prelude writes them; a path is the object that stands there. "
             "What is not here may be inherited, as `valueOf` of `Object.prototype`.", ""]
     used = set()
