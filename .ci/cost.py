@@ -6,8 +6,9 @@
   .ci/cost.py watch PID FILE   watches an `rt ci` that goes on, and appends to the file what each process took
   .ci/cost.py table FILE       prints a Markdown table of what stands in the file
   .ci/cost.py write FILE       writes the column `Minutes` of docs/ARCHITECTURE.md, of the proofs, and the paragraph on the whole run there
-  .ci/cost.py check FILE       names the crates whose proof took over 18 seconds a hundred lines of src/, or over one and a half times the minutes of
-                               their row there, and ends with status 1 where there is one. Crates of under a minute are passed over
+  .ci/cost.py check FILE       names the crates whose proof took over 18 seconds a hundred lines of src/ (of a hundred lines or more), or over one and
+                               a half times the minutes of their row there, and ends with status 1 where there is one. Crates of under a minute
+                               are passed over
 
 The log of `rt ci` has no times, so the processes below it are looked at some times a second in /proc. A line of the file is one
 process that has ended: its processor seconds, the crate, the part and the command. What a process takes after the last look at it,
@@ -246,7 +247,7 @@ def check(path):
         if seconds < LEAST:
             continue
         faults = []
-        if lines and 100 * seconds > A_HUNDRED_LINES * lines:
+        if lines >= 100 and 100 * seconds > A_HUNDRED_LINES * lines:
             faults.append(f"{100 * seconds / lines:.0f} seconds a hundred lines")
         if crate in told and seconds > TIMES_ROW * 60 * told[crate]:
             faults.append(f"its row has {told[crate]:g} minutes")
