@@ -53,7 +53,7 @@ def build(room, out, is_proved):
     """Builds the program. Returns whether it was built."""
     if not is_proved:
         return subprocess.run([f"{TOP}/bench/unproved.py", "--bare", NAME, out, room], cwd=room).returncode == 0
-    done = subprocess.run(["rt", "run"], cwd=f"{room}/crates/{NAME}", stdout=subprocess.DEVNULL)
+    done = subprocess.run(["rt", "run"], cwd=f"{room}/crates/{NAME}", stdin=subprocess.DEVNULL, stdout=subprocess.DEVNULL)
     if done.returncode == 0:
         shutil.copy2(f"{room}/crates/{NAME}/out/{NAME}", out)
     return done.returncode == 0
