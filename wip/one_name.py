@@ -5,6 +5,8 @@
   wip/one_name.py [--top DIR] [CRATE ..]   rewrites these crates, or all, and the lines of crates.txt; where all are rewritten, the lines
                                            `pub use` that pass a crate on go too
   wip/one_name.py --list                   prints which crate passes on which one, and how many paths go through it
+  wip/one_name.py [--top DIR] --words      gives each module that is imported under several words (`as value`, `as value_kind`) the commonest one,
+                                           in each file where that is free, and prints where it is not
 
 In a file, lines `use` that have come to name one module are made one. Then `rt fmt` in each crate, and `.ci/cited.py --write`.
 """
@@ -126,12 +128,45 @@ def joined(text):
     return USE.sub(lambda it: one(it) if (it[1], it[3]) in several else it[0], text)
 
 
+AS = re.compile(r"^[ \t]*(?:ghost |pub )*use (Rattle\.[\w.]+) as (\w+)", re.M)
+
+
+def one_word(house):
+    files = {path: read(path) for crate in house.lines for path in house.files(crate) if not path.endswith("/Lib.antt")}
+    words = {}
+    for text in files.values():
+        for module, word in AS.findall(text):
+            if not module.endswith(".Goals"):
+                words.setdefault(module, {}).setdefault(word, 0)
+                words[module][word] += 1
+    best = {module: max(sorted(of), key=of.get) for module, of in words.items() if len(of) > 1}
+    changed = 0
+    for path, text in files.items():
+        new = text
+        for module, word in AS.findall(text):
+            to = best.get(module, word)
+            if to == word:
+                continue
+            if re.search(rf"(?<![\w.]){to}(?!\w)", new) or len(re.findall(rf" as {word}\b", new)) != 1:
+                print(f"{os.path.relpath(path, house.top)}: {module} stays {word}, and is {to} elsewhere")
+                continue
+            new = re.sub(rf"(use {re.escape(module)} as ){word}\b", rf"\g<1>{to}", new)
+            new = re.sub(rf"(?<![\w.]){word}(?=\.\w)", to, new)
+        if new != text:
+            changed += 1
+            write(path, new)
+    print(f"{len(best)} modules had several words; {changed} files are changed")
+
+
 def main():
     words = sys.argv[1:]
     top = os.path.dirname(os.path.dirname(os.path.abspath(__file__)))
     if words[:1] == ["--top"]:
         top, words = os.path.abspath(words[1]), words[2:]
     house = House(top)
+    if words == ["--words"]:
+        one_word(house)
+        return 0
     if words == ["--list"]:
         users = {}
         for crate in house.lines:
