@@ -11,10 +11,6 @@ The column `Stands on` has the crates that the line lists, without those that an
 
   .ci/cited.py           says what lacks and what is too much, which edge leads to a later room, and which row is not as it should be
   .ci/cited.py --write   adds what lacks to crates.txt (what is too much is taken out by hand), and writes the column `Stands on`
-  .ci/cited.py --paths   prints how many paths there are from each crate, and in all
-
-`rt ci` makes a sum of all files below a library, once for each path of crates.txt that leads there, twice: 5 ms a path. So how many paths there are
-(`--paths`) is to stay below some 200,000 in all: list a large crate only where no other that is listed stands above it.
 """
 import os
 import re
@@ -132,26 +128,11 @@ def page_with(lines, rooms, listed, room_of):
     return out, faults
 
 
-def tell_paths(listed):
-    paths = {}
-
-    def count(name):
-        if name not in paths:
-            paths[name] = 1 + sum(count(it) for it in listed[name] if it in listed)
-        return paths[name]
-
-    for name in listed:
-        print(f"{count(name):8} {name}")
-    print(f"{sum(paths.values()):8} in all")
-
-
 def main():
     lines, is_writing = lines_of(LIST), "--write" in sys.argv
     rooms, listed, room_of = listed_in(lines)
     wanted, is_well = uncited(listed)
     is_well &= rooms_are_well(rooms, listed, room_of)
-    if "--paths" in sys.argv:
-        tell_paths(wanted)
     if is_writing:
         heads = [line.partition("#")[0].partition(":") for line in lines]
         write(LIST, [f"{name}: {' '.join(wanted[name.strip()])}".rstrip() if colon else line for line, (name, colon, _) in zip(lines, heads)])

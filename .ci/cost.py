@@ -6,6 +6,9 @@
   .ci/cost.py watch PID FILE   watches an `rt ci` that goes on, and appends to the file what each process took
   .ci/cost.py table FILE       prints a Markdown table of what stands in the file
   .ci/cost.py write FILE       writes the column `Minutes` of docs/ARCHITECTURE.md, of the proofs, and the paragraph on the whole run there
+  .ci/cost.py check FILE       names the crates whose proof took over 18 seconds a hundred lines of src/ (of a hundred lines or more), or over one and
+                               a half times the minutes of their row there, and ends with status 1 where there is one. Crates of under a minute
+                               are passed over
 
 The log of `rt ci` has no times, so the processes below it are looked at some times a second in /proc. A line of the file is one
 process that has ended: its processor seconds, the crate, the part and the command. What a process takes after the last look at it,
@@ -24,6 +27,9 @@ PAUSE = 0.25
 PARTS = ("proof", "tests", "edits")
 TOP = os.path.dirname(os.path.dirname(os.path.abspath(__file__)))
 PAGE = f"{TOP}/docs/ARCHITECTURE.md"
+ROW = re.compile(r"\| `(\w+)` \|")
+# What `check` lets pass: seconds of a crate, seconds a hundred lines of its code, and times its row.
+LEAST, A_HUNDRED_LINES, TIMES_ROW = 60, 18, 1.5
 
 
 def stat(pid):
@@ -125,7 +131,9 @@ def run(folder):
     costs = f"{folder}/costs"
     open(costs, "w", encoding="utf-8").close()
     with open(f"{folder}/ci.log", "wb") as log:
-        rt = subprocess.Popen(["rt", "ci"], cwd=TOP, stdout=subprocess.PIPE, stderr=subprocess.STDOUT)
+        # (as many proofs at a time as .ci/run has)
+        jobs = {"RT_JOBS": str(len(os.sched_getaffinity(0))), **os.environ}
+        rt = subprocess.Popen(["rt", "ci"], cwd=TOP, stdout=subprocess.PIPE, stderr=subprocess.STDOUT, env=jobs)
         watcher = threading.Thread(target=watch, args=(rt.pid, costs), daemon=True)
         watcher.start()
         while part := rt.stdout.read1(1 << 16):
@@ -201,7 +209,7 @@ def write(path):
     with open(PAGE, encoding="utf-8") as it:
         lines = it.read().splitlines()
     for line in lines:
-        row = re.match(r"\| `(\w+)` \|", line)
+        row = ROW.match(line)
         if line.startswith("<!-- costs:"):
             out += [line, said]
             is_within = True
@@ -215,6 +223,40 @@ def write(path):
         it.writelines(f"{line}\n" for line in out)
 
 
+def rows():
+    """Returns the minutes that docs/ARCHITECTURE.md has for each crate's proof; `<1` counts as 1."""
+    with open(PAGE, encoding="utf-8") as it:
+        cells = [(ROW.match(line)[1], line.split("|")[-2].strip(" <\n")) for line in it if ROW.match(line)]
+    return {crate: float(told) for crate, told in cells if re.fullmatch(r"[\d.]+", told)}
+
+
+def lines_of(crate):
+    """Returns how many lines of code a crate has."""
+    found = 0
+    for at, _, names in os.walk(f"{TOP}/crates/{crate}/src"):
+        for name in names:
+            with open(f"{at}/{name}", encoding="utf-8") as it:
+                found += sum(1 for _ in it)
+    return found
+
+
+def check(path):
+    costs, told, is_well = costs_in(path)[0], rows(), True
+    for crate in order():
+        seconds, lines = costs[crate]["proof"] if crate in costs else 0, lines_of(crate)
+        if seconds < LEAST:
+            continue
+        faults = []
+        if lines >= 100 and 100 * seconds > A_HUNDRED_LINES * lines:
+            faults.append(f"{100 * seconds / lines:.0f} seconds a hundred lines")
+        if crate in told and seconds > TIMES_ROW * 60 * told[crate]:
+            faults.append(f"its row has {told[crate]:g} minutes")
+        if faults:
+            is_well = False
+            print(f"{crate}: {minutes(seconds)} minutes, {lines} lines: {'; '.join(faults)}")
+    return 0 if is_well else 1
+
+
 def main(words):
     if words[:1] == ["run"] and len(words) <= 2:
         return run(words[1] if words[1:] else "/tmp/rt-ci-costs")
@@ -224,6 +266,8 @@ def main(words):
         return table(words[1])
     if words[:1] == ["write"] and len(words) == 2:
         return write(words[1])
+    if words[:1] == ["check"] and len(words) == 2:
+        return check(words[1])
     print(__doc__, end="", file=sys.stderr)
     return 2
 

@@ -3,9 +3,9 @@
 
     bench/objects.py [PROGRAM]                  prints the table
     bench/objects.py --instructions [PROGRAM]   prints how many instructions a round has, by valgrind's callgrind
-    bench/objects.py --check                    ends with status 1 where a line of crates/lava_bench/stdout is not that of the model below
+    bench/objects.py --check                    ends with status 1 where a line of bench/lava_bench/stdout is not that of the model below
 
-PROGRAM is the built program, crates/lava_bench/out/lava_bench unless given. Each time is the best of five runs, less the best of a run of no rounds.
+PROGRAM is what bench/lava_bench.py has built, out/lava_bench unless given. Each time is the best of five runs, less the best of a run of no rounds.
 """
 import os
 import sys
@@ -14,7 +14,7 @@ from rounds import instructions, seconds
 
 TOP = os.path.dirname(os.path.dirname(os.path.abspath(__file__)))
 
-CRATE = os.path.join(TOP, 'crates/lava_bench')
+BENCH = os.path.join(TOP, 'bench/lava_bench')
 
 # Each kind, and what is counted.
 KINDS = {
@@ -112,7 +112,7 @@ def checksum(kind, count):
 
 def check():
     """Compares what the program is to print with the model."""
-    with open(os.path.join(CRATE, 'stdin')) as asked, open(os.path.join(CRATE, 'stdout')) as wanted:
+    with open(os.path.join(BENCH, 'stdin')) as asked, open(os.path.join(BENCH, 'stdout')) as wanted:
         for line, answer in zip(asked, wanted):
             kind, count = line.split()
             if kind in KINDS and answer != '%s %s %d\n' % (kind, count, checksum(kind, int(count))):
@@ -146,7 +146,7 @@ def main():
         return check()
     show = count_instructions if words[:1] == ['--instructions'] else measure
     names = [word for word in words if not word.startswith('--')]
-    show(os.path.abspath(names[0]) if names else os.path.join(CRATE, 'out/lava_bench'))
+    show(os.path.abspath(names[0]) if names else os.path.join(TOP, 'out/lava_bench'))
 
 
 main()

@@ -3,7 +3,7 @@
 
     bench/texts_and_numbers.py [PROGRAM]
 
-PROGRAM is the built program, crates/lava_bench/out/lava_bench unless given. Each figure is the best of five runs, less the best of a run of no rounds.
+PROGRAM is what bench/lava_bench.py has built, out/lava_bench unless given. Each figure is the best of five runs, less the best of a run of no rounds.
 """
 import os
 import sys
@@ -19,7 +19,7 @@ LINES = 211
 
 
 def main():
-    program = os.path.abspath(sys.argv[1]) if len(sys.argv) > 1 else os.path.join(TOP, 'crates/lava_bench/out/lava_bench')
+    program = os.path.abspath(sys.argv[1]) if len(sys.argv) > 1 else os.path.join(TOP, 'out/lava_bench')
     print('%-10s %12s %10s %14s %14s' % ('kind', 'count', 'ms', 'ns a round', 'rounds a second'))
     for kind in KINDS:
         start = seconds(program, kind, 0)
