@@ -10,13 +10,14 @@ TOKEN = re.compile(
     r'(?P<name>#?(?:[^\W\d]|\$|\\u)(?:\w|\$|[\u200c\u200d]|\\u(?:\{[0-9a-fA-F]*\})?)*)'
     r'|(?P<number>\.?[0-9](?:[\w.]|(?<=[eE])[+-])*)'
     r'|(?P<text>"(?:[^"\\\n\r]|\\(?:\r\n|.))*"?|\'(?:[^\'\\\n\r]|\\(?:\r\n|.))*\'?)'
-    r'|(?P<mark>\?\.(?![0-9])|=>|\.\.\.|[=!]==?|&&=?|\|\|=?|\?\?=?|\+\+|--|[-+*%&|^/<>]=|.)', re.DOTALL)
+    r'|(?P<mark>\?\.(?![0-9])|=>|\.\.\.|[=!]==?|(?:\*\*|<<|>>>?)=?|&&=?|\|\|=?|\?\?=?|\+\+|--|[-+*%&|^/<>]=|.)', re.DOTALL)
 # (what stands in brackets ends at no slash)
 EXPRESSION = re.compile(r'/(?:[^/\\\[\n\r\u2028\u2029]|\\[^\n\r\u2028\u2029]|\[(?:[^\]\\\n\r\u2028\u2029]|\\[^\n\r\u2028\u2029])*\])+/\w*')
 PIECE = re.compile(r'(?:[^`\\$]|\\.|\$(?!\{))*', re.DOTALL)
 ENDS = re.compile('\r\n|[\n\r\u2028\u2029]')
 # Names behind which an operand comes, and not an operator.
 BEFORE_OPERAND = {'await', 'case', 'delete', 'do', 'else', 'extends', 'in', 'instanceof', 'new', 'of', 'return', 'throw', 'typeof', 'void', 'yield'}
+ASSIGNS = re.compile(r'(?:[-+*%&|^/]|\*\*|<<|>>>?|&&|\|\||\?\?)?=|\+\+|--')
 CONDITIONS = {'if', 'while', 'for', 'with'}
 ESCAPE = re.compile(r'\\(?:u\{([0-9a-fA-F]{1,6})\}|u([0-9a-fA-F]{4})|x([0-9a-fA-F]{2})|(\r\n|.))', re.DOTALL)
 ESCAPES = {'b': '\b', 'f': '\f', 'n': '\n', 'r': '\r', 't': '\t', 'v': '\v', '0': '\0', '\n': '', '\r': '', '\r\n': '', '\u2028': '', '\u2029': ''}
@@ -74,7 +75,7 @@ class Source:
     def read(self):
         text, size = self.text, len(self.text)
         at = ENDS.search(text + '\n').start() if text.startswith('#!') else 0
-        # What is open: of a parenthesis whether a condition stands in it, of a brace whether it stands in a template.
+        # What is open: of a parenthesis whether a condition stands in it, of a brace whether it is one of a template, an object or a block.
         parens, braces = [], []
         # (looked for in vain a regular expression costs the rest of its line, and a source may be one line)
         operand, patience = True, 20 * size + 1000000
@@ -85,12 +86,12 @@ class Source:
             if at >= size:
                 return
             mark = text[at]
-            if mark == '`' or mark == '}' and braces and braces[-1]:
+            if mark == '`' or mark == '}' and braces and braces[-1] == TEMPLATE:
                 if mark == '}':
                     braces.pop()
                 stop = PIECE.match(text, at + 1).end()
                 if text.startswith('${', stop):
-                    braces.append(True)
+                    braces.append(TEMPLATE)
                     stop, operand = stop + 2, True
                 else:
                     stop, operand = min(stop + 1, size), False
@@ -111,14 +112,25 @@ class Source:
                 if word == '(':
                     parens.append(bool(self.texts) and self.kinds[-1] == NAME and self.texts[-1] in CONDITIONS)
                 elif word == '{':
-                    braces.append(False)
-                elif word == '}' and braces:
-                    braces.pop()
-                operand = (not parens or parens.pop()) if word == ')' else word not in (']', '++', '--')
+                    braces.append(self.is_object())
+                if word == ')':
+                    operand = not parens or parens.pop()
+                elif word == '}':
+                    operand = not (braces and braces.pop())
+                else:
+                    operand = word not in (']', '++', '--')
             else:
                 operand = kind == NAME and word in BEFORE_OPERAND and (not self.texts or self.texts[-1] not in ('.', '?.'))
             self.add(kind, at, found.end())
             at = found.end()
+
+    def is_object(self):
+        """Whether a brace that comes next is that of an object, and not of a block or a body."""
+        if not self.texts:
+            return False
+        if self.kinds[-1] == NAME:
+            return self.texts[-1] in BEFORE_OPERAND and self.texts[-1] not in ('else', 'do')
+        return self.texts[-1] not in (';', '{', '}', ')', '=>')
 
     def is_member(self, at):
         return at > 0 and self.texts[at - 1] in ('.', '?.')
@@ -174,12 +186,47 @@ class Source:
                         found.append((before, value_of(words[at])))
         return [(text, self.starts[before]) for before, text in sorted(found)]
 
-    def use(self, name, members=()):
-        """Where a name stands that is no member, with these members behind it, or None."""
-        for at, word in enumerate(self.texts):
-            if word == name and self.kinds[at] == NAME and not self.is_member(at) and self.texts[at + 1:at + 2] != [':']:
-                behind = self.texts[at + 1:at + 1 + 2 * len(members)]
-                if behind[1::2] == list(members) and all(mark in ('.', '?.') for mark in behind[::2]):
+    def forms(self):
+        """How often forms of ECMA-262 that the language leaves out stand in it, by the names that docs/LANGUAGE.md has for them, and those that
+        have none as `async` and `yield`. Fields of classes, and what a form is by its place alone, are not among them."""
+        count, words, kinds = {}, self.texts, self.kinds
+        for at, word in enumerate(words):
+            kind, form = kinds[at], None
+            before, behind = words[at - 1] if at else '', words[at + 1] if at + 1 < len(words) else ''
+            if kind == REGEXP:
+                form = 'regexp'
+            elif kind == NUMBER:
+                form = 'bigint' if word.endswith('n') else 'separator' if '_' in word else None
+            elif kind == TEMPLATE:
+                is_tagged = at and (kinds[at - 1] == NAME and before not in BEFORE_OPERAND or before in (')', ']') and kinds[at - 1] == MARK)
+                form = 'tag' if word.startswith('`') and is_tagged else None
+            elif word == '@':
+                form = 'decorator'
+            elif kind == NAME and not self.is_member(at):
+                if word.startswith('#'):
+                    form = 'private' if before not in ('.', '?.') else None
+                elif '\\u' in word:
+                    form = 'escape'
+                elif word == 'function' and behind == '*':
+                    form = 'generator'
+                elif word in ('import', 'export', 'yield') and behind not in (':', '=', ')', ','):
+                    form = word
+                elif word == 'async' and (behind in ('function', '(') or behind and kinds[at + 1] == NAME):
+                    form = word
+                elif (word, behind) in (('static', '{'), ('with', '('), ('__proto__', ':')):
+                    form = word.strip('_')
+            if form:
+                count[form] = count.get(form, 0) + 1
+        return count
+
+    def use(self, name, members=(), writes=False):
+        """Where a name stands that is no member, with these members behind it, and assigned where that is asked for, or None."""
+        words = self.texts
+        for at, word in enumerate(words):
+            if word == name and self.kinds[at] == NAME and not self.is_member(at) and words[at + 1:at + 2] != [':']:
+                last = at + 1 + 2 * len(members)
+                is_path = words[at + 2:last:2] == list(members) and all(mark in ('.', '?.') for mark in words[at + 1:last:2])
+                if is_path and (not writes or words[last:last + 1] and ASSIGNS.fullmatch(words[last]) or words[at - 1:at] in (['++'], ['--'])):
                     return self.starts[at]
         return None
 

@@ -8,7 +8,7 @@ import re
 import subprocess
 
 from page.folders import DEPENDENCIES, MOST_BYTES, ROOT, TOO_LONG, Folder, good_name
-from page.tokens import MARK, REGEXP, TEXT, Source
+from page.tokens import REGEXP, Source
 from page.traces import HOST
 
 MOST_MODULES, MOST_MODULE_BYTES = 4096, 16777216
@@ -37,7 +37,7 @@ class Module:
         self.package, self.path, self.by_scan = package, path, by_scan
         self.refused = None  # what, line, unit
         self.requests = []  # each a text, line and unit
-        self.names = {}  # each free name, and whether it is only asked for by `typeof`
+        self.names = {}  # each free name, and whether nothing but `typeof` asks for it
         self.source = None
 
 
@@ -177,8 +177,9 @@ class Walk:
             self.read_source(module, content)
         if module.refused:
             what, line, unit = module.refused
-            told = self.about(module, content, what, line, unit)
-            self.find('refused', owner, module=path, place=(line, unit), what=what, **told, by_scan=by_scan,
+            told = self.about(module, what, line, unit)
+            forms = module.source.forms() if module.source else {}
+            self.find('refused', owner, module=path, place=(line, unit), what=what, **told, forms=forms, by_scan=by_scan,
                       line=f'lava: syntax {owner} {path}:{line}:{unit} {what}')
         return module
 
@@ -216,16 +217,18 @@ class Walk:
             raise NoProgram(f'{self.lava} could not be started: {error.strerror}') from None
         return done.returncode, done.stdout.decode('utf-8', 'surrogateescape'), done.stderr.decode('utf-8', 'surrogateescape')
 
-    def about(self, module, content, what, line, unit):
-        """What stands at the place of a refusal: its token and the one before, and whether it is within a regular expression."""
-        if what == 'not utf-8' or module.source is None:
-            return {'form': what, 'at': None, 'behind': None}
-        source = module.source
-        at = source.token_at(line, unit)
+    def about(self, module, what, line, unit):
+        """What stands at the place of a refusal: its token and the one before, and by which form it is refused. (A bad token is mostly what
+        comes of a quote in a regular expression before it.)"""
+        form, source = what.split(' ')[-1] if what.startswith(('unsupported', 'early')) else what, module.source
+        at = source.token_at(line, unit) if source and what != 'not utf-8' else None
         if at is None:
-            return {'form': what, 'at': None, 'behind': None}
-        is_within = source.kinds[at] == REGEXP
-        form = 'regexp' if is_within else what.split(' ')[-1] if what.startswith(('unsupported', 'early')) else what
+            return {'form': form, 'at': None, 'behind': None}
+        if what == 'bad token':
+            first = at
+            while first > 0 and source.kinds[first] != REGEXP and source.starts[first - 1] >= source.ends[line - 1]:
+                first -= 1
+            form = 'regexp' if source.kinds[first] == REGEXP else form
         return {'form': form, 'at': source.texts[at][:MOST_SHOWN], 'behind': source.texts[at - 1][-MOST_SHOWN:] if at else None}
 
     # Free names.
@@ -246,6 +249,19 @@ class Walk:
             self.find('not given', package, name=name, module=modules[0].path, modules=len(modules),
                       place=None if start is None else modules[0].source.place(start))
 
+    def first_use(self, package, kind, key, grade):
+        """Where the modules of a package want an entry of a policy first: module, line and unit."""
+        if kind != 'globals':
+            return self.uses.get((package, kind, key), (None, None, None))
+        name, *members = key.split('.')
+        for exact, writes in ((members, True), (members, False), ([], False))[grade != 'write':]:
+            for module in self.modules.values():
+                if module.package == package and name in module.names:
+                    start = module.source.use(name, exact, writes)
+                    if start is not None:
+                        return (module.path, *module.source.place(start))
+        return None, None, None
+
     # Why something is not found.
 
     def path_of(self, *parts):
@@ -255,17 +271,19 @@ class Walk:
         directory = self.folder.packages[package]
         manifest = self.folder.manifests.get(directory) or {}
         fields = [manifest.get(field) for field in DEPENDENCIES]
-        is_node = request.startswith('node:') or name in NODE
+        is_node, own = name in NODE, os.path.join(directory, 'package.json')
         if request.startswith('node:'):
             return 'a module of Node.js'
+        if request.startswith('#'):
+            return 'a name of `imports` in package.json, which is passed over'
         if not good_name(name):
             return 'no name of a package'
         there = self.nearest(directory, name)
         if not any(isinstance(field, dict) and name in field for field in fields):
             if there is not None:
-                where = 'devDependencies' if isinstance(manifest.get('devDependencies'), dict) and name in manifest['devDependencies'] else 'no dependencies'
-                return f'{there} is there, and {os.path.join(directory, "package.json")} names it in {where}'
-            return 'a module of Node.js' if is_node else f'{os.path.join(directory, "package.json")} names no such dependency, and there is no folder'
+                where = 'devDependencies' if name in (manifest.get('devDependencies') or ()) else 'no dependencies'
+                return f'{"a module of Node.js; " if is_node else ""}{there} is there, and {own} names it in {where}'
+            return 'a module of Node.js' if is_node else f'{own} names no such dependency, and there is no such folder'
         if there is not None:
             if there == directory:
                 return 'it leads to the package itself'
