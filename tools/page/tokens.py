@@ -187,8 +187,8 @@ class Source:
         return [(text, self.starts[before]) for before, text in sorted(found)]
 
     def forms(self):
-        """How often forms of ECMA-262 that the language leaves out stand in it, by the names that docs/LANGUAGE.md has for them, and those that
-        have none as `async` and `yield`. Fields of classes, and what a form is by its place alone, are not among them."""
+        """How often forms of ECMA-262 that the language leaves out stand in it, by the names that docs/LANGUAGE.md has for them, and by its word
+        one that has none as `async`. Fields of classes, and what a form is by its place alone, are not among them."""
         count, words, kinds = {}, self.texts, self.kinds
         for at, word in enumerate(words):
             kind, form = kinds[at], None
@@ -210,7 +210,8 @@ class Source:
                 elif word == 'function' and behind == '*':
                     form = 'generator'
                 elif word in ('import', 'export', 'yield') and behind not in (':', '=', ')', ','):
-                    form = word
+                    # (of a generator that is a method nothing else is seen)
+                    form = 'generator' if word == 'yield' else word
                 elif word == 'async' and (behind in ('function', '(') or behind and kinds[at + 1] == NAME):
                     form = word
                 elif (word, behind) in (('static', '{'), ('with', '('), ('__proto__', ':')):

@@ -32,6 +32,10 @@ class NoProgram(Exception):
     """The program that reads modules could not be started, or ended as it never should."""
 
 
+class Refused(Exception):
+    """The program refuses the application: its status and its line."""
+
+
 class Module:
     def __init__(self, package, path, by_scan):
         self.package, self.path, self.by_scan = package, path, by_scan
