@@ -37,12 +37,19 @@ class Refused(Exception):
 
 
 class Module:
-    def __init__(self, package, path, by_scan):
-        self.package, self.path, self.by_scan = package, path, by_scan
+    def __init__(self, package, path, by_scan, content):
+        self.package, self.path, self.by_scan, self.content = package, path, by_scan, content
         self.refused = None  # what, line, unit
         self.requests = []  # each a text, line and unit
         self.names = {}  # each free name, and whether nothing but `typeof` asks for it
-        self.source = None
+        self.read = None
+
+    @property
+    def source(self):
+        """Its tokens, which are read where they are asked for."""
+        if self.read is None:
+            self.read = Source(self.content)
+        return self.read
 
 
 def unquoted(text):
@@ -50,15 +57,24 @@ def unquoted(text):
 
 
 def called(term):
-    """The texts with which the lines of a term call the module's own `require`: its slot, in the scope of the module."""
-    scopes, texts, lines = [], set(), term.split('\n')
+    """The texts with which the lines of a term call the module's own `require`: its slot, in the scope of the module. A scope is opened by
+    `Scope`, by `Template`, and by what a `try` does with what it caught, the second of three operands."""
+    scopes, tries, texts, lines = [], [], set(), term.split('\n')
     for at, line in enumerate(lines):
         word = line.lstrip()
         depth = len(line) - len(word)
         while scopes and scopes[-1][0] >= depth:
             scopes.pop()
+        while tries and tries[-1][0] >= depth:
+            tries.pop()
+        if tries and depth == tries[-1][0] + 2:
+            tries[-1][1] += 1
+            if tries[-1][1] == 2:
+                scopes.append([depth, False])
         if word.startswith(('Scope ', 'Template ')):
             scopes.append([depth, False])
+        elif word == 'Try':
+            tries.append([depth, 0])
         elif word == 'Init 0 0' and scopes and lines[at + 1].lstrip() == f'Local {len(scopes)} 1':
             # (`require?.('x')` keeps the function in a scope of its own)
             scopes[-1][1] = True
@@ -166,7 +182,7 @@ class Walk:
             return b''
 
     def take_in(self, owner, path, content, by_scan):
-        module = self.modules[owner, path] = Module(owner, path, by_scan)
+        module = self.modules[owner, path] = Module(owner, path, by_scan, content)
         if len(self.modules) == MOST_MODULES + 1:
             self.find('too many', ROOT, what='modules', line='lava: too many modules 4097')
         if len(content) > MOST_BYTES:
@@ -176,43 +192,39 @@ class Walk:
             self.find('too many', ROOT, what='bytes', line=f'lava: too many bytes {self.bytes + len(content)}')
         self.bytes += len(content)
         if path.endswith('.json'):
-            self.read_json(module, content)
+            self.read_json(module)
         else:
-            self.read_source(module, content)
+            self.read_source(module)
         if module.refused:
             what, line, unit = module.refused
             told = self.about(module, what, line, unit)
-            forms = module.source.forms() if module.source else {}
+            forms = {} if path.endswith('.json') else module.source.forms()
             self.find('refused', owner, module=path, place=(line, unit), what=what, **told, forms=forms, by_scan=by_scan,
                       line=f'lava: syntax {owner} {path}:{line}:{unit} {what}')
         return module
 
-    def read_json(self, module, content):
+    def read_json(self, module):
         try:
-            content.decode('utf-8')
+            module.content.decode('utf-8')
         except UnicodeDecodeError as error:
-            source = Source(b'')
-            source.text = content[:error.start].decode('utf-8')
-            module.refused = ('not utf-8', *source.place(len(source.text)))
+            read = Source(module.content[:error.start])
+            module.refused = ('not utf-8', *read.place(len(read.text)))
 
-    def read_source(self, module, content):
+    def read_source(self, module):
         status, term, said = self.tree(os.path.join(self.top, self.folder.packages[module.package], module.path))
+        found = REFUSAL.search(said)
         if status == 0:
             for write, name, soft in FREE.findall(term):
                 module.names[name] = module.names.get(name, True) and bool(soft) and not write
-            if b'require' in content or b'\\u' in content:
-                module.source = Source(content)
-                own = called(term)
-                module.requests = [(text, *module.source.place(module.source.starts[at])) for text, at, _ in module.source.calls() if text in own]
-        else:
-            found = REFUSAL.search(said)
-            if not found:
-                raise NoProgram(f'`lava tree {module.path}` ended with status {status}: {said.strip()}')
+            own = called(term) if b'require' in module.content else set()
+            if own:
+                read = module.source
+                module.requests = [(text, *read.place(read.starts[at])) for text, at, _ in read.calls() if text in own]
+        elif found:
             module.refused = (found[3], int(found[1]), int(found[2]))
-            module.source = Source(content)
             module.requests = [(text, *module.source.place(start)) for text, start in module.source.scanned()]
-        if module.names or b'globalThis' in content:
-            module.source = module.source or Source(content)
+        else:
+            raise NoProgram(f'`lava tree {module.path}` ended with status {status}: {said.strip()}')
 
     def tree(self, path):
         try:
@@ -224,11 +236,14 @@ class Walk:
     def about(self, module, what, line, unit):
         """What stands at the place of a refusal: its token and the one before, and by which form it is refused. (A bad token is mostly what
         comes of a quote in a regular expression before it.)"""
-        form, source = what.split(' ')[-1] if what.startswith(('unsupported', 'early')) else what, module.source
-        at = source.token_at(line, unit) if source and what != 'not utf-8' else None
+        form = what.split(' ')[-1] if what.startswith(('unsupported', 'early')) else what
+        source = module.source if what != 'not utf-8' else None
+        at = source.token_at(line, unit) if source else None
         if at is None:
             return {'form': form, 'at': None, 'behind': None}
-        if what == 'bad token':
+        if source.kinds[at] == REGEXP:
+            form = 'regexp'
+        elif what == 'bad token':
             first = at
             while first > 0 and source.kinds[first] != REGEXP and source.starts[first - 1] >= source.ends[line - 1]:
                 first -= 1
@@ -240,7 +255,7 @@ class Walk:
     def look_at_names(self):
         made = {}
         for module in self.modules.values():
-            if module.source:
+            if b'globalThis' in module.content and not module.path.endswith('.json'):
                 made.setdefault(module.package, set()).update(module.source.globals_made())
         wanted = {}
         for module in self.modules.values():
@@ -324,8 +339,8 @@ class Walk:
             full = self.path_of(directory, candidate)
             if os.path.islink(full) and not os.path.exists(full):
                 return f'{os.path.join(directory, candidate)} is a symbolic link that leads to nothing here: {os.readlink(full)}'
-        base = tried[0][:-len('/index.js')] if tried[0].endswith('/index.js') else tried[0]
-        for candidate in (base, base + '.mjs', base + '.node', base + '.cjs', base + '/index.mjs', base + '/index.cjs'):
+        base = tried[0].removesuffix('.js')
+        for candidate in (base, *(base + end for end in ('.mjs', '.node', '.cjs', '/index.mjs', '/index.cjs'))):
             if candidate not in tried or candidate.endswith(('.mjs', '.node')):
                 if os.path.isfile(self.path_of(directory, candidate)):
                     end = candidate.rsplit('.', 1)[-1]
