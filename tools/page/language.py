@@ -1,13 +1,34 @@
-"""What docs/LANGUAGE.md says of the forms that the language leaves out, and of the other refusals of a source."""
+"""What docs/LANGUAGE.md says of the forms that the language leaves out and of the other refusals of a source, and which members of ECMA-262's
+objects are not here, by docs/LIBRARY.md."""
 import os
+import re
 
-PAGE = os.path.join(os.path.dirname(os.path.abspath(__file__)), '..', '..', 'docs', 'LANGUAGE.md')
+DOCS = os.path.join(os.path.dirname(os.path.abspath(__file__)), '..', '..', 'docs')
+
+
+def lacking():
+    """A pattern that finds members of ECMA-262's objects that are not here: `Math.x` by the object, and methods by a name that no object here has."""
+    paths, methods, here, heading = [], set(), set(), ''
+    with open(os.path.join(DOCS, 'LIBRARY.md'), encoding='utf-8') as file:
+        for line in file:
+            if line.startswith('### '):
+                heading = line[4:].strip()
+            elif line.startswith('| `'):
+                here.add(line[3:line.index('`', 3)])
+            elif line.startswith('Not here: '):
+                names = re.findall(r'`(\w+)`', line)
+                if heading.endswith('.prototype'):
+                    methods.update(names)
+                elif names:
+                    paths.append(rf'{heading}\s*\.\s*(?:{"|".join(names)})')
+    methods = '|'.join(sorted(methods - here))
+    return re.compile(rf'(?<![\w$.])(?:{"|".join(paths)})\b|\.\s*(?:{methods})(?=\s*(?:\(|\.\s*(?:call|apply|bind)\b))'.encode())
 
 
 def rows():
     """By each name of its tables: the head of the third column, and the cells behind the name, without their marks of code."""
     found, head = {}, None
-    with open(PAGE, encoding='utf-8') as file:
+    with open(os.path.join(DOCS, 'LANGUAGE.md'), encoding='utf-8') as file:
         for line in file:
             if not line.startswith('| ') or not line.rstrip().endswith(' |'):
                 continue
@@ -22,7 +43,11 @@ def rows():
 
 class Language:
     def __init__(self):
-        self.rows = rows()
+        self.rows, self.lacking = rows(), lacking()
+
+    def lacks(self, content):
+        """The members that a source names and that are not here, as `Math.round` or `.replace`. An object of its own may have such a method."""
+        return {re.sub(r'\s', '', name.decode()) for name in set(self.lacking.findall(content))}
 
     def instead(self, form):
         """What a form is that is left out, and what to write in its place, or None."""

@@ -76,6 +76,12 @@ class Survey:
         self.worst = sorted((name for name in self.packages if self.packages[name]),
                             key=lambda name: (-len(self.packages[name]), name.encode('utf-8', 'surrogatepass')))
 
+        self.lacks = {}
+        for module in walk.modules.values():
+            if not module.path.endswith('.json'):
+                for name in self.language.lacks(module.content):
+                    self.lacks.setdefault(name, set()).add(module.package)
+
     def has_found(self):
         return bool(self.worst)
 
@@ -92,6 +98,7 @@ class Survey:
         yield from self.forms()
         yield from self.by_name('nowhere', 'request', 'Requests that lead nowhere, and who makes them:')
         yield from self.by_name('not given', 'name', 'Names that nobody gives, and who uses them:')
+        yield from self.users(self.lacks, 'Members that the library has not (docs/LIBRARY.md), by their names alone, and who may use them:')
         if 'too many' in {finding['kind'] for finding in self.walk.findings}:
             yield 'The application is too large: docs/PACKAGES.md has the limits.'
         idle = len(self.walk.folder.packages) - len(self.walk.requested)
@@ -118,6 +125,9 @@ class Survey:
         who = {}
         for finding in self.of_kind(kind):
             who.setdefault(finding[field], set()).add(finding['package'])
+        yield from self.users(who, head)
+
+    def users(self, who, head):
         if not who:
             return
         yield head
@@ -140,6 +150,7 @@ class Survey:
             return found
         return {
             'load': len(self.loads), 'of': len(self.of), 'modules': len(self.walk.modules),
+            'lacks': {name: sorted(packages) for name, packages in sorted(self.lacks.items())},
             'packages': [{'name': name, 'directory': self.walk.folder.packages.get(name), 'modules': self.modules[name],
                           'loads': name in self.loads, 'found': [plain(finding) for finding in self.packages[name]]}
                          for name in [*self.worst, *(name for name in self.of if not self.packages[name])]],
