@@ -30,10 +30,15 @@ def unescaped(match):
     return ESCAPES.get(match[4], match[4])
 
 
+def paired(text):
+    """A text whose halves of pairs are put together; one that is alone is none of UTF-8."""
+    return text.encode('utf-16-le', 'surrogatepass').decode('utf-16-le', 'replace')
+
+
 def value_of(text):
     """What a text in quotes is."""
     body = text[1:-1] if len(text) > 1 and text[-1] == text[0] else text[1:]
-    return ESCAPE.sub(unescaped, body) if '\\' in body else body
+    return paired(ESCAPE.sub(unescaped, body)) if '\\' in body else body
 
 
 class Source:
@@ -232,7 +237,7 @@ class Source:
         return None
 
     def globals_made(self):
-        """The names that a source gives its global object: `globalThis.x = ..`, `globalThis['x'] = ..` and `Object.defineProperty(globalThis, 'x', ..)`."""
+        """The names that a source gives its global object: by `globalThis.x =`, `globalThis['x'] =` or `Object.defineProperty(globalThis, 'x', ..)`."""
         made, words = set(), self.texts
         for at, word in enumerate(words):
             if word == 'globalThis' and self.kinds[at] == NAME and not self.is_member(at):

@@ -8,7 +8,7 @@ import re
 import subprocess
 
 from page.folders import DEPENDENCIES, MOST_BYTES, ROOT, TOO_LONG, Folder, good_name
-from page.tokens import REGEXP, Source
+from page.tokens import REGEXP, Source, paired
 from page.traces import HOST
 
 MOST_MODULES, MOST_MODULE_BYTES = 4096, 16777216
@@ -24,6 +24,7 @@ NODE = {'assert', 'async_hooks', 'buffer', 'child_process', 'cluster', 'console'
 REFUSAL = re.compile(r':([0-9]+):([0-9]+) (not utf-8|bad token|unexpected|too deep|(?:unsupported|early) \S+)\n?\Z')
 FREE = re.compile(r'^ *(Set)?Global (\S+?)( soft)?$', re.MULTILINE)
 QUOTED = re.compile(r'\\(?:u([0-9a-f]{4})|(.))')
+ENDS = {'mjs': 'a file that ends so counts as absent', 'node': 'a file of machine code counts as absent'}
 # How many characters of a token are told.
 MOST_SHOWN = 40
 
@@ -53,7 +54,7 @@ class Module:
 
 
 def unquoted(text):
-    return QUOTED.sub(lambda it: chr(int(it[1], 16)) if it[1] else it[2], text)
+    return paired(QUOTED.sub(lambda it: chr(int(it[1], 16)) if it[1] else it[2], text))
 
 
 def called(term):
@@ -343,9 +344,7 @@ class Walk:
         for candidate in (base, *(base + end for end in ('.mjs', '.node', '.cjs', '/index.mjs', '/index.cjs'))):
             if candidate not in tried or candidate.endswith(('.mjs', '.node')):
                 if os.path.isfile(self.path_of(directory, candidate)):
-                    end = candidate.rsplit('.', 1)[-1]
-                    told = {'mjs': 'a file that ends so counts as absent', 'node': 'a file of machine code counts as absent'}.get(end, 'no path is tried with that end')
-                    return f'{os.path.join(directory, candidate)} is there: {told}'
+                    return f'{os.path.join(directory, candidate)} is there: {ENDS.get(candidate.rsplit(".", 1)[-1], "no path is tried with that end")}'
         if is_dependency:
             named = exported(manifest, path)
             if named:
