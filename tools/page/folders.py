@@ -13,8 +13,10 @@ MOST_PACKAGES, MOST_BYTES = 1000, 1048576
 FILES = ['policy.json', 'policy-override.json']
 # The globals that reach the outside, by what they do there.
 HOST_GLOBALS = sorted({name.split('.')[0] for name in HOST} - set(BUILTINS))
-# The intrinsics and functions that every package has; a key of one grants nothing.
 ROOT = '$root$'
+TOO_LONG = 'has more than 1,048,576 bytes'
+# The fields of a manifest that name packages, in the order in which they are judged.
+DEPENDENCIES = ('dependencies', 'optionalDependencies', 'peerDependencies')
 
 
 def read_json(path):
@@ -23,18 +25,30 @@ def read_json(path):
         with open(path, 'rb') as file:
             content = file.read(MOST_BYTES + 1)
         if len(content) > MOST_BYTES:
-            return None, 'has more than 1,048,576 bytes'
-        return json.loads(content.decode('utf-8')), None
-    except FileNotFoundError:
+            return None, TOO_LONG
+        return json.loads(content.decode('utf-8'), parse_constant=no_number, parse_float=finite), None
+    except (FileNotFoundError, NotADirectoryError):
         return None, None
     except (OSError, ValueError, RecursionError):
         return None, 'could not be read as JSON'
+
+
+def no_number(text):
+    raise ValueError(text)
+
+
+def finite(text):
+    if float(text) in (float('inf'), float('-inf')):
+        raise ValueError(text)
+    return float(text)
 
 
 class Folder:
     def __init__(self, top):
         self.top, self.notes = top, []
         self.packages, self.links = {}, {}  # canonical name: directory, below the top; canonical name: {dependency: canonical name}
+        # By directory: the manifest, and the field of it that `lava` refuses, or that it is too long.
+        self.manifests, self.refused, self.has_more = {}, {}, False
         self.policies = [self.read_policy(name) for name in FILES]
         self.merged = self.merge()
         self.find_packages()
@@ -46,18 +60,19 @@ class Folder:
         value, why = read_json(os.path.join(self.top, directory, 'package.json'))
         if why:
             self.note(f'{os.path.join(directory, "package.json")} {why}')
+        fault = why if why == TOO_LONG else refused_field(value)
+        if fault is not None:
+            self.refused[directory] = fault
         return value if isinstance(value, dict) else None
 
     def dependencies(self, manifest):
-        fields = [manifest.get(field) for field in ('dependencies', 'optionalDependencies', 'peerDependencies')]
+        fields = [manifest.get(field) for field in DEPENDENCIES]
         return sorted({name for field in fields if isinstance(field, dict) for name in field if good_name(name)})
 
     def find_packages(self):
         """Breadth first, the names of each in byte order: so the first path that leads to a package has the fewest names, and among
         those the least text is taken."""
-        directories, manifests = {'': ROOT}, {}
-        level, names = [''], {'': ROOT}
-        edges = {}
+        level, names, manifests, edges = [''], {'': ROOT}, self.manifests, {}
 
         def manifest_of(directory):
             if directory not in manifests:
@@ -79,10 +94,10 @@ class Folder:
                     if target not in names and (target not in found or path.encode() < found[target].encode()):
                         found[target] = path
             if len(names) + len(found) > MOST_PACKAGES:
+                self.has_more = True
                 self.note('there are more than 1,000 packages: the page has the first of them')
                 found = dict(list(found.items())[:MOST_PACKAGES - len(names)])
             names.update(found)
-            directories.update(found)
             level = sorted(found, key=lambda directory: found[directory].encode())
         self.packages = {name: directory for directory, name in names.items()}
         self.links = {names[directory]: {name: names[target] for name, target in targets.items() if target in names}
@@ -124,6 +139,18 @@ class Folder:
             rows = [side.get(package, {}) for side in (policy, override)]
             merged[package] = {kind: {**rows[0].get(kind, {}), **rows[1].get(kind, {})} for kind in KINDS}
         return merged
+
+
+def refused_field(manifest):
+    """The first field of a manifest that has not its form, '' for the manifest itself, or None."""
+    if not isinstance(manifest, dict):
+        return ''
+    if not isinstance(manifest.get('main', ''), str):
+        return 'main'
+    for field in DEPENDENCIES:
+        if field in manifest and not (isinstance(manifest[field], dict) and all(map(good_name, manifest[field]))):
+            return field
+    return None
 
 
 def good_name(name):

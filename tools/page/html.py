@@ -21,6 +21,12 @@ def shown(text):
     return ''.join(chr(unit) if 0x20 <= unit <= 0x7e else f'\\u{unit:04x}' for unit, in struct.iter_unpack('<H', units))
 
 
+def line_of(text):
+    """A line as the tools print it: as the pages show a text, and of a long one its two ends, 200 characters in all."""
+    text = shown(text)
+    return text if len(text) <= 200 else f'{text[:110]} .. {text[-86:]}'
+
+
 def part(name):
     with open(os.path.join(HERE, name), encoding='ascii') as file:
         return file.read()
