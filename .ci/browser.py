@@ -26,11 +26,15 @@ class Browser:
             os.dup2(low, 3)
             os.dup2(high, 4)
 
-        self.process = subprocess.Popen(
-            [path, '--headless=new', '--remote-debugging-pipe', '--no-sandbox', '--disable-gpu', '--no-first-run', '--disable-extensions',
-             '--disable-background-networking', '--disable-component-update', '--disable-sync', '--disable-default-apps', '--in-process-gpu',
-             '--no-zygote', f'--window-size={width},{height}', f'--user-data-dir={self.room}', 'about:blank'],
-            preexec_fn=pipes, close_fds=False, stdin=subprocess.DEVNULL, stdout=subprocess.DEVNULL, stderr=subprocess.DEVNULL)
+        # (a process of its that has not reached the main one within 15 seconds ends itself, unless said: on a machine that is loaded the
+        # page's process did, and the browser had none)
+        with open(os.path.join(self.room, 'said'), 'wb') as said:
+            self.process = subprocess.Popen(
+                [path, '--headless=new', '--remote-debugging-pipe', '--no-sandbox', '--disable-gpu', '--no-first-run', '--disable-extensions',
+                 '--disable-background-networking', '--disable-component-update', '--disable-sync', '--disable-default-apps', '--in-process-gpu',
+                 '--no-zygote', '--ipc-connection-timeout=3600', '--disable-dev-shm-usage', '--enable-logging=stderr', f'--window-size={width},{height}',
+                 f'--user-data-dir={self.room}', 'about:blank'],
+                preexec_fn=pipes, close_fds=False, stdin=subprocess.DEVNULL, stdout=subprocess.DEVNULL, stderr=said)
         os.close(down)
         os.close(up)
         self.rest, self.count, self.events = b'', 0, []
@@ -59,10 +63,17 @@ class Browser:
         while b'\0' not in self.rest:
             part = os.read(self.from_, 1 << 20)
             if not part:
-                raise RuntimeError('the browser ended')
+                raise RuntimeError(f'the browser ended; {self.last_said()}')
             self.rest += part
         message, _, self.rest = self.rest.partition(b'\0')
-        return json.loads(message)
+        message = json.loads(message)
+        if message.get('method') == 'Inspector.targetCrashed' or message.get('params', {}).get('reason') == 'Render process gone.':
+            raise RuntimeError(f'the process of the page ended; {self.last_said()}')
+        return message
+
+    def last_said(self):
+        with open(os.path.join(self.room, 'said'), encoding='utf-8', errors='replace') as said:
+            return 'it said last: ' + ' | '.join(said.read().splitlines()[-4:])
 
     def page(self, method, params=None):
         return self.call(method, params, self.session)
@@ -81,11 +92,17 @@ class Browser:
         self.page('Page.navigate', {'url': f'file://{os.path.abspath(path)}{fragment}'})
         end = time.monotonic() + seconds
         while time.monotonic() < end:
-            ready = self.value('document.documentElement.dataset.ready')
+            try:
+                # (a document that has just come has no root yet, and one that is on its way takes what is asked with it)
+                ready = self.value('document.documentElement?.dataset.ready')
+            except RuntimeError as error:
+                if 'navigated' not in str(error) and 'context' not in str(error):
+                    raise
+                ready = None
             if ready:
                 return int(ready)
             time.sleep(0.05)
-        raise RuntimeError(f'{path} was not drawn: {self.value("document.body.textContent.slice(0, 200)")!r} {self.faults()}')
+        raise RuntimeError(f'{path} was not drawn: {self.value("document.body?.textContent.slice(0, 200)")!r} {self.faults()}')
 
     def key(self, key, text=None):
         code = {'Enter': 13, 'Escape': 27, 'ArrowDown': 40, 'ArrowUp': 38, 'ArrowLeft': 37, 'ArrowRight': 39, 'End': 35, 'Home': 36}.get(key, 0)

@@ -18,26 +18,51 @@ function fill(node, attributes, kids) {
 }
 const el = (name, attributes, ...kids) => fill(document.createElement(name), attributes, kids);
 const svg = (name, attributes, ...kids) => fill(document.createElementNS(SVG, name), attributes, kids);
-const counted = n => n.toLocaleString('en-US');
+const counted = (format => n => format.format(n))(new Intl.NumberFormat('en-US'));
 const many = (n, one, more) => `${counted(n)} ${n === 1 ? one : more ?? one + 's'}`;
 const cut = (text, most) => text.length > most ? text.slice(0, most) + '..' : text;
 
-// The data of the page: an object, and its columns of numbers.
-async function unpack() {
-  const packed = atob(document.getElementById('data').textContent.trim());
-  const bytes = new Uint8Array(packed.length);
-  for (let i = 0; i < packed.length; i++) bytes[i] = packed.charCodeAt(i);
-  const stream = new Blob([bytes]).stream().pipeThrough(new DecompressionStream('deflate'));
-  const whole = await new Response(stream).arrayBuffer();
-  document.getElementById('data').remove();
-  const length = new DataView(whole).getUint32(0, true);
-  const data = JSON.parse(new TextDecoder().decode(new Uint8Array(whole, 8, length)));
-  const kinds = { u8: Uint8Array, u16: Uint16Array, u32: Uint32Array, i32: Int32Array };
-  for (const [name, [kind, from, size]] of Object.entries(data.columns)) {
-    const Column = kinds[kind];
-    data.columns[name] = new Column(whole, 8 + length + from, size / Column.BYTES_PER_ELEMENT);
+// What an element of the page has packed, as bytes.
+async function unpacked(id) {
+  const node = document.getElementById(id), packed = node.textContent;
+  node.remove();
+  let bytes;
+  if (Uint8Array.fromBase64) bytes = Uint8Array.fromBase64(packed);
+  else {
+    const letters = atob(packed);
+    bytes = new Uint8Array(letters.length);
+    for (let i = 0; i < letters.length; i++) bytes[i] = letters.charCodeAt(i);
   }
-  return data;
+  return new Response(new Blob([bytes]).stream().pipeThrough(new DecompressionStream('deflate'))).arrayBuffer();
+}
+
+// The data of the page: an object.
+const unpackData = async () => JSON.parse(new TextDecoder().decode(await unpacked('data')));
+
+// Its columns of numbers, which stand behind the script.
+async function unpackColumns(places) {
+  if (document.readyState === 'loading') await new Promise(done => { document.addEventListener('DOMContentLoaded', done); });
+  const whole = await unpacked('columns'), kinds = { u8: Uint8Array, u16: Uint16Array, u32: Uint32Array }, columns = {};
+  for (const [name, [kind, from, size]] of Object.entries(places)) columns[name] = new kinds[kind](whole, from, size / kinds[kind].BYTES_PER_ELEMENT);
+  return columns;
+}
+
+// Finds bytes in a column of them: gives a function that says where they first stand between two places, or -1. Most of a text is leapt over
+// (Horspool's way). The bytes of `wanted` are small letters, and with `any` a capital letter counts as its small one.
+function finder(text, wanted, any) {
+  const last = wanted.length - 1, end = wanted.charCodeAt(last), leap = new Uint32Array(256).fill(wanted.length), small = new Uint8Array(256);
+  for (let unit = 0; unit < 256; unit++) small[unit] = any && unit >= 65 && unit <= 90 ? unit + 32 : unit;
+  for (let k = 0; k < last; k++) for (let unit = 0; unit < 256; unit++) if (small[unit] === wanted.charCodeAt(k)) leap[unit] = last - k;
+  const before = Uint8Array.from(wanted, letter => letter.charCodeAt(0));
+  return (from, to) => {
+    for (let at = from + last; at < to; at += leap[text[at]]) {
+      if (small[text[at]] !== end) continue;
+      let k = last - 1;
+      while (k >= 0 && small[text[at - last + k]] === before[k]) k--;
+      if (k < 0) return at - last;
+    }
+    return -1;
+  };
 }
 
 // A text as it is shown: printable ASCII as it is, all else escaped, as a trace has it. So nothing turns the direction of a line or looks like
@@ -65,6 +90,7 @@ function lettered(text) {
 class Page {
   constructor(title, ended) {
     this.tabs = [];
+    this.isRead = true; // whether all tabs can be made, or those alone that are made at once
     this.bar = el('div', { class: 'tabs', role: 'tablist', 'aria-label': 'Views' });
     this.body = el('div', { class: 'body' });
     this.aside = el('aside', { 'aria-label': 'Details', hidden: true, 'aria-live': 'polite' });
@@ -83,7 +109,7 @@ class Page {
     this.on('Escape', 'close what stands at the side', () => this.close());
   }
 
-  tab(name, label, count, make, alarm) {
+  tab(name, label, count, make, { alarm, atOnce } = {}) {
     const panel = el('section', { class: 'panel', role: 'tabpanel', id: 'panel-' + name, 'aria-label': label, hidden: true });
     const number = this.tabs.length + 1;
     const button = el('button', { role: 'tab', id: 'tab-' + name, 'aria-selected': 'false', 'aria-controls': 'panel-' + name, tabindex: '-1',
@@ -98,7 +124,7 @@ class Page {
       event.preventDefault();
       event.stopPropagation();
     });
-    this.tabs.push({ name, panel, button, make, made: false });
+    this.tabs.push({ name, panel, button, make, atOnce, made: false });
     this.bar.append(button);
     this.body.insertBefore(panel, this.aside);
     this.on(String(number), label, () => this.show(name));
@@ -110,13 +136,15 @@ class Page {
       tab.button.setAttribute('aria-selected', String(here));
       tab.button.setAttribute('tabindex', here ? '0' : '-1');
       tab.panel.hidden = !here;
-      if (here) {
-        if (!tab.made) { tab.made = true; tab.shown = tab.make(tab.panel); }
-        tab.shown?.();
-        this.now = name;
-      }
+      if (!here) continue;
+      const isNew = this.now !== name;
+      this.now = name;
+      if (tab.made) { if (isNew) tab.shown?.(); continue; }
+      tab.made = this.isRead || Boolean(tab.atOnce);
+      tab.panel.replaceChildren(...tab.made ? [] : [el('p', { class: 'wait' }, 'Reading ..')]);
+      if (tab.made) { tab.shown = tab.make(tab.panel); tab.shown?.(); }
     }
-    history.replaceState(null, '', '#' + name);
+    if (location.hash !== '#' + name) history.replaceState(null, '', '#' + name);
   }
 
   side(...kids) {
@@ -168,8 +196,9 @@ class Page {
 // A LIST OF ANY LENGTH: of its rows only those are made that are seen
 
 class Rows {
-  constructor({ label, height, row, choose, key, drawn }) {
+  constructor({ label, height, row, choose, key, before, drawn }) {
     this.height = height;
+    this.before = before;
     this.row = row;
     this.choose = choose;
     this.key = key;
@@ -187,17 +216,28 @@ class Rows {
     this.box.addEventListener('keydown', event => this.pressed(event));
     this.box.addEventListener('click', event => {
       const row = event.target.closest('.row');
-      if (row && !event.target.closest('button')) this.take(Number(row.dataset.at));
+      if (row && !event.target.closest('button, [data-ref]')) this.take(Number(row.dataset.at));
     });
-    new ResizeObserver(() => this.draw()).observe(this.box);
+    // (its size and where it was scrolled to are kept, since to ask for them lays the page out)
+    this.tall = this.wide = this.top = 0;
+    new ResizeObserver(() => { this.measure(); this.draw(); }).observe(this.box);
     addEventListener('beforeprint', () => this.draw(1000));
     addEventListener('afterprint', () => this.draw());
   }
 
-  get seen() { return this.box.clientHeight / this.height; }
+  measure() {
+    this.tall = this.box.clientHeight;
+    this.wide = this.box.clientWidth;
+  }
+
+  get seen() {
+    if (!this.tall) this.measure();
+    return this.tall / this.height;
+  }
+
   get last() { return Math.max(0, this.count - this.seen); }
   get scaled() { return this.count * this.height > this.most; }
-  get reach() { return Math.max(1, Math.min(this.count * this.height, this.most) - this.box.clientHeight); }
+  get reach() { return Math.max(1, Math.min(this.count * this.height, this.most) - this.tall); }
 
   set(count, keep) {
     this.count = count;
@@ -206,10 +246,21 @@ class Rows {
     this.go(this.first);
   }
 
+  // More rows have come behind those that there were.
+  grow(count) {
+    const isFull = this.first + this.seen < this.count;
+    this.count = count;
+    this.room.style.height = Math.min(count * this.height, this.most) + 'px';
+    if (!isFull || this.first > 0) this.go(this.first);
+  }
+
   go(first) {
     this.first = Math.max(0, Math.min(first, this.last));
-    this.box.scrollTop = this.last === 0 ? 0 : this.first / this.last * this.reach;
-    this.top = this.box.scrollTop;
+    const top = this.last === 0 ? 0 : this.first / this.last * this.reach;
+    if (top !== this.top) {
+      this.box.scrollTop = top;
+      this.top = this.box.scrollTop;
+    }
     this.draw();
   }
 
@@ -229,6 +280,7 @@ class Rows {
   draw(most) {
     const from = Math.floor(this.first), to = Math.min(this.count, most ? from + most : Math.ceil(this.first + this.seen) + 1);
     const rows = [];
+    this.before?.(from, to);
     for (let i = from; i < to; i++) {
       const row = this.row(i);
       row.classList.add('row');
@@ -246,7 +298,7 @@ class Rows {
     this.rows.replaceChildren(...rows);
     const more = this.drawn?.(from, to);
     if (more) this.rows.append(more);
-    this.rows.style.transform = `translateY(${Math.round(this.box.scrollTop - (this.first - from) * this.height)}px)`;
+    this.rows.style.transform = `translateY(${Math.round(this.top - (this.first - from) * this.height)}px)`;
     this.rows.style.height = most ? (to - from) * this.height + 'px' : '0';
     if (this.chosen >= from && this.chosen < to) this.box.setAttribute('aria-activedescendant', `${this.id}-${this.chosen}`);
     else this.box.removeAttribute('aria-activedescendant');
@@ -314,7 +366,7 @@ function table({ caption, columns, rows, chosen, most = 500, mark }) {
 
 // THE PICTURE OF PARTIES: columns by how far they are from $root$, the host apart
 
-const KIND_NAMES = { import: 'import', call: 'call', look: 'look', change: 'change', other: 'other' };
+const KIND_NAMES = { import: 'import', call: 'call', look: 'read', change: 'change', other: 'other ask', denied: 'denied import' };
 
 function layered(nodes, edges) {
   const next = new Map(), column = new Map();
@@ -404,7 +456,7 @@ function graph({ nodes, edges, choose, chosen, kinds, label }) {
       const tip = right ? x2 : x2, tipY = b.x < a.x ? y2 + 12 : y2, side = right ? -7 : 7;
       const part = svg('g', { class: 'k-' + kind },
         svg('path', { class: 'edge', d: path, 'stroke-width': (1 + Math.log10(edge.kinds[kind]) * 1.1).toFixed(2) },
-          svg('title', null, `${edge.name}: ${many(edge.kinds[kind], kind)}`)),
+          svg('title', null, `${edge.name}: ${many(edge.kinds[kind], KIND_NAMES[kind])}`)),
         svg('path', { class: 'edge-head', d: `M${tip},${tipY} l${side},-4 l0,8 z` }));
       drawn.push({ node: part, edge });
       lines.append(part);

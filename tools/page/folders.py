@@ -13,6 +13,8 @@ MOST_PACKAGES, MOST_BYTES = 1000, 1048576
 FILES = ['policy.json', 'policy-override.json']
 # The globals that reach the outside, by what they do there.
 HOST_GLOBALS = sorted({name.split('.')[0] for name in HOST} - set(BUILTINS))
+# What a grant allows, by rank.
+RANKS = [False, True, 'write']
 ROOT = '$root$'
 TOO_LONG = 'has more than 1,048,576 bytes'
 # The fields of a manifest that name packages, in the order in which they are judged.
@@ -164,16 +166,33 @@ def two_names(key):
     return '.'.join(key.split('.')[:2])
 
 
+def granted(entries, key):
+    """What a row grants of a global: by the key of its two names and that of the first one, or of a part of it."""
+    key, found = two_names(key), {}
+    for other, grant in entries.items():
+        found[two_names(other)] = max(found.get(two_names(other), False), grant, key=RANKS.index)
+    first = key.split('.')[0]
+    if first in HOST_GLOBALS and key in found:
+        return found[key]
+    parts = [found[other] for other in found if other == key or other == first or other.startswith(key + '.')]
+    return max(parts, default=False, key=RANKS.index)
+
+
 def covers(keys, key):
     """Whether a key of the generated policy asks for what a key grants, a part of it, or more."""
     key = two_names(key)
     return any(key == other or key.startswith(other + '.') or other.startswith(key + '.') for other in map(two_names, keys))
 
 
-def ask_lava(lava, command, top):
+def dependency_of(request):
+    """The name of the package that a request leads to."""
+    return '/'.join(request.split('/')[:2 if request.startswith('@') else 1])
+
+
+def ask_lava(lava, *words):
     """What the program answers: (status, output, last line of the errors)."""
     try:
-        done = subprocess.run([lava, command, top], stdin=subprocess.DEVNULL, stdout=subprocess.PIPE, stderr=subprocess.PIPE, check=False)
+        done = subprocess.run([lava, *words], stdin=subprocess.DEVNULL, stdout=subprocess.PIPE, stderr=subprocess.PIPE, check=False)
     except OSError as error:
         return None, b'', f'{lava} could not be started: {error.strerror}'
     said = done.stderr.decode('utf-8', 'replace').strip().split('\n')
@@ -181,7 +200,7 @@ def ask_lava(lava, command, top):
 
 
 def answers_of(lava, top):
-    """The policy that the sources ask for, and what the policy denies of their requests, each with why it is missing, or None."""
+    """The policy that the sources ask for, and what the policy denies of their requests, or None, and why there is none."""
     answers = {'generated': None, 'denied': None, 'why': {}}
     status, output, said = ask_lava(lava, 'policy', top)
     if status == 0:
@@ -216,12 +235,12 @@ def rows_of(folder, answers):
     rows = []
     for package in sorted(names, key=lambda name: name.encode('utf-8', 'surrogatepass')):
         merged = folder.merged.get(package, {kind: {} for kind in KINDS})
-        granted = {kind: {key: grant for key, grant in merged[kind].items() if grant} for kind in KINDS}
-        fs = [key for key in granted['builtin'] if key.split('.')[0] == 'fs']
-        writes = [key for key, grant in granted['globals'].items() if grant == 'write']
-        host = [key for key, grant in granted['globals'].items() if grant is True and key.split('.')[0] in HOST_GLOBALS]
-        others = [key for key, grant in granted['globals'].items() if grant is True and key.split('.')[0] not in HOST_GLOBALS]
-        builtins = [key for key in granted['builtin'] if key not in fs]
+        holds = {kind: {key: grant for key, grant in merged[kind].items() if grant} for kind in KINDS}
+        fs = [key for key in holds['builtin'] if key.split('.')[0] == 'fs']
+        writes = [key for key, grant in holds['globals'].items() if grant == 'write']
+        host = [key for key, grant in holds['globals'].items() if grant is True and key.split('.')[0] in HOST_GLOBALS]
+        others = [key for key, grant in holds['globals'].items() if grant is True and key.split('.')[0] not in HOST_GLOBALS]
+        builtins = [key for key in holds['builtin'] if key not in fs]
         taken = [[kind, key] for kind in KINDS for key, grant in override.get(package, {}).get(kind, {}).items()
                  if policy.get(package, {}).get(kind, {}).get(key) and (not grant or (
                      grant is True and policy[package][kind][key] == 'write'))]
@@ -229,13 +248,20 @@ def rows_of(folder, answers):
                  if grant and policy.get(package, {}).get(kind, {}).get(key) != grant
                  and not (grant is True and policy.get(package, {}).get(kind, {}).get(key) == 'write')]
         asked = (generated or {}).get(package, {kind: {} for kind in KINDS})
+        links = folder.links.get(package, {})
+        refused = None if denied is None else [['request', request, links.get(dependency_of(request))] for name, request in denied if name == package]
+        if refused is not None and package != ROOT:
+            # (`lava check` has requests alone)
+            for key, grant in asked['globals'].items():
+                has = granted(merged['globals'], key)
+                if RANKS.index(has) < RANKS.index(grant):
+                    refused.append(['write' if has else 'name', key, None])
         unused = None if generated is None else [
-            [kind, key] for kind in KINDS for key in granted[kind]
+            [kind, key] for kind in KINDS for key in holds[kind]
             if not (key in asked[kind] if kind == 'packages' else covers(asked[kind], key))]
         rows.append({
             'name': package, 'directory': folder.packages.get(package), 'fs': fs, 'writes': writes, 'host': host, 'globals': others,
-            'builtins': builtins, 'imports': sorted(granted['packages']), 'taken': taken, 'added': added, 'unused': unused,
-            'denied': None if denied is None else [request for name, request in denied if name == package],
+            'builtins': builtins, 'imports': sorted(holds['packages']), 'taken': taken, 'added': added, 'unused': unused, 'denied': refused,
             'merged': merged, 'everything': package == ROOT})
     return sorted(rows, key=weight)
 

@@ -1,4 +1,5 @@
-"""One HTML file that fetches nothing: a style, a script, and the data, packed.
+"""One HTML file that fetches nothing: a style, a script, and the data, packed in two parts. The first part is what is drawn at once; the
+second one, the columns of a trace's crossings, stands behind the script, which reads it while the page can be looked at.
 
 What a trace or a folder says stands in the file only within the packed data, in base64, and in the title, escaped. The head's content
 policy lets the one style and the one script through, by their sums, and nothing else: no other script, no handler in the markup, no
@@ -32,16 +33,18 @@ def part(name):
         return file.read()
 
 
-def pack(data, columns=()):
-    """The data that the script unpacks: an object, and columns of numbers or bytes by name: (name, kind, bytes)."""
+def packed(name, content):
+    return f'<script type="text/plain" id="{name}">{base64.b64encode(zlib.compress(content, 6)).decode("ascii")}</script>'
+
+
+def placed(columns):
+    """Columns of numbers or bytes, (name, kind, bytes), one behind the other, and the place of each: name: [kind, from, size]."""
     places, body = {}, bytearray()
     for name, kind, content in columns:
         body += bytes(-len(body) % 8)
         places[name] = [kind, len(body), len(content)]
         body += content
-    head = json.dumps({**data, 'columns': places}, separators=(',', ':')).encode('ascii')
-    head += b' ' * (-(len(head) + 8) % 8)
-    return base64.b64encode(zlib.compress(struct.pack('<II', len(head), 0) + head + body, 6)).decode('ascii')
+    return places, body
 
 
 def source(content):
@@ -50,6 +53,8 @@ def source(content):
 
 def make_page(title, scripts, data, columns=()):
     style, script = part('page.css'), ''.join(part(name) for name in scripts)
+    places, body = placed(columns)
+    data = {**data, 'columns': places, 'size': len(body)}
     # (an end of the element within it would end it)
     assert '</s' not in script.lower() and '</s' not in style.lower() and '<!--' not in script
     policy = f"default-src 'none'; script-src {source(script)}; style-src {source(style)}; base-uri 'none'; form-action 'none'; " \
@@ -68,8 +73,9 @@ def make_page(title, scripts, data, columns=()):
 <body>
 <noscript><p>This page is drawn by its own script, which the browser has switched off. It fetches nothing.</p></noscript>
 <main id="page"><p class="wait">Reading ..</p></main>
-<script type="text/plain" id="data">{pack(data, columns)}</script>
+{packed('data', json.dumps(data, separators=(',', ':')).encode('ascii'))}
 <script>{script}</script>
+{packed('columns', body) if columns else ''}
 </body>
 </html>
 '''

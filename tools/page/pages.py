@@ -1,7 +1,7 @@
 """What each page has: the data of a trace and of a policy, put into one file."""
 import os
+import sys
 from array import array
-from sys import byteorder
 
 from page import folders, html, traces
 
@@ -12,6 +12,8 @@ SCRIPT = os.path.join(HERE, '..', '..', 'lava')
 def policy_of(top, lava=None):
     """The policy of a folder as the pages have it, and the links of its packages."""
     folder = folders.Folder(top)
+    if not lava and b'is built without a proof' in folders.ask_lava(SCRIPT, 'status')[1]:
+        print('./lava has no program of these sources yet, and builds one first: some minutes', file=sys.stderr)
     answers = folders.answers_of(lava or SCRIPT, top)
     rows = folders.rows_of(folder, answers)
     policy = {
@@ -31,16 +33,19 @@ def quoted_name(quoted):
     return quoted[1:-1].replace('\\"', '"').replace('\\\\', '\\')
 
 
-def column(values):
-    if byteorder == 'big':
-        values = array(values.typecode, values)
+def column(name, values):
+    """A column of numbers, of one, two or four bytes each, as its greatest one wants."""
+    most = max(values, default=0)
+    kind, code = ('u8', 'B') if most < 1 << 8 else ('u16', 'H') if most < 1 << 16 else ('u32', 'I')
+    values = array(code, values)
+    if sys.byteorder == 'big':
         values.byteswap()
-    return values.tobytes()
+    return name, kind, values.tobytes()
 
 
 def trace_data(title, trace, app=None, other=None):
     """The data of a trace's page: an object, and its columns."""
-    text = '\n'.join(trace.lines) + ('\n' if trace.lines else '')
+    bodies = trace.bodies()
     denials = []
     for denial in trace.denials:
         package, kind, key, note = traces.row_that_allows(denial, trace, app and app['folder'].links)
@@ -53,7 +58,7 @@ def trace_data(title, trace, app=None, other=None):
         'parties': [{'name': quoted_name(name), 'steps': trace.totals[party], 'madeAt': trace.made_at.get(party)}
                     for party, name in enumerate(trace.names)],
         'order': trace.order(), 'ending': list(trace.ending), 'asks': [[*pair, count] for pair, count in trace.asks.items()],
-        'denials': denials, 'moreDenials': trace.more_denials,
+        'denials': denials, 'moreDenials': trace.more_denials, 'crossings': len(bodies), 'throws': trace.throws(),
     }
     if app:
         data['policy'] = app['page']
@@ -61,13 +66,11 @@ def trace_data(title, trace, app=None, other=None):
         name, another = other
         views = traces.compare(trace, another)
         data['compared'] = {'with': html.shown(name), 'views': [{**view, 'name': quoted_name(view['name'])} for view in views]}
-    columns = [
-        ('len', 'u32', column(array('I', map(len, trace.lines)))), ('from', 'u16', column(trace.from_)), ('to', 'u16', column(trace.to)),
-        ('depth', 'u16', column(trace.depth)), ('code', 'u8', column(trace.code)), ('partner', 'i32', column(trace.partner)),
-        ('text', 'u8', text.encode('ascii')),
-    ]
+    # (an ask's answer and its depth follow from the codes)
+    columns = [column('len', array('I', map(len, bodies))), column('from', trace.from_), column('to', trace.to), column('code', trace.code),
+               ('text', 'u8', ''.join(body + '\n' for body in bodies).encode('ascii'))]
     if trace.version == 2:
-        columns.append(('steps', 'u32', column(trace.steps)))
+        columns.append(column('steps', trace.steps))
     return data, columns
 
 

@@ -1,8 +1,10 @@
 // The page of a policy, and the same as a part of a trace's page.
 
-const HOLDS = { import: 'may import' };
+const ARROWS = { import: 'may import', denied: 'asks to import, and is denied' };
 
 function keysOf(keys, cls) { return el('span', { class: 'keys' }, keys.map(key => el('span', { class: cls }, escaped(Array.isArray(key) ? key.join(' ') : key)))); }
+// What is denied: the text of a request as it is, a name with what was to be done with it.
+const deniedKeys = row => keysOf(row.denied.map(([what, text]) => `${what} ${text}`), 'strong');
 
 // Fills a panel with the picture and the table of a policy.
 function policyPanels(page, panel, policy) {
@@ -12,14 +14,14 @@ function policyPanels(page, panel, policy) {
   for (const row of rows) for (const name of row.imports) importers.get(name)?.push(row.name);
   const everything = rows.find(row => row.everything);
   if (everything) for (const name of policy.links[everything.name] ?? []) importers.get(name)?.unshift(everything.name);
-  const kinds = new Set(['import']);
+  const kinds = new Set(Object.keys(ARROWS));
   const groups = {
     fs: ['hold fs', row => row.fs.length], writes: ['may write globals', row => row.writes.length], host: ['hold other host objects', row => row.host.length || row.builtins.length],
     taken: ['lost by the override', row => row.taken.length], unused: ['hold what no source asks for', row => row.unused?.length], denied: ['ask and are denied', row => row.denied?.length],
-    none: ['hold nothing', row => !row.everything && !row.fs.length && !row.writes.length && !row.host.length && !row.builtins.length && !row.globals.length && !row.imports.length],
+    none: ['hold and import nothing', row => !row.everything && !row.fs.length && !row.writes.length && !row.host.length && !row.builtins.length && !row.globals.length && !row.imports.length],
   };
   const alarms = { fs: true, writes: true, unused: false, denied: true };
-  const shown = () => rows.filter(row => (!only || groups[only][1](row)) && (filter === '' || JSON.stringify([row.name, row.fs, row.writes, row.host, row.globals, row.builtins, row.imports]).toLowerCase().includes(filter)));
+  const shown = () => rows.filter(row => (!only || groups[only][1](row)) && (filter === '' || JSON.stringify([row.name, row.fs, row.writes, row.host, row.globals, row.builtins, row.imports, row.taken, row.denied]).toLowerCase().includes(filter)));
   const why = name => policy.why[name] ? `not known: ${policy.why[name]}` : null;
   const tiles = el('div', { class: 'tiles' });
   const drawTiles = () => tiles.replaceChildren(...Object.entries(groups).map(([key, [label, has]]) => {
@@ -40,7 +42,7 @@ function policyPanels(page, panel, policy) {
     { name: 'is imported by', value: row => importers.get(row.name).length, cell: row => el('span', { class: 'names' }, links(importers.get(row.name))) },
     { name: 'override took away', value: row => row.taken.length, cell: row => keysOf(row.taken, 'gone') },
     ...policy.why.generated ? [] : [{ name: 'no source asks for', value: row => row.unused.length, cell: row => keysOf(row.unused) }],
-    ...policy.why.denied ? [] : [{ name: 'asked and denied', value: row => row.denied.length, cell: row => keysOf(row.denied, 'strong') }],
+    ...policy.why.denied ? [] : [{ name: 'asked and denied', value: row => row.denied.length, cell: deniedKeys }],
   ];
   const list = table({ caption: 'Packages, those that hold most first: fs and globals that they may write, other objects of the host, then the rest.', rows: shown(), columns, chosen: row => row.name === chosen, most: 600 });
   const box = el('div'), note = el('p', { class: 'soft' }), status = el('span', { class: 'found', role: 'status' });
@@ -53,6 +55,7 @@ function policyPanels(page, panel, policy) {
     for (const row of rows) {
       const names = row.everything ? policy.links[row.name] ?? [] : row.imports;
       for (const name of names) if (byName.has(name)) edges.push({ from: row.name, to: name, kinds: { import: 1 }, total: 1, name: `${escaped(row.name)} to ${escaped(name)}` });
+      for (const name of new Set((row.denied ?? []).map(([, , to]) => to))) if (byName.has(name)) edges.push({ from: row.name, to: name, kinds: { denied: 1 }, total: 1, name: `${escaped(row.name)} to ${escaped(name)}` });
     }
     let wanted = shown();
     if (wanted.length < rows.length && everything) wanted = [...new Set([everything, ...wanted])];
@@ -69,10 +72,11 @@ function policyPanels(page, panel, policy) {
     const names = new Set(wanted.map(row => row.name));
     const picture = graph({
       nodes: wanted.map(row => ({ id: row.name, label: escaped(row.name), group: row.everything ? 'root' : '', alarm: row.fs.length + row.writes.length > 0 && !row.everything,
-        sub: row.everything ? 'everything' : [...row.fs, ...row.writes.map(key => 'write ' + key), ...row.builtins, ...row.host, ...row.globals].map(escaped).join(' ') || 'holds nothing' })),
+        sub: row.everything ? 'everything' : [[...row.fs, ...row.writes.map(key => 'write ' + key), ...row.builtins, ...row.host, ...row.globals].map(escaped).join(' '),
+          row.denied?.length && `${counted(row.denied.length)} denied`].filter(Boolean).join(', ') || 'holds nothing' })),
       edges: edges.filter(edge => names.has(edge.from) && names.has(edge.to)), kinds, chosen, choose: take, label: 'Packages, and an arrow from each to those that it may import. The table says the same.',
     });
-    box.replaceChildren(picture);
+    box.replaceChildren(rows.some(row => row.denied?.some(([, , to]) => to)) ? legend(kinds, null, ARROWS) : '', picture);
   }
 
   function draw() {
@@ -94,7 +98,7 @@ function policyPanels(page, panel, policy) {
       part('The override took away', row.taken.map(([kind, key]) => el('p', null, keysOf([`${kind} ${key}`], 'gone')))),
       part('The override added', row.added.map(([kind, key]) => el('p', null, keysOf([`${kind} ${key}`])))),
       row.unused ? part('No source asks for', row.unused.map(([kind, key]) => el('p', null, keysOf([`${kind} ${key}`])))) : [],
-      row.denied ? part('Asked and denied', row.denied.map(request => el('p', null, keysOf([request], 'strong')))) : [],
+      row.denied?.length ? part('Asked and denied', [deniedKeys(row)]) : [],
       el('h2', null, 'Its row, merged'),
       el('pre', null, row.everything ? '(none: everything is granted)' : JSON.stringify(row.merged, null, 2).replace(/[^\n\x20-\x7e]/g, escaped)));
   }
@@ -109,8 +113,12 @@ function policyPanels(page, panel, policy) {
   status.textContent = many(rows.length, 'package');
 }
 
-function startPolicy(data) {
-  const page = new Page(data.title, many(data.policy.rows.length, 'package'));
-  page.tab('policy', 'Policy', data.policy.rows.length, panel => policyPanels(page, panel, data.policy));
-  page.show('policy');
+class PolicyPage {
+  constructor(data) { this.data = data; }
+
+  start() {
+    const { title, policy } = this.data, page = new Page(title, many(policy.rows.length, 'package'));
+    page.tab('policy', 'Policy', policy.rows.length, panel => policyPanels(page, panel, policy));
+    page.show('policy');
+  }
 }

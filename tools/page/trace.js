@@ -14,33 +14,21 @@ const ENDINGS = {
   Budget: 'the budget was used up', Meter: 'the meter was used up',
 };
 
+const MOST_LANES = 28;
+
 class TracePage {
   constructor(data) {
     this.data = data;
-    Object.assign(this, data.columns);
-    this.n = this.len.length;
+    this.n = data.crossings;
     this.answer = data.methods.length;
     this.throw_ = this.answer + 1;
     this.parties = data.parties;
-    this.offset = new Uint32Array(this.n + 1);
-    for (let i = 0; i < this.n; i++) this.offset[i + 1] = this.offset[i] + this.len[i] + 1;
-    // (ASCII: so a string of one byte a letter, which is searched in half the time)
-    this.whole = new TextDecoder().decode(this.text);
-    this.folded = new Set();
-    this.deepest = 0;
-    for (let i = 0; i < this.n; i++) if (this.depth[i] > this.deepest) this.deepest = this.depth[i];
-    this.shownDepth = Infinity;
     this.kinds = new Set(Object.keys(KIND_WORDS));
     this.denied = new Map(data.denials.map(denial => [denial.at, denial]));
-    this.throws = [];
-    this.hostAsks = [];
-    const call = data.methods.indexOf('Call');
-    for (let i = 0; i < this.n; i++) {
-      if (this.code[i] === this.throw_) this.throws.push(i);
-      else if (this.code[i] === call && this.to[i] === 0) this.hostAsks.push(i);
-    }
+    this.thrown = data.throws;
     // Between two parties, how many asks of each kind.
-    const edges = new Map();
+    const edges = new Map(), call = data.methods.indexOf('Call');
+    this.hostCalls = 0;
     for (const [from, to, code, count] of data.asks) {
       const key = from * 4096 + to, edge = edges.get(key) ?? { from, to, kinds: {}, methods: {}, total: 0, name: `${this.name(from)} to ${this.name(to)}` };
       const method = data.methods[code], kind = KIND_OF[method];
@@ -48,36 +36,55 @@ class TracePage {
       edge.methods[method] = count;
       edge.total += count;
       edges.set(key, edge);
+      if (to === 0 && code === call) this.hostCalls += count;
     }
     this.edges = [...edges.values()];
     const sums = this.parties.map(() => ({ asked: 0, was: 0 }));
     for (const edge of this.edges) { sums[edge.from].asked += edge.total; sums[edge.to].was += edge.total; }
     this.sums = sums;
-    this.thrown = this.parties.map(() => 0);
-    for (const i of this.throws) this.thrown[this.from[i]]++;
     this.chosenParty = null;
   }
 
-  name(party) { return party === null || party === undefined ? '' : this.parties[party].name; }
-  line(i) { return this.whole.slice(this.offset[i], this.offset[i] + this.len[i]); }
-  // Of a line what stands behind its numbers: `ask ..`, `answer ..`, `throw ..`.
-  body(i) {
-    const line = this.line(i);
-    return line.slice(line.search(/[a-z]/));
+  // Takes the columns of the crossings, and reckons from them where each line begins, each ask's answer and each answer's ask, the ask that
+  // each lies in (or -1), and how deep.
+  take(columns) {
+    Object.assign(this, columns);
+    const { n, code, len, answer, from, to } = this, call = this.data.methods.indexOf('Call');
+    const offset = this.offset = new Uint32Array(n + 1), partner = this.partner = new Int32Array(n).fill(-1), depth = this.depth = new Uint16Array(n);
+    const open = [], outer = this.outer = new Int32Array(n), crossed = this.crossed = new Uint8Array(this.parties.length);
+    this.throws = [];
+    this.hostAsks = [];
+    this.deepest = 0;
+    for (let i = 0; i < n; i++) {
+      offset[i + 1] = offset[i] + len[i] + 1;
+      crossed[from[i]] = crossed[to[i]] = 1;
+      if (code[i] < answer) {
+        if (open.length > this.deepest) this.deepest = open.length;
+        depth[i] = Math.min(open.length, 65535);
+        outer[i] = open.length ? open[open.length - 1] : -1;
+        open.push(i);
+        if (code[i] === call && to[i] === 0) this.hostAsks.push(i);
+        continue;
+      }
+      if (open.length) {
+        partner[i] = open.pop();
+        partner[partner[i]] = i;
+      }
+      depth[i] = Math.min(open.length, 65535);
+      outer[i] = open.length ? open[open.length - 1] : -1;
+      if (code[i] === this.throw_) this.throws.push(i);
+    }
+    this.folded = new Set();
+    this.shownDepth = Infinity;
+    this.decoder = new TextDecoder();
   }
+
+  name(party) { return party === null || party === undefined ? '' : this.parties[party].name; }
+  // Of a crossing what stands behind its numbers: `ask ..`, `answer ..`, `throw ..`.
+  body(i) { return this.decoder.decode(this.text.subarray(this.offset[i], this.offset[i + 1] - 1)); }
   isAsk(i) { return this.code[i] < this.answer; }
   method(i) { return this.data.methods[this.code[i]]; }
   kind(i) { return this.isAsk(i) ? KIND_OF[this.method(i)] : this.code[i] === this.throw_ ? 'throw' : 'answer'; }
-
-  // The number of the crossing that a place in the text belongs to.
-  crossingAt(place) {
-    let low = 0, high = this.n;
-    while (low + 1 < high) {
-      const middle = (low + high) >> 1;
-      if (this.offset[middle] <= place) low = middle; else high = middle;
-    }
-    return low;
-  }
 
   start() {
     const { data } = this;
@@ -85,42 +92,48 @@ class TracePage {
     const ended = `${many(this.n, 'crossing')} between ${many(this.parties.length, 'party', 'parties')}; ended: ${word}` +
       (party === null ? '' : ` in ${this.name(party)}`) + `, ${ENDINGS[word]}`;
     this.page = new Page(data.title, ended);
-    this.page.tab('parties', 'Parties', this.parties.length, panel => this.makeParties(panel));
+    this.page.isRead = false;
+    this.page.tab('parties', 'Parties', this.parties.length, panel => this.makeParties(panel), { atOnce: true });
     this.page.tab('crossings', 'Crossings', this.n, panel => this.makeCrossings(panel));
-    this.page.tab('denials', 'Denials', data.denials.length + data.moreDenials, panel => this.makeDenials(panel), data.denials.length > 0);
-    this.page.tab('host', 'Host', this.hostAsks.length, panel => this.makeHost(panel));
-    this.page.tab('throws', 'Throws', this.throws.length, panel => this.makeThrows(panel), this.throws.length > 0);
+    this.page.tab('denials', 'Denials', data.denials.length + data.moreDenials, panel => this.makeDenials(panel), { alarm: data.denials.length > 0 });
+    this.page.tab('host', 'Host', this.hostCalls, panel => this.makeHost(panel));
+    const throws = this.thrown.reduce((sum, count) => sum + count, 0);
+    this.page.tab('throws', 'Throws', throws, panel => this.makeThrows(panel), { alarm: throws > 0 });
     this.page.tab('steps', 'Steps', undefined, panel => this.makeSteps(panel));
-    if (data.compared) this.page.tab('compared', 'Compared', data.compared.views.filter(view => view.at !== null).length, panel => this.makeCompared(panel), true);
-    if (data.policy) this.page.tab('policy', 'Policy', undefined, panel => policyPanels(this.page, panel, data.policy));
-    this.page.on('/', 'search the crossings', () => { this.page.show('crossings'); this.field.focus(); this.field.select(); });
+    if (data.compared) this.page.tab('compared', 'Compared', data.compared.views.filter(view => view.at !== null).length, panel => this.makeCompared(panel), { alarm: true });
+    if (data.policy) this.page.tab('policy', 'Policy', undefined, panel => policyPanels(this.page, panel, data.policy), { atOnce: true });
+    this.page.on('/', 'search the crossings', () => { this.page.show('crossings'); this.field?.focus(); this.field?.select(); });
     this.page.onside = () => this.list?.draw();
+    document.addEventListener('click', event => { const node = event.target.closest('[data-ref]'); if (node) this.life(node.dataset.ref); });
     this.page.more = [['arrows, j k', 'up and down in a list; Page Up, Page Down, Home, End'], ['Enter', 'show the chosen crossing at the side'],
       ['right, left', 'unfold and fold an ask'], ['o', 'of what was found: show it in its place'], ['n, p', 'next and previous denial or throw'],
       ['Tab', 'to parties of the picture, and to names at the side, whose life Enter shows']];
-    const hash = decodeURIComponent(location.hash.slice(1));
-    const [tab, at] = hash.split('/');
+    const [tab, at] = location.hash.slice(1).split('/');
     this.page.show(this.page.tabs.some(one => one.name === tab) ? tab : 'parties');
-    // what a search looks in, before the first one
-    (globalThis.requestIdleCallback ?? setTimeout)(() => { this.lower ??= this.whole.toLowerCase(); });
+    this.read = unpackColumns(data.columns).then(columns => {
+      this.take(columns);
+      this.page.isRead = true;
+      this.page.show(this.page.now);
+    });
     if (tab === 'crossings' && /^[1-9]\d{0,9}$/.test(at) && Number(at) <= this.n) this.goTo(Number(at) - 1);
   }
 
   // NAMES, TEXTS AND LINES
 
-  ref(name, marks) {
+  // (In a list it is no button, and what holds it takes the click: a button costs ten times as much to lay out.)
+  ref(name, reach) {
     const [, sign, owner, count] = /^([#@])(\d+)\.(\d+)$/.exec(name);
     const isHost = sign === '#' && owner === '0' && Number(count) < this.data.host.length;
-    return el('button', { class: 'ref', 'data-ref': name, tabindex: '-1', title: isHost ? `${name}: the host's ${this.data.host[count]}` : `${name}: of ${this.name(Number(owner)) || '?'}; its life`,
-      onclick: event => { this.life(name); event.stopPropagation(); } }, isHost ? this.data.host[count] : name,
-    marks ? el('span', { class: 'marks' }, marks) : null);
+    return el(reach ? 'button' : 'span', { class: 'ref', 'data-ref': name, title: isHost ? `${name}: the host's ${this.data.host[count]}` : `${name}: of ${this.name(Number(owner)) || '?'}; its life` },
+    isHost ? this.data.host[count] : name);
   }
 
-  // A piece of a line as nodes. (The names in it are buttons, and come by Tab where `reach` is said.)
+  // A piece of a line as nodes. (The names in it come by Tab where `reach` is said.)
   pieces(text, most, reach, find) {
     const nodes = [];
     let shown = 0;
     const plain = (part, cls) => {
+      if (!cls && !find) return part;
       const node = el('span', { class: cls });
       if (find && part.toLowerCase().includes(find)) {
         let at = 0;
@@ -134,9 +147,7 @@ class TracePage {
       if (shown > most) { nodes.push('..'); break; }
       shown += token.length;
       if (/^[#@]\d/.test(token)) {
-        const node = this.ref(token);
-        if (reach) node.setAttribute('tabindex', '0');
-        nodes.push(node);
+        nodes.push(this.ref(token, reach));
       } else if (token === '"') {
         // a text that goes on past what is shown: nothing in it is a name
         nodes.push(plain(cut(text.slice(at), most), 'text'));
@@ -172,8 +183,9 @@ class TracePage {
   link(i) { return el('button', { class: 'link number', onclick: () => { this.goTo(i); } }, String(i + 1)); }
   partyLink(party) { return el('button', { class: 'link', onclick: () => this.takeParty(party) }, this.name(party)); }
 
-  goTo(i) {
+  async goTo(i) {
     this.page.show('crossings');
+    await this.read;
     this.clearSearch();
     // (an answer stands with its ask where nothing lies between them)
     let row = this.rowOf(i);
@@ -204,12 +216,12 @@ class TracePage {
   makeParties(panel) {
     const [word, party, steps] = this.data.ending;
     const tile = (number, what, act, alarm) => el('button', { class: 'tile' + (alarm ? ' alarm' : ''), onclick: act }, el('b', null, counted(number)), el('span', null, what));
-    const asks = this.edges.reduce((sum, edge) => sum + edge.total, 0);
+    const asks = this.edges.reduce((sum, edge) => sum + edge.total, 0), throws = this.thrown.reduce((sum, count) => sum + count, 0);
     panel.append(el('div', { class: 'tiles' },
       tile(asks, 'asks', () => this.page.show('crossings')),
       tile(this.data.denials.length + this.data.moreDenials, 'denials told', () => this.page.show('denials'), this.data.denials.length > 0),
-      tile(this.throws.length, 'throws', () => this.page.show('throws'), this.throws.length > 0),
-      tile(this.hostAsks.length, 'calls of the host', () => this.page.show('host')),
+      tile(throws, 'throws', () => this.page.show('throws'), throws > 0),
+      tile(this.hostCalls, 'calls of the host', () => this.page.show('host')),
       tile(this.parties.reduce((sum, one) => sum + one.steps, 0), 'steps', () => this.page.show('steps'))));
     if (word !== 'Done') {
       panel.append(el('p', { class: 'bad' }, `The run ended with ${word}` + (party === null ? '' : ` in ${this.name(party)} after ${many(steps, 'step')}`) + `: ${ENDINGS[word]}.`,
@@ -300,11 +312,12 @@ class TracePage {
     panel.classList.add('full');
     const options = all => [el('option', { value: '' }, all), ...this.data.order.map(id => el('option', { value: String(id) }, cut(this.name(id), 40)))];
     const change = () => this.runSearch();
-    let waiting;
-    this.field = el('input', { type: 'search', placeholder: 'package, #1.0, method or text  ( / )', 'aria-label': 'Search the crossings', spellcheck: 'false', oninput: () => {
-      clearTimeout(waiting);
-      waiting = setTimeout(change, 60);
-    }, onkeydown: event => { if (event.key === 'Enter' || event.key === 'ArrowDown') { clearTimeout(waiting); change(); this.list.box.focus(); this.list.take(0); event.preventDefault(); } } });
+    this.field = el('input', { type: 'search', placeholder: 'package, #1.0, method or text  ( / )', 'aria-label': 'Search the crossings', spellcheck: 'false', oninput: change, onkeydown: event => {
+      if (event.key !== 'Enter' && event.key !== 'ArrowDown') return;
+      this.list.box.focus();
+      this.list.take(0);
+      event.preventDefault();
+    } });
     this.fromField = el('select', { 'aria-label': 'From', onchange: change }, options('from any'));
     this.toField = el('select', { 'aria-label': 'To', onchange: change }, options('to any'));
     this.methodField = el('select', { 'aria-label': 'Method', onchange: change }, el('option', { value: '' }, 'any method'),
@@ -313,7 +326,7 @@ class TracePage {
     this.depthField = el('input', { type: 'number', min: '0', max: String(this.deepest), placeholder: 'all', 'aria-label': 'Fold what lies deeper than', onchange: () => {
       this.shownDepth = this.depthField.value === '' ? Infinity : Number(this.depthField.value);
       this.folded.clear();
-      this.fold(true);
+      this.clearSearch(true);
     } });
     this.foundBox = el('span', { class: 'found', role: 'status' });
     const tools = el('div', { class: 'tools' }, this.field, this.fromField, this.toField, this.methodField,
@@ -322,14 +335,14 @@ class TracePage {
     this.laneHead = el('div', { class: 'lanes', 'aria-hidden': 'true' });
     this.rowsAt = new Int32Array(this.n);
     this.list = new Rows({
-      label: 'Crossings', height: 23, row: at => this.crossingRow(at), drawn: (from, to) => this.drawLanes(from, to),
+      label: 'Crossings', height: 23, row: at => this.crossingRow(at), before: (from, to) => this.placeLanes(from, to), drawn: (from, to) => this.drawLanes(from, to),
       choose: at => this.showCrossing(this.rowsAt[at]),
       key: (key, at) => this.crossingKey(key, at),
     });
     panel.append(tools, this.laneHead, this.list.box);
     this.party = null;
     this.fold();
-    return () => { this.list.draw(); this.list.box.focus({ preventScroll: true }); };
+    return () => { this.list.draw(); if (document.activeElement !== this.field) this.list.box.focus({ preventScroll: true }); };
   }
 
   crossingKey(key, at) {
@@ -338,7 +351,7 @@ class TracePage {
     else if (key === 'ArrowLeft' && i >= 0 && !this.found) {
       // fold it, or the ask that it lies in
       let ask = this.isAsk(i) ? i : this.partner[i];
-      if (ask < 0 || this.isFolded(ask) || this.partner[ask] === ask + 1) ask = this.opener(i);
+      if (ask < 0 || this.isFolded(ask) || this.partner[ask] === ask + 1) ask = this.outer[i];
       if (ask >= 0) { this.toggle(ask, true); this.list.take(this.rowOf(ask)); }
     } else if (key === 'ArrowRight' && i >= 0 && !this.found) { if (this.isFolded(i)) this.toggle(i, false); } else if (key === 'n' || key === 'p') {
       const marks = [...this.denied.keys(), ...this.throws].sort((a, b) => a - b);
@@ -346,12 +359,6 @@ class TracePage {
       if (next !== undefined) this.goTo(next);
     } else return false;
     return true;
-  }
-
-  opener(i) {
-    const depth = this.depth[i];
-    for (let k = i - 1; k >= 0; k--) if (this.isAsk(k) && this.depth[k] < depth) return k;
-    return -1;
   }
 
   isFolded(i) {
@@ -367,7 +374,7 @@ class TracePage {
 
   // The rows of the list: each ask, with its answer where nothing lies between them or it is folded, and the other answers.
   fold(keep) {
-    this.found = null;
+    this.found = this.hunt = null;
     const chosen = keep && this.list.chosen >= 0 ? this.rowsAt[this.list.chosen] : -1, rows = this.rowsAt, plain = this.folded.size === 0 && this.shownDepth === Infinity;
     let count = 0;
     for (let i = 0; i < this.n; i++) {
@@ -377,91 +384,100 @@ class TracePage {
       else if (!plain && this.isFolded(i)) i = this.partner[i] < 0 ? this.n : this.partner[i];
     }
     this.rowCount = count;
-    this.lanesOf(null);
+    this.lanes = this.data.order.filter(id => this.crossed[id]);
     this.list.set(count, keep);
     this.list.chosen = -1;
     if (chosen >= 0 && this.rowOf(chosen) >= 0) this.list.take(this.rowOf(chosen), true);
     this.foundBox.textContent = plain ? '' : `${many(count, 'row')} of ${many(this.n, 'crossing')}`;
   }
 
-  clearSearch() {
+  clearSearch(keep) {
     this.field.value = this.fromField.value = this.toField.value = this.methodField.value = '';
     this.party = null;
-    this.fold();
+    this.fold(keep);
   }
 
-  search({ text = '', from = '', to = '', method = '', party = null }) {
+  async search({ text = '', from = '', to = '', method = '', party = null }) {
     this.page.show('crossings');
+    await this.read;
     this.field.value = text;
     this.fromField.value = String(from);
     this.toField.value = String(to);
     this.methodField.value = String(method);
     this.party = party;
-    this.runSearch();
     this.list.box.focus();
+    await this.runSearch();
   }
 
-  // A name, a method, a name of a reference or a text: what stands in a line, or the name of its sender or receiver. An answer is found
-  // with its ask.
-  runSearch() {
-    const begun = performance.now();
-    const typed = this.field.value.trim(), from = this.fromField.value, to = this.toField.value, method = this.methodField.value;
+  // A name, a method, a name of a reference or a text: what stands in a line, or the name of its sender or receiver. An answer is found with
+  // its ask. The first ones are shown at once, and the others are looked for while they are; of a term that grows only those that it had found.
+  async runSearch() {
+    const typed = this.field.value.trim().toLowerCase(), [from, to, method] = [this.fromField, this.toField, this.methodField].map(field => field.value);
     if (typed === '' && from === '' && to === '' && method === '' && this.party === null) { this.fold(); return; }
-    const marks = new Uint8Array(this.n);
-    const { n, code, partner, offset, answer } = this;
-    let first = null;
-    if (typed !== '') {
-      // As it is written in a trace, or within its quotes.
-      const wanted = new Set([typed, escaped(typed.replace(/["\\]/g, '\\$&')), escaped(typed)].map(one => one.toLowerCase()));
-      const isName = /^[#@%]/.test(typed);
-      this.lower ??= this.whole.toLowerCase();
-      first = marks;
-      for (const one of wanted) {
-        for (let at = 0, i = 0; (at = this.lower.indexOf(one, at)) >= 0;) {
-          while (offset[i + 1] <= at) i++;
-          // (what was typed may not be found in the numbers in front of a line, nor `#1.1` in `#1.10`)
-          let head = offset[i];
-          while (this.text[head] < 97) head++;
-          const end = this.text[at + one.length];
-          const isLonger = isName && one.length > 1 && /\d$/.test(one) && end >= 48 && end <= 57;
-          if (at >= head && !isLonger) { marks[i] = 1; at = offset[i + 1]; i++; } else at = at < head ? head : at + 1;
-        }
-      }
-      const parties = this.parties.map(party => party.name.toLowerCase().includes(typed.toLowerCase()) ? 1 : 0);
-      if (parties.includes(1)) for (let i = 0; i < n; i++) if (parties[this.from[i]] | parties[this.to[i]]) marks[i] = 1;
-    } else marks.fill(1);
-    const rows = this.rowsAt;
-    let count = 0, crossings = 0;
-    const wantedFrom = from === '' ? -1 : Number(from), wantedTo = to === '' ? -1 : Number(to), wantedCode = method === '' ? -1 : Number(method), party = this.party ?? -1;
-    for (let i = 0; i < n; i++) {
-      if (code[i] >= answer && partner[i] >= 0) continue;
-      const reply = code[i] < answer ? partner[i] : -1;
-      if (!(marks[i] || (reply >= 0 && marks[reply]))) continue;
-      if (wantedFrom >= 0 && this.from[i] !== wantedFrom) continue;
-      if (wantedTo >= 0 && this.to[i] !== wantedTo) continue;
-      if (party >= 0 && this.from[i] !== party && this.to[i] !== party) continue;
-      if (wantedCode >= 0 && code[i] !== wantedCode && !(reply >= 0 && code[reply] === wantedCode)) continue;
-      rows[count++] = i;
-      crossings += reply >= 0 ? 2 : 1;
+    const last = this.hunt, filters = [from, to, method, this.party].join(), rows = this.rowsAt;
+    const hunt = this.hunt = { typed, filters, from: from === '' ? -1 : Number(from), to: to === '' ? -1 : Number(to), code: method === '' ? -1 : Number(method),
+      party: this.party ?? -1, count: 0, read: 0, end: 0, next: 0, seen: new Uint8Array(this.parties.length) };
+    // As it is written in a trace, or within its quotes. (`#1.1` is not found in `#1.10`, so what that had found is too little for this.)
+    hunt.isName = /^[#@%].*\d$/.test(typed);
+    hunt.finders = typed === '' ? null : [...new Set([typed, escaped(typed.replace(/["\\]/g, '\\$&')), escaped(typed)])].filter(one => /^[ -~]+$/.test(one))
+      .map(one => ({ find: finder(this.text, one, true), size: one.length }));
+    hunt.parties = this.parties.map(party => typed !== '' && party.name.toLowerCase().includes(typed));
+    if (last?.filters === filters && typed.includes(last.typed) && !last.isName) {
+      rows.copyWithin(last.count, last.read, last.end);
+      hunt.end = last.count + last.end - last.read;
+      hunt.next = last.next;
     }
-    this.rowCount = count;
-    this.found = first ? typed.toLowerCase() : '';
-    this.lanesOf(rows.subarray(0, count));
-    this.list.set(count);
-    this.took = performance.now() - begun;
-    this.foundBox.textContent = `${many(count, 'ask')} found` + (this.party === null ? '' : ` of ${this.name(this.party)}`);
+    this.found = typed;
+    for (let isFirst = true, done = false; !done; isFirst = false) {
+      done = this.look(hunt, performance.now() + 8);
+      this.rowCount = hunt.count;
+      const lanes = this.lanes.length;
+      this.lanes = this.data.order.filter(id => hunt.seen[id]);
+      if (isFirst) this.list.set(hunt.count);
+      else {
+        this.list.grow(hunt.count);
+        if (done && this.lanes.length !== lanes && this.lanes.length <= MOST_LANES) this.list.draw();
+      }
+      this.foundBox.textContent = `${many(hunt.count, 'ask')} found` + (done ? '' : ' so far') + (this.party === null ? '' : ` of ${this.name(this.party)}`);
+      if (!done) await new Promise(later => { setTimeout(later); });
+      if (this.hunt !== hunt) return;
+    }
   }
 
-  // The lanes that are drawn: of all parties where they are few, else of those in sight.
-  lanesOf(rows) {
-    const seen = new Uint8Array(4097);
-    let some = 0;
-    for (let k = 0; k < (rows ? rows.length : this.n) && some < this.parties.length; k++) {
-      const i = rows ? rows[k] : k;
-      if (!seen[this.from[i]]) { seen[this.from[i]] = 1; some++; }
-      if (!seen[this.to[i]]) { seen[this.to[i]] = 1; some++; }
+  // Goes on with a search until a time. The rows that it found stand at the start of the list's; behind them those of an earlier search that
+  // are still to be looked at. Says whether it has come to the end.
+  look(hunt, until) {
+    const { n, code, partner, answer, from, to, rowsAt: rows } = this;
+    for (let steps = 1; ; steps++) {
+      if (steps % 512 === 0 && performance.now() > until) return false;
+      let i;
+      if (hunt.read < hunt.end) i = rows[hunt.read++];
+      else if (hunt.next < n) i = hunt.next++;
+      else return true;
+      if ((code[i] >= answer && partner[i] >= 0) || !this.fits(hunt, i)) continue;
+      rows[hunt.count++] = i;
+      hunt.seen[from[i]] = hunt.seen[to[i]] = 1;
     }
-    this.lanes = this.data.order.filter(id => seen[id]);
+  }
+
+  fits({ from, to, code, party, parties, finders }, i) {
+    const sender = this.from[i], receiver = this.to[i], reply = this.code[i] < this.answer ? this.partner[i] : -1;
+    if ((from >= 0 && sender !== from) || (to >= 0 && receiver !== to) || (party >= 0 && sender !== party && receiver !== party)) return false;
+    if (code >= 0 && this.code[i] !== code && !(reply >= 0 && this.code[reply] === code)) return false;
+    if (!finders || parties[sender] || parties[receiver]) return true;
+    const { offset } = this;
+    if (reply === i + 1) return this.stands(finders, offset[i], offset[i + 2]);
+    return this.stands(finders, offset[i], offset[i + 1]) || (reply >= 0 && this.stands(finders, offset[reply], offset[reply + 1]));
+  }
+
+  stands(finders, from, to) {
+    for (const { find, size } of finders) {
+      for (let at = from; (at = find(at, to)) >= 0; at++) {
+        const next = this.text[at + size];
+        if (!this.hunt.isName || next < 48 || next > 57) return true;
+      }
+    }
+    return false;
   }
 
   isJoined(i) { return this.isAsk(i) && (this.found !== null || this.partner[i] === i + 1 || this.isFolded(i)); }
@@ -475,10 +491,11 @@ class TracePage {
         (joined && this.partner[i] >= 0 ? ', ' + cut(this.body(this.partner[i]), 200) : '') + (hidden ? `, ${hidden} folded` : '') },
     el('span', { class: 'n' }, String(i + 1)), el('span', { class: 'room' }), el('span', { class: 'pair', title: this.pair(i) }, this.pair(i)),
     this.indent(i),
-    el('button', { class: foldable ? 'fold' : 'fold none', tabindex: '-1', disabled: !foldable, 'aria-label': 'fold or unfold', onclick: () => this.toggle(i, !this.isFolded(i)) }, this.isFolded(i) ? '\u25b8' : '\u25be'),
+    foldable ? el('button', { class: 'fold', tabindex: '-1', 'aria-label': 'fold or unfold', onclick: () => this.toggle(i, !this.isFolded(i)) }, this.isFolded(i) ? '\u25b8' : '\u25be')
+      : el('span', { class: 'fold' }),
     el('span', { class: 'what' }, this.told(i, 300, false, find), joined ? this.answered(i, 300, false, find) : null,
       hidden ? el('span', { class: 'hidden' }, `${counted(hidden)} between`) : null));
-    row.querySelector('.room').style.width = this.laneWidth + 'px';
+    row.children[1].style.width = this.laneWidth + 'px';
     row.addEventListener('dblclick', () => { if (this.found !== null) this.goTo(i); else if (foldable) this.toggle(i, !this.isFolded(i)); });
     return row;
   }
@@ -489,40 +506,45 @@ class TracePage {
     return node;
   }
 
-  drawLanes(from, to) {
-    let lanes = this.lanes;
-    if (lanes.length > 28) {
+  // The lanes that are drawn: of all parties that were found where they are few, else of those in sight.
+  placeLanes(from, to) {
+    let { lanes } = this;
+    if (lanes.length > MOST_LANES) {
       const seen = new Set();
       for (let k = from; k < to; k++) { seen.add(this.from[this.rowsAt[k]]); seen.add(this.to[this.rowsAt[k]]); }
       lanes = lanes.filter(id => seen.has(id));
     }
     // (about a third of the list's width)
-    const room = Math.max(120, Math.min(420, this.list.box.clientWidth * 0.34)), apart = Math.max(13, Math.min(84, (room - 30) / Math.max(1, lanes.length - 1)));
-    const width = Math.round((lanes.length - 1) * apart + 44), high = this.list.height, place = new Map(lanes.map((id, k) => [id, 22 + k * apart]));
-    if (width !== this.laneWidth) {
-      this.laneWidth = width;
-      // (the rows were made for the width before)
-      queueMicrotask(() => this.list.draw());
-    }
+    const room = Math.max(120, Math.min(420, this.list.wide * 0.34)), apart = Math.max(13, Math.min(84, (room - 30) / Math.max(1, lanes.length - 1)));
+    this.laneWidth = Math.round(Math.max(0, lanes.length - 1) * apart + 44);
+    this.lanePlaces = new Map(lanes.map((id, k) => [id, 22 + k * apart]));
+  }
+
+  drawLanes(from, to) {
+    const high = this.list.height, place = this.lanePlaces, lanes = [...place.keys()], width = this.laneWidth;
     const height = (to - from) * high;
     const picture = svg('svg', { class: 'lanes-picture', width, height, 'aria-hidden': 'true' });
-    for (const id of lanes) picture.append(svg('line', { class: id === 0 ? 'lane host' : 'lane', x1: place.get(id), x2: place.get(id), y1: 0, y2: height }));
+    // (of each kind one path has all that looks alike)
+    const paths = new Map();
+    const put = (cls, kind, d) => { const key = `${cls} k-${kind}`; paths.set(key, (paths.get(key) ?? '') + d); };
     const arrow = (cls, kind, y, a, b) => {
       const right = b > a, tip = b - (right ? 2 : -2);
-      picture.append(svg('g', { class: 'k-' + kind },
-        svg('line', { class: cls, x1: a, x2: tip - (right ? 4 : -4), y1: y, y2: y }),
-        svg('path', { class: 'head', d: `M${tip},${y} l${right ? -6 : 6},-3.5 l0,7 z` })));
+      put(cls, kind, `M${a},${y}H${tip - (right ? 4 : -4)}`);
+      put('head', kind, `M${tip},${y}l${right ? -6 : 6},-3.5v7z`);
     };
+    const span = (lane, y1, y2, kind) => { if (lane !== undefined && y2 > y1) put('span', kind, `M${lane - 2},${y1}h4v${y2 - y1}h-4z`); };
+    for (const id of lanes) put('lane', id === 0 ? 'host' : 'own', `M${place.get(id)},0V${height}`);
     for (let k = from; k < to; k++) {
       const i = this.rowsAt[k], a = place.get(this.from[i]), b = place.get(this.to[i]), y = (k - from) * high + high / 2;
       if (this.isAsk(i)) {
         const joined = this.isJoined(i);
         arrow('arrow', this.kind(i), joined ? y - 3 : y, a, b);
         if (joined && this.partner[i] >= 0) arrow('back', this.kind(this.partner[i]), y + 5, b, a);
-        else if (!joined) picture.append(svg('g', { class: 'k-' + this.kind(i) }, svg('rect', { class: 'span', x: b - 2, y, width: 4, height: high / 2 })));
+        else if (!joined) span(b, y, y + high / 2, this.kind(i));
       } else arrow('back', this.kind(i), y, a, b);
     }
-    this.openSpans(picture, from, to, place);
+    this.openSpans(from, to, place, span);
+    for (const [cls, d] of paths) picture.append(svg('path', { class: cls, d }));
     picture.style.position = 'absolute';
     picture.style.left = (this.list.numberWidth ??= this.list.rows.querySelector('.n')?.offsetWidth) + 'px';
     picture.style.pointerEvents = 'none';
@@ -531,17 +553,11 @@ class TracePage {
   }
 
   // Where an ask is open over several rows, its lane is thick.
-  openSpans(picture, from, to, place) {
+  openSpans(from, to, place, draw) {
     if (this.found !== null || to <= from) return;
-    const high = this.list.height, draw = (lane, y1, y2, kind) => {
-      if (lane !== undefined && y2 > y1) picture.append(svg('g', { class: 'k-' + kind }, svg('rect', { class: 'span', x: lane - 2, y: y1, width: 4, height: y2 - y1, rx: 1 })));
-    };
-    const open = [];
+    const high = this.list.height, open = [];
     // (those that were opened above what is seen)
-    for (let i = this.rowsAt[from] - 1, depth = this.depth[this.rowsAt[from]], steps = 0; i >= 0 && depth > 0 && steps < 20000; i--, steps++) {
-      if (this.isAsk(i) && this.depth[i] < depth) { depth = this.depth[i]; open.push([i, 0]); }
-    }
-    open.reverse();
+    for (let ask = this.outer[this.rowsAt[from]]; ask >= 0; ask = this.outer[ask]) open.unshift([ask, 0]);
     for (let k = from; k < to; k++) {
       const i = this.rowsAt[k], y = (k - from) * high + high / 2;
       if (this.isAsk(i)) { if (!this.isJoined(i)) open.push([i, y]); } else {
@@ -589,22 +605,22 @@ class TracePage {
 
   // Who made a reference, who was given it, who asked it, in order.
   life(name) {
-    const uses = [], isAt = [];
+    const uses = [], isAt = [], { text, offset } = this, find = finder(text, name, false);
     let asked = 0, given = 0, marks = null;
-    for (let at = 0, i = 0; (at = this.whole.indexOf(name, at)) >= 0;) {
-      while (this.offset[i + 1] <= at) i++;
-      const end = this.text[at + name.length];
-      let quotes = 0, k = this.offset[i];
-      for (; k < at; k++) { if (this.text[k] === 92) k++; else if (this.text[k] === 34) quotes ^= 1; }
+    for (let at = 0, i = 0; (at = find(at, text.length)) >= 0;) {
+      while (offset[i + 1] <= at) i++;
+      const end = text[at + name.length];
+      let quotes = 0;
+      for (let k = offset[i]; k < at; k++) { if (text[k] === 92) k++; else if (text[k] === 34) quotes ^= 1; }
       if ((end >= 48 && end <= 57) || quotes) { at++; continue; }
       // the target of an ask is its first item
-      const line = this.line(i), before = line.slice(0, at - this.offset[i]);
-      const isTarget = this.isAsk(i) && /ask [A-Za-z]+ (?:[a-z][A-Za-z]* )?$/.test(before);
-      if (!uses.length) marks = /^\/[A-Z][A-Za-z]*(?:\+call)?(?:\+new)?/.exec(line.slice(at - this.offset[i] + name.length))?.[0];
+      const line = this.body(i), before = line.slice(0, at - offset[i]);
+      const isTarget = this.isAsk(i) && /^ask [A-Za-z]+ (?:[a-z][A-Za-z]* )?$/.test(before);
+      if (!uses.length) marks = /^\/[A-Z][A-Za-z]*(?:\+call)?(?:\+new)?/.exec(line.slice(at - offset[i] + name.length))?.[0];
       uses.push(i);
       isAt.push(isTarget ? 1 : 0);
       if (isTarget) asked++; else given++;
-      at = this.offset[i + 1];
+      at = offset[i + 1];
       i++;
     }
     const [, sign, owner, count] = /^([#@])(\d+)\.(\d+)$/.exec(name);

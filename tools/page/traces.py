@@ -92,7 +92,7 @@ class Trace:
         self.from_, self.to, self.depth = array('H'), array('H'), array('H')
         self.code, self.partner = array('B'), array('i')  # partner: the ask's answer, the answer's ask, or -1
         self.steps = array('I')  # of version 2: the sender's steps at each crossing
-        self.lines = []  # of crossings, as they stand in the text
+        self.lines, self.starts = [], array('B')  # of crossings, as they stand in the text; and where in each its numbers have ended
         self.totals = []
         self.ending = None  # (word, party or None, steps or None)
         self.asks = {}  # (from, to, code): how many
@@ -101,6 +101,21 @@ class Trace:
     @property
     def parties(self):
         return len(self.names)
+
+    def body(self, number):
+        """Of a crossing what stands behind its numbers: `ask ..`, `answer ..`, `throw ..`."""
+        return self.lines[number][self.starts[number]:]
+
+    def bodies(self):
+        return [line[start:] for line, start in zip(self.lines, self.starts)]
+
+    def throws(self):
+        """How often each party threw at another one."""
+        counts = [0] * self.parties
+        for sender, code in zip(self.from_, self.code):
+            if code == THROW:
+                counts[sender] += 1
+        return counts
 
     def order(self):
         """Parties as lanes: by their first crossing, those without one behind them by their number, and the host last."""
@@ -191,6 +206,7 @@ def read_crossings(trace, lines, at):
             partner.append(ask)
             if ask >= 0:
                 partner[ask] = number
+        trace.starts.append(found.start(is_second + 4) - 4 if word is None else found.start(is_second + 5))
         if is_second:
             trace.steps.append(min(int(steps), 4294967295))
         from_.append(sender)
@@ -265,7 +281,7 @@ def row_that_allows(denial, trace, links=None):
         package, request = denial['package'], denial['request']
         if package == '$root$':
             return None, None, None, 'everything is granted to $root$ already: this text is none of lava\'s'
-        dependency = '/'.join(request.split('/')[:2]) if request.startswith('@') else request.split('/')[0]
+        dependency = '/'.join(request.split('/')[:2 if request.startswith('@') else 1])
         if dependency in BUILTINS and not (links or {}).get(package, {}).get(dependency):
             return package, 'builtin', dependency, f'or a member alone: {dependency}.readFileSync, {dependency}.existsSync'
         if links is not None:
@@ -291,11 +307,7 @@ def view_lines(trace):
     leaving, others `their.K` by their coming, the host's twelve by their names, since a trace does not tell a party's start."""
     comings = [{} for _ in range(trace.parties)]
     marks, told = {}, [set() for _ in range(trace.parties)]
-    head = HEAD[trace.version]
-    for number, line in enumerate(trace.lines):
-        found = head(line)
-        body = line[found.start(4 if trace.version == 1 else 5) - 4:] if found[4 if trace.version == 1 else 5] else \
-            line[found.start(5 if trace.version == 1 else 6):]
+    for number, body in enumerate(trace.bodies()):
         for names in NAMES.finditer(body):
             if names[5]:
                 marks[names[2], names[3], names[4]] = names[5]
