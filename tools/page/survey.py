@@ -91,7 +91,7 @@ class Survey:
     def lines(self):
         for name in self.worst:
             found = self.packages[name]
-            yield f'{name}: {len(found)} in the way, {counted(self.modules[name], "module")}'
+            yield f'{name}: {len(found)} in the way, {counted(self.modules[name], "module")}{self.walk.kind_of(name)}'
             order = sorted(found, key=lambda finding: KINDS.index(finding['kind']))
             yield from (f'  {told(finding)}' for finding in order)
             yield ''

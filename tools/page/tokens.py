@@ -71,14 +71,16 @@ class Source:
         at = bisect_right(self.starts, start) - 1
         return at if at >= 0 and start < self.stops[at] else None
 
-    def add(self, kind, start, stop):
-        self.kinds.append(kind)
-        self.texts.append(self.text[start:stop])
-        self.starts.append(start)
-        self.stops.append(stop)
-
     def read(self):
-        text, size = self.text, len(self.text)
+        text, size, texts, kinds = self.text, len(self.text), self.texts, self.kinds
+        add_start, add_stop, add_kind, add_text = self.starts.append, self.stops.append, kinds.append, texts.append
+
+        def add(kind, start, stop):
+            add_kind(kind)
+            add_text(text[start:stop])
+            add_start(start)
+            add_stop(stop)
+
         at = ENDS.search(text + '\n').start() if text.startswith('#!') else 0
         # What is open: of a parenthesis whether a condition stands in it, of a brace whether it is one of a template, an object or a block.
         parens, braces = [], []
@@ -100,13 +102,13 @@ class Source:
                     stop, operand = stop + 2, True
                 else:
                     stop, operand = min(stop + 1, size), False
-                self.add(TEMPLATE, at, stop)
+                add(TEMPLATE, at, stop)
                 at = stop
                 continue
             if mark == '/' and operand and patience > 0:
                 found = EXPRESSION.match(text, at)
                 if found:
-                    self.add(REGEXP, at, found.end())
+                    add(REGEXP, at, found.end())
                     at, operand = found.end(), False
                     continue
                 end = ENDS.search(text, at)
@@ -115,7 +117,7 @@ class Source:
             kind, word = found.lastgroup, found[0]
             if kind == 'mark':
                 if word == '(':
-                    parens.append(bool(self.texts) and self.kinds[-1] == NAME and self.texts[-1] in CONDITIONS)
+                    parens.append(bool(texts) and kinds[-1] == NAME and texts[-1] in CONDITIONS)
                 elif word == '{':
                     braces.append(self.is_object())
                 if word == ')':
@@ -125,9 +127,12 @@ class Source:
                 else:
                     operand = word not in (']', '++', '--')
             else:
-                operand = kind == NAME and word in BEFORE_OPERAND and (not self.texts or self.texts[-1] not in ('.', '?.'))
-            self.add(kind, at, found.end())
+                operand = kind == NAME and word in BEFORE_OPERAND and (not texts or texts[-1] not in ('.', '?.'))
+            add_kind(kind)
+            add_text(word)
+            add_start(at)
             at = found.end()
+            add_stop(at)
 
     def is_object(self):
         """Whether a brace that comes next is that of an object, and not of a block or a body."""

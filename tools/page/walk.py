@@ -123,11 +123,15 @@ class Walk:
         main = manifest.get('main', 'index.js')
         return main if isinstance(main, str) else 'index.js'
 
+    def kind_of(self, package):
+        manifest = self.folder.manifests.get(self.folder.packages.get(package)) or {}
+        return ', of ES modules ("type": "module")' if manifest.get('type') == 'module' else ''
+
     # Where a request leads.
 
     def settle(self, package, asker, request, place, by_scan):
         """Follows the request of a module, or the entry (no asker); gives the module that is new."""
-        owner, path = package, request
+        owner, path, subpath = package, request, None
         if asker is not None:
             if request in BUILTINS:
                 self.use(package, 'builtin', 'fs', asker, place)
@@ -146,7 +150,7 @@ class Walk:
                     return None
                 self.requested.add(owner)
                 self.use(package, 'packages', owner, asker, place)
-                path = rest or self.main_of(owner)
+                subpath, path = rest, rest or self.main_of(owner)
         parts = resolved(path)
         tried = candidates(parts) if parts is not None else []
         for candidate in tried:
@@ -156,10 +160,10 @@ class Walk:
                 content = self.read(owner, candidate)
                 if content is not None:
                     return self.take_in(owner, candidate, content, by_scan)
-        told = {'request': request, 'by_scan': by_scan, 'why': self.why_no_file(owner, path, tried, owner != package)}
+        told = {'request': request, 'by_scan': by_scan, 'why': self.why_no_file(owner, tried, subpath)}
         if asker is None:
             self.find('missing', owner, **told, line=f'lava: missing {ROOT} {request}')
-        elif owner == package and request.split('/')[0] in ('.', '..'):
+        elif subpath is None:
             self.find('missing', package, module=asker, place=place, **told, line=f'lava: missing {package} {request}')
         else:
             self.find('no file', owner, asker=package, module=asker, place=place, **told)
@@ -310,7 +314,8 @@ class Walk:
             full = self.path_of(there)
             if os.path.islink(full) and not os.path.exists(full):
                 return f'{there} is a symbolic link that leads to nothing here: {os.readlink(full)}'
-            return f'{there} has no package.json'
+            is_there = os.path.isfile(os.path.join(full, 'package.json'))
+            return f'{there} is past the limit of packages' if is_there else f'{there} has no package.json'
         real = os.path.realpath(self.path_of(directory))
         if real != os.path.join(os.path.realpath(self.top), directory).rstrip('/'):
             beside = nearest_above(real, name)
@@ -331,7 +336,8 @@ class Walk:
                 return None
             directory = os.path.dirname(directory)
 
-    def why_no_file(self, owner, path, tried, is_dependency):
+    def why_no_file(self, owner, tried, subpath):
+        """Why no path that was tried has a file. The subpath of a request is empty for the main module, and None for a request by a path."""
         directory = self.folder.packages[owner]
         manifest = self.folder.manifests.get(directory) or {}
         if not tried:
@@ -345,15 +351,13 @@ class Walk:
             if candidate not in tried or candidate.endswith(('.mjs', '.node')):
                 if os.path.isfile(self.path_of(directory, candidate)):
                     return f'{os.path.join(directory, candidate)} is there: {ENDS.get(candidate.rsplit(".", 1)[-1], "no path is tried with that end")}'
-        if is_dependency:
-            named = exported(manifest, path)
+        if subpath is not None:
+            named = exported(manifest, subpath)
             if named:
                 end = ', which counts as absent' if named.endswith('.mjs') else ''
                 return f'its `exports` names {named}{end}; `exports` is passed over, and `main` counts'
             if 'exports' in manifest:
                 return 'its `exports` is passed over, and there is no such file'
-        if manifest.get('type') == 'module':
-            return 'there is no such file, and the package is one of ES modules ("type": "module")'
         return 'there is no such file'
 
 
@@ -386,14 +390,13 @@ def nearest_above(directory, name):
         directory = os.path.dirname(directory)
 
 
-def exported(manifest, path):
-    """A file that the `exports` of a manifest names for a path, or for the package itself."""
+def exported(manifest, subpath):
+    """A file that the `exports` of a manifest names for a subpath, which is empty for the package itself."""
     exports = manifest.get('exports')
-    if isinstance(exports, dict):
-        parts = resolved(path)
-        key = './' + '/'.join(parts or [])
-        if any(name.startswith('.') for name in exports):
-            exports = exports.get(key, exports.get('.'))
+    if isinstance(exports, dict) and any(name.startswith('.') for name in exports):
+        exports = exports.get(f'./{subpath}' if subpath else '.')
+    elif subpath:
+        return None
     for _ in range(8):
         if isinstance(exports, dict):
             exports = next((exports[name] for name in ('require', 'node', 'default', *exports) if name in exports), None)
