@@ -439,7 +439,7 @@ class TracePage {
     }
     this.found = typed;
     for (let isFirst = true, done = false; !done; isFirst = false) {
-      done = this.look(hunt, performance.now() + 8);
+      done = this.look(hunt, isFirst ? 100 : Infinity);
       this.rowCount = hunt.count;
       const lanes = this.lanes.length;
       this.lanes = this.data.order.filter(id => hunt.seen[id]);
@@ -454,12 +454,12 @@ class TracePage {
     }
   }
 
-  // Goes on with a search until a time. The rows that it found stand at the start of the list's; behind them those of an earlier search that
-  // are still to be looked at. Says whether it has come to the end.
-  look(hunt, until) {
+  // Goes on with a search by a part (a number of lines and no time: on a loaded machine a time is over at once), or until enough was found. The
+  // rows that it found stand at the start of the list's; behind them those of an earlier search that are still to be looked at. Says whether it
+  // has come to the end.
+  look(hunt, enough) {
     const { n, code, partner, answer, from, to, rowsAt: rows } = this;
-    for (let steps = 1; ; steps++) {
-      if (steps % 512 === 0 && performance.now() > until) return false;
+    for (let left = 1 << 17; left > 0 && hunt.count < enough; left--) {
       let i;
       if (hunt.read < hunt.end) i = rows[hunt.read++];
       else if (hunt.next < n) i = hunt.next++;
@@ -468,6 +468,7 @@ class TracePage {
       rows[hunt.count++] = i;
       hunt.seen[from[i]] = hunt.seen[to[i]] = 1;
     }
+    return false;
   }
 
   fits({ from, to, code, party, parties, finders }, i) {
