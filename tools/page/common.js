@@ -160,6 +160,7 @@ class Page {
     this.aside.hidden = true;
     this.aside.replaceChildren();
     this.onside?.();
+    this.onback?.();
   }
 
   on(key, what, act) { this.keys.push({ key, what, act }); }
@@ -168,7 +169,7 @@ class Page {
     if (event.ctrlKey || event.metaKey || event.altKey) return;
     const field = event.target.closest?.('input, select, textarea');
     if (field && event.key !== 'Escape') return;
-    if (field) { field.blur(); return; }
+    if (field) { field.blur(); this.onback?.(); return; }
     if (document.querySelector('dialog[open]')) return;
     const found = this.keys.find(one => one.key === event.key);
     if (!found) return;
@@ -413,7 +414,8 @@ function graph({ nodes, edges, choose, chosen, kinds, label }) {
   const wall = column;
   host.forEach((id, row) => at.set(id, { column, row, host: true }));
   const rows = Math.max(1, ...places);
-  const width = (column + (host.length ? 1 : 0)) * across - (across - wide) + 40, height = rows * down + 46;
+  // (at the right there is room for arrows within the last column)
+  const width = (column + (host.length ? 1 : 0)) * across - (across - wide) + 80, height = rows * down + 46;
   const where = id => {
     const { column: c, row, host: apart } = at.get(id);
     const count = apart ? 1 : places[c];
@@ -463,7 +465,7 @@ function graph({ nodes, edges, choose, chosen, kinds, label }) {
     });
     if (edge.total > 1) {
       const x = b.x > a.x ? a.x + wide + 8 : b.x < a.x ? a.x - 8 : a.x + wide + 38;
-      const text = svg('text', { class: 'dim', x, y: b.x === a.x ? (a.y + b.y + high) / 2 : a.y + high / 2 + (b.x > a.x ? -6 - shown.length * 3 : 30),
+      const text = svg('text', { class: 'dim', x, y: b.x === a.x ? (a.y + b.y + high) / 2 + (a.y < b.y ? -7 : 7) : a.y + high / 2 + (b.x > a.x ? -6 - shown.length * 3 : 30),
         'text-anchor': b.x > a.x ? 'start' : b.x < a.x ? 'end' : 'start' }, counted(edge.total));
       // (only where few arrows leave: else numbers lie upon one another, and the table has them)
       if (edges.filter(other => other.from === edge.from && at.has(other.to) && Math.sign(where(other.to).x - a.x) === Math.sign(b.x - a.x)).length === 1) {
@@ -477,7 +479,7 @@ function graph({ nodes, edges, choose, chosen, kinds, label }) {
   for (const node of nodes) {
     if (!at.has(node.id)) continue;
     const { x, y } = where(node.id);
-    const box = svg('g', { class: `node ${node.group ?? ''} ${node.alarm ? 'alarm' : ''}`, tabindex: '0', role: 'button', 'aria-label': `${node.label}, ${node.sub}`,
+    const box = svg('g', { class: `node ${node.group ?? ''} ${node.alarm ? 'alarm' : ''} ${node.denied ? 'asks' : ''}`, tabindex: '0', role: 'button', 'aria-label': `${node.label}, ${node.sub}`,
       transform: `translate(${x},${y})`, onclick: () => choose(node.id), onkeydown: event => {
         if (event.key !== 'Enter' && event.key !== ' ') return;
         choose(node.id);

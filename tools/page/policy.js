@@ -71,10 +71,10 @@ function policyPanels(page, panel, policy) {
     if (wanted.length < rows.length) note.textContent = `The picture has ${counted(wanted.length)} of ${many(rows.length, 'package')}; the table has all.`;
     const names = new Set(wanted.map(row => row.name));
     const picture = graph({
-      nodes: wanted.map(row => ({ id: row.name, label: escaped(row.name), group: row.everything ? 'root' : '', alarm: row.fs.length + row.writes.length > 0 && !row.everything,
+      nodes: wanted.map(row => ({ id: row.name, label: escaped(row.name), group: row.everything ? 'root' : '', alarm: row.fs.length + row.writes.length > 0 && !row.everything, denied: row.denied?.length,
         sub: row.everything ? 'everything' : [[...row.fs, ...row.writes.map(key => 'write ' + key), ...row.builtins, ...row.host, ...row.globals].map(escaped).join(' '),
           row.denied?.length && `${counted(row.denied.length)} denied`].filter(Boolean).join(', ') || 'holds nothing' })),
-      edges: edges.filter(edge => names.has(edge.from) && names.has(edge.to)), kinds, chosen, choose: take, label: 'Packages, and an arrow from each to those that it may import. The table says the same.',
+      edges: edges.filter(edge => names.has(edge.from) && names.has(edge.to)), kinds, chosen, choose: take, label: 'Packages, and an arrow from each to those that it may import. Those with fs or with globals that they may write have a red border. The table says the same.',
     });
     box.replaceChildren(rows.some(row => row.denied?.some(([, , to]) => to)) ? legend(kinds, null, ARROWS) : '', picture);
   }

@@ -104,6 +104,7 @@ class TracePage {
     if (data.policy) this.page.tab('policy', 'Policy', undefined, panel => policyPanels(this.page, panel, data.policy), { atOnce: true });
     this.page.on('/', 'search the crossings', () => { this.page.show('crossings'); this.field?.focus(); this.field?.select(); });
     this.page.onside = () => this.list?.draw();
+    this.page.onback = () => { if (this.page.now === 'crossings') this.list?.box.focus(); };
     document.addEventListener('click', event => { const node = event.target.closest('[data-ref]'); if (node) this.life(node.dataset.ref); });
     this.page.more = [['arrows, j k', 'up and down in a list; Page Up, Page Down, Home, End'], ['Enter', 'show the chosen crossing at the side'],
       ['right, left', 'unfold and fold an ask'], ['o', 'of what was found: show it in its place'], ['n, p', 'next and previous denial or throw'],
@@ -124,7 +125,7 @@ class TracePage {
   ref(name, reach) {
     const [, sign, owner, count] = /^([#@])(\d+)\.(\d+)$/.exec(name);
     const isHost = sign === '#' && owner === '0' && Number(count) < this.data.host.length;
-    return el(reach ? 'button' : 'span', { class: 'ref', 'data-ref': name, title: isHost ? `${name}: the host's ${this.data.host[count]}` : `${name}: of ${this.name(Number(owner)) || '?'}; its life` },
+    return el(reach ? 'button' : 'span', { class: 'ref', 'data-ref': name, title: isHost ? `${name}: the host's ${this.data.host[count]}` : name === '#1.0' ? '#1.0: the global object of $root$; its life' : `${name}: of ${this.name(Number(owner)) || '?'}; its life` },
     isHost ? this.data.host[count] : name);
   }
 
@@ -355,7 +356,8 @@ class TracePage {
       if (ask >= 0) { this.toggle(ask, true); this.list.take(this.rowOf(ask)); }
     } else if (key === 'ArrowRight' && i >= 0 && !this.found) { if (this.isFolded(i)) this.toggle(i, false); } else if (key === 'n' || key === 'p') {
       const marks = [...this.denied.keys(), ...this.throws].sort((a, b) => a - b);
-      const next = key === 'n' ? marks.find(one => one > i) : marks.reverse().find(one => one < (i < 0 ? Infinity : i));
+      // (an answer may stand in the row of its ask)
+      const next = key === 'n' ? marks.find(one => one > (i >= 0 && this.partner[i] === i + 1 ? i + 1 : i)) : marks.reverse().find(one => one < (i < 0 ? Infinity : i));
       if (next !== undefined) this.goTo(next);
     } else return false;
     return true;
@@ -417,10 +419,18 @@ class TracePage {
     const last = this.hunt, filters = [from, to, method, this.party].join(), rows = this.rowsAt;
     const hunt = this.hunt = { typed, filters, from: from === '' ? -1 : Number(from), to: to === '' ? -1 : Number(to), code: method === '' ? -1 : Number(method),
       party: this.party ?? -1, count: 0, read: 0, end: 0, next: 0, seen: new Uint8Array(this.parties.length) };
+    // The host's objects are shown by their names, and have numbers in a trace.
+    const hosts = this.data.host.map(name => typed !== '' && name.toLowerCase().includes(typed));
     // As it is written in a trace, or within its quotes. (`#1.1` is not found in `#1.10`, so what that had found is too little for this.)
     hunt.isName = /^[#@%].*\d$/.test(typed);
+    const isEnd = hunt.isName ? at => !this.isFigure(at) : () => true;
+    const isHost = at => {
+      let number = 0;
+      for (; this.isFigure(at); at++) number = number * 10 + this.text[at] - 48;
+      return hosts[number];
+    };
     hunt.finders = typed === '' ? null : [...new Set([typed, escaped(typed.replace(/["\\]/g, '\\$&')), escaped(typed)])].filter(one => /^[ -~]+$/.test(one))
-      .map(one => ({ find: finder(this.text, one, true), size: one.length }));
+      .map(one => ({ find: finder(this.text, one, true), size: one.length, is: isEnd })).concat(hosts.includes(true) ? { find: finder(this.text, '#0.', false), size: 3, is: isHost } : []);
     hunt.parties = this.parties.map(party => typed !== '' && party.name.toLowerCase().includes(typed));
     if (last?.filters === filters && typed.includes(last.typed) && !last.isName) {
       rows.copyWithin(last.count, last.read, last.end);
@@ -429,7 +439,7 @@ class TracePage {
     }
     this.found = typed;
     for (let isFirst = true, done = false; !done; isFirst = false) {
-      done = this.look(hunt, performance.now() + 8);
+      done = this.look(hunt, isFirst ? 100 : Infinity);
       this.rowCount = hunt.count;
       const lanes = this.lanes.length;
       this.lanes = this.data.order.filter(id => hunt.seen[id]);
@@ -444,12 +454,12 @@ class TracePage {
     }
   }
 
-  // Goes on with a search until a time. The rows that it found stand at the start of the list's; behind them those of an earlier search that
-  // are still to be looked at. Says whether it has come to the end.
-  look(hunt, until) {
+  // Goes on with a search by a part (a number of lines and no time: on a loaded machine a time is over at once), or until enough was found. The
+  // rows that it found stand at the start of the list's; behind them those of an earlier search that are still to be looked at. Says whether it
+  // has come to the end.
+  look(hunt, enough) {
     const { n, code, partner, answer, from, to, rowsAt: rows } = this;
-    for (let steps = 1; ; steps++) {
-      if (steps % 512 === 0 && performance.now() > until) return false;
+    for (let left = 1 << 17; left > 0 && hunt.count < enough; left--) {
       let i;
       if (hunt.read < hunt.end) i = rows[hunt.read++];
       else if (hunt.next < n) i = hunt.next++;
@@ -458,6 +468,7 @@ class TracePage {
       rows[hunt.count++] = i;
       hunt.seen[from[i]] = hunt.seen[to[i]] = 1;
     }
+    return false;
   }
 
   fits({ from, to, code, party, parties, finders }, i) {
@@ -471,14 +482,11 @@ class TracePage {
   }
 
   stands(finders, from, to) {
-    for (const { find, size } of finders) {
-      for (let at = from; (at = find(at, to)) >= 0; at++) {
-        const next = this.text[at + size];
-        if (!this.hunt.isName || next < 48 || next > 57) return true;
-      }
-    }
+    for (const { find, size, is } of finders) for (let at = from; (at = find(at, to)) >= 0; at++) if (is(at + size)) return true;
     return false;
   }
+
+  isFigure(at) { return this.text[at] >= 48 && this.text[at] <= 57; }
 
   isJoined(i) { return this.isAsk(i) && (this.found !== null || this.partner[i] === i + 1 || this.isFolded(i)); }
 
@@ -609,10 +617,9 @@ class TracePage {
     let asked = 0, given = 0, marks = null;
     for (let at = 0, i = 0; (at = find(at, text.length)) >= 0;) {
       while (offset[i + 1] <= at) i++;
-      const end = text[at + name.length];
       let quotes = 0;
       for (let k = offset[i]; k < at; k++) { if (text[k] === 92) k++; else if (text[k] === 34) quotes ^= 1; }
-      if ((end >= 48 && end <= 57) || quotes) { at++; continue; }
+      if (this.isFigure(at + name.length) || quotes) { at++; continue; }
       // the target of an ask is its first item
       const line = this.body(i), before = line.slice(0, at - offset[i]);
       const isTarget = this.isAsk(i) && /^ask [A-Za-z]+ (?:[a-z][A-Za-z]* )?$/.test(before);
@@ -639,7 +646,7 @@ class TracePage {
       choose: () => {}, key: (key, k) => { if (key !== 'Enter' || k < 0) return false; this.goTo(uses[k]); return true; },
     });
     list.box.addEventListener('click', () => { if (list.chosen >= 0) this.goTo(uses[list.chosen]); });
-    this.page.side(el('h2', null, 'Life of ', el('code', null, name), isHost ? `, the host's ${this.data.host[count]}` : ''),
+    this.page.side(el('h2', null, 'Life of ', el('code', null, name), isHost ? `, the host's ${this.data.host[count]}` : name === '#1.0' ? ', the global object of $root$' : ''),
       el('dl', null,
         el('dt', null, 'made by'), el('dd', null, this.parties[owner] ? this.partyLink(Number(owner)) : '?'),
         marks ? [el('dt', null, 'is'), el('dd', null, el('code', null, marks))] : [],
@@ -734,6 +741,8 @@ class TracePage {
         { name: 'thrown by', value: i => this.name(this.from[i]), cell: i => this.partyLink(this.from[i]), class: 'names' },
         { name: 'to', value: i => this.name(this.to[i]), cell: i => this.partyLink(this.to[i]), class: 'names' },
         { name: 'what', cell: i => el('span', { class: 'code' }, this.pieces(this.body(i).slice(6), 300, true)) },
+        // (what it had been told last is often why)
+        { name: 'just before', cell: i => { const ask = this.partner[i - 1]; return i === 0 ? '' : el('span', { class: 'code' }, this.link(i - 1), ' ', this.isAsk(i - 1) || ask < 0 ? this.told(i - 1, 160, true) : [this.told(ask, 160, true), this.answered(ask, 160, true)]); } },
         { name: 'answers the ask', cell: i => this.partner[i] < 0 ? '' : el('span', { class: 'code' }, this.link(this.partner[i]), ' ', this.told(this.partner[i], 160, true)) },
       ],
     }));
