@@ -204,7 +204,7 @@ def write(path):
     for part, told in more.items():
         said += f" {part.capitalize()} took half a minute or more of: {', '.join(told)}." if told else ""
     if lacking:
-        said += f" None stands where the watch saw nothing of a crate: {', '.join(lacking)}."
+        said += f" Of what the watch saw nothing the figure is that of an earlier run: {', '.join(lacking)}."
     out, is_within = [], False
     with open(PAGE, encoding="utf-8") as it:
         lines = it.read().splitlines()
@@ -215,8 +215,8 @@ def write(path):
             is_within = True
         elif line.startswith("<!-- costs end"):
             is_within = False
-        if row and row[1] in order():
-            line = "|".join([*line.split("|")[:-2], f" {minutes(costs[row[1]]['proof']) if row[1] in costs else ''} ", ""])
+        if row and row[1] in costs:
+            line = "|".join([*line.split("|")[:-2], f" {minutes(costs[row[1]]['proof'])} ", ""])
         if not is_within:
             out.append(line)
     with open(PAGE, "w", encoding="utf-8") as it:
