@@ -482,7 +482,10 @@ class TracePage {
   }
 
   stands(finders, from, to) {
-    for (const { find, size, is } of finders) for (let at = from; (at = find(at, to)) >= 0; at++) if (is(at + size)) return true;
+    for (let k = 0; k < finders.length; k++) {
+      const { find, size, is } = finders[k];
+      for (let at = from; (at = find(at, to)) >= 0; at++) if (is(at + size)) return true;
+    }
     return false;
   }
 
