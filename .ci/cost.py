@@ -198,7 +198,7 @@ def write(path):
     more = {part: [f"{it} {minutes(costs[it][part])}" for it in order() if it in costs and costs[it][part] >= 30] for part in PARTS[1:]}
     day = time.strftime("%d %B %Y", time.localtime(os.path.getmtime(path))).lstrip("0")
     said = (
-        f"The figures are of a run that ended on {day}: {minutes(whole)} minutes of processor time, {minutes(sums['proof'])} of them for proofs, "
+        f"The figures are of a run that was watched on {day}, on four processors with much other work: {minutes(whole)} minutes of processor time as far as it was watched, {minutes(sums['proof'])} of them for proofs, "
         f"{minutes(sums['tests'])} for tests and programs, {minutes(sums['edits'])} for edits and {minutes(whole - known)} that the watch did not see."
     )
     for part, told in more.items():
