@@ -1,7 +1,8 @@
 #!/usr/bin/env python3
-"""The cases of crates/js_object_rows and what has to come of them: its files stdin and stdout, line by line.
+"""The cases of texts, properties and objects, and what has to come of them, line by line: what a program can show stands in examples/objects, in
+its files input.txt and expected.txt, and what none can, as a call of the store by itself, in crates/js_object_rows, in stdin and stdout.
 
-    bench/validate_table.py            writes both files
+    bench/validate_table.py            writes the four files
     bench/validate_table.py --check    ends with status 1 where one of them differs
 
 What definitions make of properties is worked out from the steps of ECMA-262's ValidateAndApplyPropertyDescriptor, which stand below one by one
@@ -29,6 +30,7 @@ import sys
 
 TOP = os.path.dirname(os.path.dirname(os.path.abspath(__file__)))
 CRATE = os.path.join(TOP, 'crates/js_object_rows')
+EXAMPLE = os.path.join(TOP, 'examples/objects')
 
 # A value of the language is its type with what tells it from others of that type.
 UNDEFINED = ('undefined',)
@@ -291,10 +293,27 @@ TEXTS = ['', 'LAVA', '\u00e9', '\u20ac', '\uffff', SMILE + '!', '\ud83d!', '\ude
 
 
 def text_cases():
-    """Cases of texts: the bytes of the Unicode standard, and ECMA-262's operations on Strings."""
+    """Cases of texts that a program shows: what is written of them, and ECMA-262's operations on Strings."""
     for text in TEXTS:
-        yield "write %s" % ('+'.join('%X' % unit for unit in units_in(text)) or "'"), runs(utf8_in(text))
-    yield 'write ' + SEAM, runs(utf8_in('a' * 300 + SMILE + 'b' * 300))
+        yield "write %s" % ('+'.join('%X' % unit for unit in units_in(text)) or "'"), utf8_in(text).decode()
+    yield 'write ' + SEAM, 'a' * 300 + SMILE + 'b' * 300
+    # Array indices are the integers up to 2 ** 32 - 2.
+    for text in ('4294967294', '4294967295', '01', '', '0', '1e3'):
+        index = str(int(text)) if text.isdigit() and text == str(int(text)) and int(text) <= 2 ** 32 - 2 else None
+        yield "index '" + text, '%s index' % index if index else 'none text'
+    for first, second in (('a', 'b'), ('a', 'B'), ('a', 'ab'), ('ab', 'ab')):
+        yield "compare '%s '%s" % (first, second), 'less' if first < second else 'greater' if first > second else 'equal'
+    yield "compare %s 'a*300+D83D+DE00+'b*300" % SEAM, 'equal'
+    yield "compare %s 'a*300+D83D+DE00+'b*301" % SEAM, 'less'
+    yield "slice 'banana 0 2", runs(units_in('ba'))
+    yield "slice 'bana|'na 3 6", runs(units_in('ana'))
+    yield 'slice %s 299 303' % SEAM, runs(units_in('a' + SMILE + 'b'))
+    for end in ('end', 'front'):
+        yield 'grow ' + end, '3000 0 1499 2999 true true'
+
+
+def text_calls():
+    """Calls of texts that no program makes by themselves: bytes that become one, or none, the limit, and a look for a part from a place past the end."""
     yield 'units ' + SEAM, '602 ' + runs(units_in('a' * 300 + SMILE + 'b' * 300))
     for text in ('', 'LAVA', '\u00e9\u20ac', SMILE, '\uffff'):
         yield "utf8 %s" % ('+'.join('%X' % byte for byte in text.encode()) or "'"), runs(units_in(text))
@@ -306,24 +325,11 @@ def text_cases():
     yield "units 'a*%d|'a" % LIMIT, 'too long'
     yield "utf8 'a*%d" % LIMIT, '61*%d' % LIMIT
     yield "utf8 'a*%d" % (LIMIT + 1), 'too long'
-    # Array indices are the integers up to 2 ** 32 - 2.
-    for text in ('4294967294', '4294967295', '01', '', '0', '1e3'):
-        index = str(int(text)) if text.isdigit() and text == str(int(text)) and int(text) <= 2 ** 32 - 2 else None
-        yield "index '" + text, '%s index' % index if index else 'none text'
-    for first, second in (('a', 'b'), ('a', 'B'), ('a', 'ab'), ('ab', 'ab')):
-        yield "compare '%s '%s" % (first, second), 'less' if first < second else 'greater' if first > second else 'equal'
-    yield "compare %s 'a*300+D83D+DE00+'b*300" % SEAM, 'equal'
-    yield "compare %s 'a*300+D83D+DE00+'b*301" % SEAM, 'less'
     for part, start in (('ana', 0), ('ana', 2), ('ana', 4), ('', 6), ('', 7), ('bananas', 0)):
         place = 'banana'.find(part, start)
         yield "find 'banana '%s %d" % (part, start), 'none' if place < 0 else str(place)
     yield "find %s 'a+D83D+DE00+'b 0" % SEAM, '299'
     yield "find %s 'a+D83D+DE00+'b 300" % SEAM, 'none'
-    yield "slice 'banana 0 2", runs(units_in('ba'))
-    yield "slice 'bana|'na 3 6", runs(units_in('ana'))
-    yield 'slice %s 299 303' % SEAM, runs(units_in('a' + SMILE + 'b'))
-    for end in ('end', 'front'):
-        yield 'grow ' + end, '3000 0 1499 2999 true true'
 
 
 def name_cases():
@@ -352,12 +358,10 @@ REPLIES = ['value', 'prototype', 'truth', 'property', 'absent', 'keys', 'throw']
 
 
 def copy_cases():
-    """Copies are of the kind of what was copied, and all fields of a property make it."""
+    """Copies are of the kind of what was copied."""
     for kind, names in (('ask', ASKS), ('reply', REPLIES), ('cross', ['object', 'party', 'answer'])):
         for name in names:
             yield '%s %s' % (kind, name), name
-    for cell in PRESENT:
-        yield 'fields ' + cell, cell + ' true'
 
 
 # Keys that are written in turn, or taken out where a `-` stands before them, and the own keys after that, as OrdinaryOwnPropertyKeys lists them.
@@ -407,7 +411,8 @@ def store_cases():
     yield 'foreign 2:0 function; 2:0 plain; 2:0 marks; 3:0 marks', 'Function true true Object false false'
 
 
-# What objects of party 7 answer, step by step of ECMA-262's algorithms. A made object answers nothing; an ask that goes to another party is shown with its receiver, or with `this` and the arguments.
+# What objects answer, step by step of ECMA-262's algorithms. The objects that a line makes are 7:0, 7:1 and so on; a made object answers nothing. 1:0, 1:1, 9:0 and 9:4 are of another party: an ask that goes there is
+# shown with its receiver, or with `this` and the arguments, and a body that runs is shown so too. `new` is an object that no line has made.
 # Cells write properties: V is the value 1, an accessor has F (1:0) and G (1:1) or neither (a), the setter alone (b), the getter alone (d); then 4 for writable, 2 for enumerable, 1 for configurable.
 CHAIN = 'make plain; make plain; make plain; 7:1 SetPrototypeOf 7:0; 7:2 SetPrototypeOf 7:1'
 DECISIONS = [
@@ -431,26 +436,23 @@ DECISIONS = [
     # OrdinarySetPrototypeOf: no cycle, which a proxy, a common and a foreign object end the look for.
     (CHAIN + '; 7:0 SetPrototypeOf 7:2; 7:0 SetPrototypeOf 7:0; 7:0 SetPrototypeOf 9:0; 7:0 SetPrototypeOf c0; 7:0 GetPrototypeOf', 'true true false false true true c0'),
     ('make plain; make proxy; 7:0 SetPrototypeOf 7:1; 7:0 PreventExtensions; 7:0 SetPrototypeOf 7:1; 7:0 SetPrototypeOf null', 'true true true false'),
-    # A global has an immutable prototype.
-    ("make global; make plain; 7:0 SetPrototypeOf 7:1; 7:0 SetPrototypeOf null; 7:0 Set 'x 2 #7:0; 7:0 Get 'x #7:0", 'false true true 2'),
+    # A global has an immutable prototype, which is Object.prototype.
+    ("make global; make plain; 7:0 SetPrototypeOf 7:1; 7:0 SetPrototypeOf Object.prototype; 7:0 Set 'x 2 #7:0; 7:0 Get 'x #7:0", 'false true true 2'),
     # Functions: a body runs with `this` and the arguments; a bound function has its own `this` and its own arguments first, and its target is its own new target.
-    ('make closure; make plain; 7:0 Call #7:1 8; 7:0 Construct 7:0 8; 7:1 Call 5 8; 7:1 Construct 7:1 8', 'run 3 7:1 8 run 3 undefined 8 not a function not a constructor'),
-    ('make closure; make bound; 7:1 Call #7:1 8; 7:1 Construct 7:1 8', 'run 3 5 6 8 run 3 undefined 6 8'),
+    ('make closure; make plain; 7:0 Call #7:1 8; 7:0 Construct 7:0 8; 7:1 Call 5 8; 7:1 Construct 7:1 8', 'run 7:1 8 run new 8 not a function not a constructor'),
+    ('make closure; make bound; 7:1 Call #7:1 8; 7:1 Construct 7:1 8', 'run 5 6 8 run new 6 8'),
     # The setter that stands over a locked prototype: never on it or on a primitive; a property is set where the receiver has it, and else made.
-    ("make plain; make repair; make plain; 7:1 Call #7:0 4; 7:1 Call 5 4; 7:1 Call #7:2 4; 7:2 GetOwnProperty 'x; 7:1 Call #7:2 8; 7:2 GetOwnProperty 'x", 'cannot set cannot set undefined 4 undefined 8'),
-    ("make plain; make repair; make plain; make plain; 7:2 PreventExtensions; 7:1 Call #7:2 4; 7:3 DefineOwnProperty 'x V0; 7:1 Call #7:3 4", 'true cannot define true cannot set'),
-    # Objects of the common part don't change; one of another party is asked where it is a prototype, and decides nothing here.
-    ("c0 Get 'x 5; c0 Set 'x 2 #c0; c0 DefineOwnProperty 'x V0; c0 Delete 'x; c0 PreventExtensions; c0 IsExtensible; c0 SetPrototypeOf null; c0 SetPrototypeOf c1; c0 OwnPropertyKeys", 'undefined false false true true false true false'),
-    ("c0 GetPrototypeOf; c0 GetOwnProperty 'x; c0 HasProperty 'x; c0 Call 4 8; c0 Construct c0 8", 'null none false not a function not a constructor'),
+    ("make home; make repair; make plain; 7:1 Call #7:0 4; 7:1 Call 5 4; 7:1 Call #7:2 4; 7:2 GetOwnProperty 'name; 7:1 Call #7:2 8; 7:2 GetOwnProperty 'name", 'cannot set cannot set undefined 4 undefined 8'),
+    ("make home; make repair; make plain; make plain; 7:2 PreventExtensions; 7:1 Call #7:2 4; 7:3 DefineOwnProperty 'name V0; 7:1 Call #7:3 4", 'true cannot define true cannot set'),
+    # An object of another party is asked where it is a prototype.
     ("make plain; 7:0 SetPrototypeOf 9:4; 7:0 Get 'x 5; 7:0 Set 'x 2 #7:0; 7:0 HasProperty 'x", 'true 9:4 Get 5 9:4 Set 7:0 9:4 HasProperty'),
-    ("make plain; 7:1 IsExtensible; 9:4 IsExtensible; c222 IsExtensible; 7:0 Turn", 'not an object not an object not an object wrong kind'),
     # Arrays, ArraySetLength and [[DefineOwnProperty]]: elements go from the highest down, until one stays; an element at or past the length raises it.
     ("make array; 7:0 DefineOwnProperty '0 V7; 7:0 DefineOwnProperty '1 V7; 7:0 DefineOwnProperty '2 V6; 7:0 DefineOwnProperty '3 V7; 7:0 DefineOwnProperty '4 V7; 7:0 Set 'length 1 #7:0; 7:0 Get 'length 5; 7:0 OwnPropertyKeys", "true true true true true false 3 0 1 2 'length"),
     ("make array; 7:0 DefineOwnProperty '4294967294 V7; 7:0 Get 'length 5; 7:0 DefineOwnProperty '7 V7; 7:0 DefineOwnProperty '3000000000 V7; 7:0 Set 'length 0 #7:0; 7:0 OwnPropertyKeys; 7:0 Get 'length 5", "true 4294967295 true true true 'length 0"),
     # A length that is not writable stays, and no element comes at or past it.
     ("make array; 7:0 DefineOwnProperty 'length V0; 7:0 DefineOwnProperty '0 V7; 7:0 DefineOwnProperty '1 V7; 7:0 Set 'length 1 #7:0; 7:0 DefineOwnProperty 'length V0; 7:0 DefineOwnProperty 'length V4; 7:0 OwnPropertyKeys", "true true false false true false 0 'length"),
-    # A number that is no length; another value is made a number, null to 0.
-    ("make array; 7:0 Set 'length -1 #7:0; 7:0 Set 'length 4294967296 #7:0; 7:0 Set 'length 4294967295 #7:0; 7:0 Get 'length 5; 7:0 Set 'length 'x #7:0; 7:0 Set 'length null #7:0; 7:0 Get 'length 5", 'invalid length invalid length true 4294967295 number true 0'),
+    # A number that is no length; another value is made a number, a text of digits to theirs and null to 0.
+    ("make array; 7:0 Set 'length -1 #7:0; 7:0 Set 'length 4294967296 #7:0; 7:0 Set 'length 4294967295 #7:0; 7:0 Get 'length 5; 7:0 Set 'length '7 #7:0; 7:0 Get 'length 5; 7:0 Set 'length null #7:0; 7:0 Get 'length 5", 'invalid length invalid length true 4294967295 true 7 true 0'),
     # Elements go before the length stops being writable.
     ("make array; 7:0 DefineOwnProperty '0 V6; 7:0 DefineOwnProperty '1 V7; 7:0 DefineOwnProperty '2 V7; 7:0 DefineOwnProperty 'length V0; 7:0 GetOwnProperty '1; 7:0 DefineOwnProperty '1 V7; 7:0 Get 'length 5", 'true true true true none false 1'),
     # An array that is not extensible, and what may not become of its length.
@@ -465,68 +467,89 @@ DECISIONS = [
     ("make array; make plain; 7:1 SetPrototypeOf 7:0; 7:1 Set 'length 4 #7:1; 7:0 Get 'length 5; 7:1 Get 'length 5; 7:0 DefineOwnProperty 'x V7; 7:0 DefineOwnProperty '0 e3; 7:0 Get 'length 5", 'true true 0 4 true true 1'),
 ]
 
-# Every method at every kind of object: of each kind whether its prototype may be set, its first key, and what comes of Call and Construct. The object is 7:2; 7:0 is a closure with the property `g`, and the target, global or prototype of the kinds that have one.
+# What only the crate shows: objects of the bare common part don't change, what is no object is refused, and so is what no object is asked.
+DECISION_CALLS = [
+    ("c0 Get 'x 5; c0 Set 'x 2 #c0; c0 DefineOwnProperty 'x V0; c0 Delete 'x; c0 PreventExtensions; c0 IsExtensible; c0 SetPrototypeOf null; c0 SetPrototypeOf c1; c0 OwnPropertyKeys", 'undefined false false true true false true false'),
+    ("c0 GetPrototypeOf; c0 GetOwnProperty 'x; c0 HasProperty 'x; c0 Call 4 8; c0 Construct c0 8", 'null none false not a function not a constructor'),
+    ("make plain; 7:1 IsExtensible; 9:4 IsExtensible; c222 IsExtensible; 7:0 Turn", 'not an object not an object not an object wrong kind'),
+]
+
+# Every method at every kind of object: of each kind its prototype before and what comes of setting that, its first key, and what comes of Call and Construct. The object is 7:2; 7:0 is a closure with the property `g`, and the target, global or prototype of the kinds that have one.
 METHODS = "make closure; 7:0 DefineOwnProperty 'g V7; make plain; make %s; 7:2 GetPrototypeOf; 7:2 SetPrototypeOf 7:1; 7:2 GetPrototypeOf; 7:2 DefineOwnProperty 'x V7; 7:2 GetOwnProperty 'x; 7:2 HasProperty 'x; 7:2 Set 'x 2 #7:2; 7:2 Get 'x 5; 7:2 OwnPropertyKeys; 7:2 Delete 'x; 7:2 GetOwnProperty 'x; 7:2 IsExtensible; 7:2 PreventExtensions; 7:2 IsExtensible; 7:2 DefineOwnProperty 'x V7; 7:2 Call 4 8; 7:2 Construct 7:2 8"
+IS_SET, IS_FIXED = 'null true 7:1', 'Object.prototype false Object.prototype'
 NO_FUNCTION, NO_CONSTRUCTOR = 'not a function', 'not a constructor'
 METHODS_AT = [
-    ('plain', True, '', NO_FUNCTION, NO_CONSTRUCTOR),
-    ('array', True, " 'length", NO_FUNCTION, NO_CONSTRUCTOR),
-    ('global', False, '', NO_FUNCTION, NO_CONSTRUCTOR),
-    ('closure', True, '', 'run 3 4 8', 'run 3 undefined 8'),
-    ('arrow', True, '', 'run 3 4 8', NO_CONSTRUCTOR),
-    ('bound', True, '', 'run 3 5 6 8', 'run 3 undefined 6 8'),
+    ('plain', IS_SET, '', NO_FUNCTION, NO_CONSTRUCTOR),
+    ('array', IS_SET, " 'length", NO_FUNCTION, NO_CONSTRUCTOR),
+    # Of the global the names are left out that it begins with.
+    ('global', IS_FIXED, '', NO_FUNCTION, NO_CONSTRUCTOR),
+    # A constructor keeps its property `prototype`.
+    ('closure', IS_SET, " 'prototype", 'run 4 8', 'run new 8'),
+    ('method', IS_SET, '', 'run 4 8', NO_CONSTRUCTOR),
+    ('bound', IS_SET, '', 'run 5 6 8', 'run new 6 8'),
+]
+# Functions of the machine that no program can change.
+METHODS_AT_HELD = [
     # The machine itself runs a `require`.
-    ('require', True, '', NO_FUNCTION, NO_CONSTRUCTOR),
+    ('require', IS_SET, '', NO_FUNCTION, NO_CONSTRUCTOR),
     # A live accessor gets or sets the property `g` of 7:0, which is 1, or the member `m` of that: a number has no such property, and none can be set on it.
-    ('getter', True, '', '1', NO_CONSTRUCTOR),
-    ('setter', True, '', 'undefined', NO_CONSTRUCTOR),
-    ('member_getter', True, '', 'undefined', NO_CONSTRUCTOR),
-    ('member_setter', True, '', 'cannot set', NO_CONSTRUCTOR),
+    ('getter', IS_SET, '', '1', NO_CONSTRUCTOR),
+    ('setter', IS_SET, '', 'undefined', NO_CONSTRUCTOR),
+    ('member_getter', IS_SET, '', 'undefined', NO_CONSTRUCTOR),
+    ('member_setter', IS_SET, '', 'cannot set', NO_CONSTRUCTOR),
     # A repair getter gives its value, 9; a repair setter sets nothing on a primitive.
-    ('repair_getter', True, '', '9', NO_CONSTRUCTOR),
-    ('repair', True, '', 'cannot set', NO_CONSTRUCTOR),
+    ('repair_getter', IS_SET, '', '9', NO_CONSTRUCTOR),
+    ('repair', IS_SET, '', 'cannot set', NO_CONSTRUCTOR),
 ]
 
 
-def decision_cases():
-    """What objects decide."""
-    for steps, answers in DECISIONS:
+def decisions_of(steps_of, kinds):
+    """What objects decide, and then every method at each of these kinds."""
+    for steps, answers in steps_of:
         yield 'decide ' + steps, answers
-    for kind, is_set, key, called, constructed in METHODS_AT:
-        after = 'true 7:1' if is_set else 'false null'
-        yield 'decide ' + METHODS % kind, "true null %s true 1 true true 2%s 'x true none true true false false %s %s" % (after, key, called, constructed)
+    for kind, protos, key, called, constructed in kinds:
+        yield 'decide ' + METHODS % kind, "true %s true 1 true true 2%s 'x true none true true false false %s %s" % (protos, key, called, constructed)
 
 
-def cases():
-    """Each line of the input, with what has to come of it."""
-    yield from text_cases()
+def cases_of_crate():
+    """Each line that only the crate shows, with what has to come of it."""
+    yield from text_calls()
     yield from name_cases()
     yield from rows_of('values', KINDS, is_kept)
     yield from rows_of('keys', NAMES, lambda there, given: there == given)
     yield from copy_cases()
     yield from store_cases()
-    yield from decision_cases()
+    yield from decisions_of(DECISION_CALLS, METHODS_AT_HELD)
+
+
+def cases_of_example():
+    """Each line that a program shows, with what has to come of it."""
+    yield from text_cases()
+    # All fields of a property make it.
+    for cell in PRESENT:
+        yield 'fields ' + cell, cell + ' true'
+    yield from decisions_of(DECISIONS, METHODS_AT)
     for cell, extensible in ROWS:
         yield from definition_lines(cell, extensible)
 
 
 def files():
-    """The name and the text of each file."""
-    all_ = list(cases())
-    yield 'stdin', ''.join(case + '\n' for case, _ in all_)
-    yield 'stdout', ''.join('%s =%s\n' % (case, ' ' + answer if answer else '') for case, answer in all_)
+    """The path and the text of each file."""
+    for cases, given, printed in (cases_of_crate(), f'{CRATE}/stdin', f'{CRATE}/stdout'), (cases_of_example(), f'{EXAMPLE}/input.txt', f'{EXAMPLE}/expected.txt'):
+        lines = list(cases)
+        yield given, ''.join(case + '\n' for case, _ in lines)
+        yield printed, ''.join('%s =%s\n' % (case, ' ' + answer if answer else '') for case, answer in lines)
 
 
 def main():
     if sys.argv[1:] not in ([], ['--check']):
         sys.exit(__doc__)
-    for name, text in files():
-        path = os.path.join(CRATE, name)
+    for path, text in files():
         if not sys.argv[1:]:
-            with open(path, 'w') as file:
+            with open(path, 'w', encoding='utf-8') as file:
                 file.write(text)
         else:
-            with open(path) as file:
+            with open(path, encoding='utf-8') as file:
                 if file.read() != text:
                     sys.exit('%s differs' % path)
 

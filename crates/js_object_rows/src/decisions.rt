@@ -1,17 +1,15 @@
-// What objects decide: asks are followed until they are answered, or go to another party.
+// What objects decide: asks are followed until they are answered.
 
 use crate::fault::Fault;
 use crate::kinds::make;
 use crate::methods::ask_of;
-use crate::outcomes::{push_ask, push_fault, push_reply, push_run};
-use crate::shown::push_word;
+use crate::outcomes::{push_fault, push_reply};
 use crate::words::{reference_of, two_of};
-use crate::world::{PARTY, World};
+use crate::world::World;
 use js_desc::ask::Ask;
 use js_desc::decision::Decision;
 use js_desc::reply::Reply;
 use js_exotic::next::Next;
-use js_text::value::Value;
 use lava_base::ids::Ref;
 use std::alloc::Global;
 
@@ -60,15 +58,8 @@ fn go_on(out: &mut String, world: &mut World, decision: Decision<Next>) -> Resul
     match decision {
         Decision::Done(reply) => answered(out, world, reply),
         Decision::Fault(text) => push_fault(out, &text),
-        Decision::Ask { target, ask, next } => asked(out, world, target, &ask, next),
-        Decision::Number { value, next } => numbered(out, world, &value, next),
-        Decision::Run {
-            body,
-            this,
-            args,
-            ..
-        } => push_run(out, body, &this, &args),
-        Decision::End(_) => Err(Fault::Line),
+        Decision::Ask { target, ask, next } => asked(world, target, &ask, next),
+        Decision::Number { .. } | Decision::Run { .. } | Decision::End(_) => Err(Fault::Line),
     }
 }
 
@@ -81,42 +72,10 @@ fn answered(out: &mut String, world: &mut World, reply: Reply) -> Result<(), Fau
 }
 
 /// Asks an object, for which a decision waits.
-fn asked(
-    out: &mut String,
-    world: &mut World,
-    target: Option<Ref>,
-    ask: &Ask,
-    next: Next,
-) -> Result<(), Fault> {
+fn asked(world: &mut World, target: Option<Ref>, ask: &Ask, next: Next) -> Result<(), Fault> {
     world.wait(next)?;
     match target {
         None => Err(Fault::Line),
-        Some(target) => ask_near(out, world, target, ask),
-    }
-}
-
-/// Asks an object of party 7 or of the common part, or appends the ask.
-fn ask_near(out: &mut String, world: &mut World, target: Ref, ask: &Ask) -> Result<(), Fault> {
-    if is_near(target) {
-        world.ask(target, ask)
-    } else {
-        push_ask(out, target, ask)
-    }
-}
-
-/// Whether an object is of party 7 or of the common part.
-fn is_near(target: Ref) -> bool {
-    match target {
-        Ref::Common(_) => true,
-        Ref::Own { party, .. } => party.0 == PARTY.0,
-    }
-}
-
-/// Hands on the number of null, which is 0, to the decision that waits for it; of any other value appends that a number is wanted.
-fn numbered(out: &mut String, world: &mut World, value: &Value, next: Next) -> Result<(), Fault> {
-    world.wait(next)?;
-    match value {
-        Value::Null => answered(out, world, Reply::Value(Value::Int(0))),
-        _ => push_word(out, "number"),
+        Some(target) => world.ask(target, ask),
     }
 }

@@ -5,18 +5,16 @@ use crate::stores::FUNCTION;
 use crate::words::key_of;
 use crate::world::PARTY;
 use js_desc::decision::BodyId;
-use js_desc::descriptor::{Change, Descriptor};
 use js_store::flat::FlatStore;
 use js_store::slot::{Held, Live, Slot};
 use js_store::store::{PLAIN_MARKS, Store};
-use js_text::length::length_key;
 use js_text::value::Value;
 use lava_base::ids::{ObjId, Ref};
 use lava_base::list::List;
 use lava_base::marks::{Class, Marks};
 use std::alloc::Global;
 
-/// The party's first object: the target of a bound function, the global of a live accessor, and the prototype of a repair setter.
+/// The party's first object: the global of a live accessor, and the prototype of a repair setter.
 const FIRST: Ref = Ref::Own {
     party: PARTY,
     id: ObjId(0),
@@ -24,11 +22,7 @@ const FIRST: Ref = Ref::Own {
 
 /// Makes an object of a kind, without a prototype.
 pub fn make(alloc: Global, store: &mut FlatStore, kind: &str) -> Result<(), Fault> {
-    if kind == "array" {
-        make_array(alloc, store)
-    } else {
-        make_with(store, marks_of(kind), slot_of(alloc, kind)?)
-    }
+    make_with(store, marks_of(kind), slot_of(alloc, kind)?)
 }
 
 /// Makes an object with a slot.
@@ -37,40 +31,11 @@ fn make_with(store: &mut FlatStore, marks: Marks, slot: Slot) -> Result<(), Faul
     Ok(())
 }
 
-/// Makes an empty array.
-fn make_array(alloc: Global, store: &mut FlatStore) -> Result<(), Fault> {
-    let id = store.make(None, unlike_functions(Class::Array), Slot::Plain)?;
-    let key = length_key(alloc)?;
-    store.apply(id, key, Change::Write(empty_length()))?;
-    Ok(())
-}
-
-/// The property `length` of an empty array.
-fn empty_length() -> Descriptor {
-    Descriptor::Data {
-        value: Value::Int(0),
-        writable: true,
-        enumerable: false,
-        configurable: false,
-    }
-}
-
-/// Marks of an object of a class that is not callable.
-fn unlike_functions(class: Class) -> Marks {
-    Marks {
-        class,
-        callable: false,
-        constructor: false,
-    }
-}
-
-/// The marks of a kind. Closures and bound functions alone are constructors.
+/// The marks of a kind. Closures alone are constructors.
 fn marks_of(kind: &str) -> Marks {
     match kind {
         "plain" => PLAIN_MARKS,
-        "global" => unlike_functions(Class::Global),
-        "proxy" => unlike_functions(Class::Proxy),
-        "closure" | "bound" => FUNCTION,
+        "closure" => FUNCTION,
         _ => Marks {
             class: Class::Function,
             callable: true,
@@ -82,10 +47,8 @@ fn marks_of(kind: &str) -> Marks {
 /// What an object of a kind keeps.
 fn slot_of(alloc: Global, kind: &str) -> Result<Slot, Fault> {
     match kind {
-        "plain" | "global" => Ok(Slot::Plain),
-        "proxy" => Ok(Slot::Proxy(None)),
-        "closure" | "arrow" => Ok(closure()),
-        "bound" => bound(alloc),
+        "plain" => Ok(Slot::Plain),
+        "closure" => Ok(closure()),
         _ => Ok(Slot::Held(held_of(alloc, kind)?)),
     }
 }
@@ -100,16 +63,6 @@ fn closure() -> Slot {
         home: None,
         lexical: None,
     }
-}
-
-/// A bound function of the first object, with the bound `this` 5 and one bound argument, 6.
-fn bound(alloc: Global) -> Result<Slot, Fault> {
-    let args = one(alloc, Value::Int(6))?;
-    Ok(Slot::Bound {
-        target: FIRST,
-        this: Value::Int(5),
-        args,
-    })
 }
 
 /// A list of one value.

@@ -3,10 +3,8 @@
 #![tactic(auto)]
 
 mod asks;
-mod cells;
 mod commons;
 mod decisions;
-mod definitions;
 mod fault;
 mod foreigners;
 mod kinds;
@@ -49,20 +47,12 @@ fn push_answer(alloc: Global, out: &mut String, kind: &str, rest: &str) -> Resul
     match kind {
         "utf8" => texts::utf8(alloc, out, rest),
         "units" => texts::units(alloc, out, rest),
-        "write" => texts::write(alloc, out, rest),
-        "index" => texts::index(alloc, out, rest),
-        "compare" => texts::compare(alloc, out, rest),
         "find" => texts::find(alloc, out, rest),
-        "slice" => texts::slice(alloc, out, rest),
-        "grow" => texts::grow(alloc, out, rest),
         "native" => names::native(out, rest),
         "common" => names::common(out, rest),
         "path" => names::path(out, rest),
         "values" => sameness::values(alloc, out, rest),
         "keys" => sameness::keys(alloc, out, rest),
-        "data" => definitions::data(out, rest),
-        "accessor" => definitions::accessor(out, rest),
-        "fields" => definitions::fields_again(out, rest),
         "ask" => asks::ask(alloc, out, rest),
         "reply" => asks::reply(alloc, out, rest),
         "cross" => asks::cross(alloc, out, rest),

@@ -1,6 +1,5 @@
 // What objects are asked: one of the thirteen methods, with its items.
 
-use crate::cells::property_there;
 use crate::fault::Fault;
 use crate::kinds::one;
 use crate::words::{key_of, reference_of, two_of, value_of};
@@ -99,12 +98,16 @@ fn ask_at(alloc: Global, name: &str, key: Key, items: &str) -> Result<Ask, Fault
     }
 }
 
-/// A definition with all fields of the property that a cell writes.
-fn define_of(key: Key, cell: &str) -> Result<Ask, Fault> {
-    match property_there(cell) {
-        None => Err(Fault::Line),
-        Some(property) => define_as(key, &property),
-    }
+/// A definition with all fields of a property with the value 1, whose attributes are all true (`V7`) or all false (`V0`).
+fn define_of(key: Key, word: &str) -> Result<Ask, Fault> {
+    let is_free = word == "V7";
+    let property = Descriptor::Data {
+        value: Value::Int(1),
+        writable: is_free,
+        enumerable: is_free,
+        configurable: is_free,
+    };
+    define_as(key, &property)
 }
 
 /// A definition with all fields of a property.
