@@ -32,10 +32,10 @@ fn row(rt: &HostRuntime, line: &str) -> Result<String, Fault> {
 fn row_of(rt: &HostRuntime, kind: Kind, rest: &str) -> Result<String, Fault> {
     let alloc = rt.alloc();
     match kind {
-        Kind::Run => memory::run(alloc, rest),
-        Kind::Trace => memory::trace(alloc, rest),
+        Kind::Run => memory::source(alloc, "run app", rest),
+        Kind::Trace => memory::source(alloc, "trace app", rest),
         Kind::App => memory::app(alloc, rest),
-        Kind::Tree => memory::tree(alloc, rest),
+        Kind::Tree => memory::source(alloc, "tree app/index.js", rest),
         Kind::Words => memory::words(alloc, rest),
         Kind::Missing => memory::missing(alloc),
         Kind::Bytes => memory::bytes(alloc, rest),

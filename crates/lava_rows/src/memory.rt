@@ -27,18 +27,11 @@ const RUN: &str = "run app";
 // The program of the rows that have none of their own.
 const PROGRAM: &[u8] = b"console.log('a'); console.log('b');";
 
-/// `run SOURCE`.
-pub fn run(alloc: Global, source: &str) -> Result<String, Fault> {
+/// `run SOURCE`, `trace SOURCE` and `tree SOURCE`, with the words of each.
+pub fn source(alloc: Global, words: &str, source: &str) -> Result<String, Fault> {
     let source = meant(alloc, source)?;
     let folder = folder_with(alloc, "app/index.js", source.as_bytes())?;
-    call(alloc, "run app", folder, NEVER, NEVER)
-}
-
-/// `trace SOURCE`.
-pub fn trace(alloc: Global, source: &str) -> Result<String, Fault> {
-    let source = meant(alloc, source)?;
-    let folder = folder_with(alloc, "app/index.js", source.as_bytes())?;
-    call(alloc, "trace app", folder, NEVER, NEVER)
+    call(alloc, words, folder, NEVER, NEVER)
 }
 
 /// `app COMMAND FILES`.
@@ -47,13 +40,6 @@ pub fn app(alloc: Global, rest: &str) -> Result<String, Fault> {
     let folder = folder_of(alloc, files)?;
     let words = format!(in alloc; "{command} app")?;
     call(alloc, words.as_str(), folder, NEVER, NEVER)
-}
-
-/// `tree SOURCE`.
-pub fn tree(alloc: Global, source: &str) -> Result<String, Fault> {
-    let source = meant(alloc, source)?;
-    let folder = folder_with(alloc, "app/index.js", source.as_bytes())?;
-    call(alloc, "tree app/index.js", folder, NEVER, NEVER)
 }
 
 /// `words WORDS`.
