@@ -20,6 +20,7 @@ MERGES = {
         ("lava_connected", "connected", {}, {}),
     ],
     "js_program_laws": [("js_lower_laws", {"laws": "lower_laws"}, {}, {"Bindings": "Lowered_bindings", "Blocks": "Lowered_blocks", "Forms": "Lowered_forms"})],
+    "js_expr": [("js_cover", {"laws": "cover_laws", "refined": "refined", "targets": "targets"}, {}, {})],
     "lava_start": [("js_world_end", "world_end", {}, {})],
 }
 
@@ -84,13 +85,14 @@ def merge(top, target, source, root, specs, proofs):
 
     def path(it):
         part, name = it[1], it[2]
-        if part == "specs" and name == "declared":
-            sys.exit(f"{source} declares what a definition cites: give its path by hand")
         if part == "proofs" and name in modules:
             name = modules[name]
         elif part == "proofs" and name in functions:
             name = f"{root}.{name}"
         return f"Rattle.{target}.{part}.{new_name[part].get(name, name)}"
+
+    def made(it):
+        return f"Rattle.{target}.specs.{it[1]}.{modules.get(it[2], it[2]) if modules else f'{root}.{it[2]}'}"
 
     for at, folders, names in os.walk(f"{top}/crates"):
         folders[:] = sorted(it for it in folders if it not in ("out", "data"))
@@ -99,7 +101,8 @@ def merge(top, target, source, root, specs, proofs):
             if not name.endswith((".rt", ".antt")):
                 continue
             text = read(f"{at}/{name}")
-            new = re.sub(rf"Rattle\.{source}\.(specs|proofs)\.(\w+)", path, text)
+            new = re.sub(rf"Rattle\.{source}\.specs\.(declared|contracts)\.(\w+)", made, text)
+            new = re.sub(rf"Rattle\.{source}\.(specs|proofs)\.(\w+)", path, new)
             if name.endswith(".rt"):
                 head = "crate" if within else target
                 if modules:
